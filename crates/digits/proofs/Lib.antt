@@ -1,0 +1,4 @@
+pub mod Reading
+pub mod Writing
+pub mod Laws
+pub mod Forms

@@ -1,0 +1,62 @@
+-- Runs of stores, and a number stored from its last digit. Assumes nothing.
+use Prim.Native.Nat.{ℕ, zero, suc, _+_, _-_, _*_, _/_, _%_, _≤_, _<_}
+use mathlib.Core.List.{List, [], _∷_, _++_}
+use mathlib.Core.Path.{_≡_, refl, sym, ap, _∙_}
+use native.Mathlib.Omega.{arith}
+use native.Mathlib.Nat.{add-zero, add-suc, suc-add}
+use native.Mathlib.Numerals.{add-one, sub-one}
+use lib.ListN.{length, set, length-append}
+use lib.Seq.{sets, set-comm}
+use Rattle.digits.specs.Digits.{digits, numberText, isWidth}
+use Rattle.digits.proofs.Reading.{inside, under, over}
+
+pub length-digits : (w n : ℕ) → length (digits w n) ≡ w
+unfolding digits
+length-digits zero n = refl
+length-digits (suc w) n = length-append (digits w (n / 10)) _ ∙ rw (length-digits w (n / 10)) (add-one w)
+
+-- two runs, one after the other, are one
+pub sets-append : (l : List ℕ) (i : ℕ) (xs ys : List ℕ) → sets l i (xs ++ ys) ≡ sets (sets l i xs) (i + length xs) ys
+sets-append l i [] ys = rw (add-zero i)
+sets-append l i (a ∷ xs) ys = sets-append (set l i a) (suc i) xs ys ∙ rw (add-suc i (length xs), suc-add i (length xs))
+
+-- a store past a run may come first
+set-sets : (l : List ℕ) (i : ℕ) (vs : List ℕ) (j d : ℕ) → i + length vs ≤ j → sets (set l j d) i vs ≡ set (sets l i vs) j d
+set-sets l i [] j d h = refl
+set-sets l i (a ∷ vs) j d h =
+    ap (λ (k : List ℕ). sets k (suc i) vs) (set-comm l j i d a (omega (arith, add-suc i (length vs))))
+    ∙ set-sets (set l i a) (suc i) vs j d (omega (arith, add-suc i (length vs), suc-add i (length vs)))
+
+-- the digits of n stored from the last to the first, as the loop does it
+unfoldable pub putFrom : List ℕ → ℕ → ℕ → ℕ → List ℕ
+putFrom l at zero n = l
+putFrom l at (suc w) n = putFrom (set l (at + w) (48 + n % 10)) at w (n / 10)
+
+putFrom-sets : (l : List ℕ) (at w n : ℕ) → putFrom l at w n ≡ sets l at (digits w n)
+unfolding putFrom digits
+putFrom-sets l at zero n = refl
+putFrom-sets l at (suc w) n =
+    putFrom-sets (set l (at + w) (48 + n % 10)) at w (n / 10)
+    ∙ set-sets l at (digits w (n / 10)) (at + w) (48 + n % 10) (omega (arith, length-digits w (n / 10)))
+    ∙ sym (sets-append l at (digits w (n / 10)) ((48 + n % 10) ∷ []) ∙ rw (length-digits w (n / 10)))
+
+pub put-step : (l k : List ℕ) (at w n : ℕ) → 0 < w → k ≡ set l (at + (w - 1)) (48 + n % 10) → putFrom l at w n ≡ putFrom k at (w - 1) (n / 10)
+unfolding putFrom
+put-step l k at zero n h e = absurd (omega arith)
+put-step l k at (suc w) n h e = rw (e, sub-one (suc w))
+
+pub put-done : (l : List ℕ) (at w n : ℕ) → w ≤ 0 → putFrom l at w n ≡ l
+unfolding putFrom
+put-done l at zero n h = refl
+put-done l at (suc w) n h = absurd (omega arith)
+
+-- ---- widths
+
+pub some-text : (l : List ℕ) (at w n : ℕ) → 1 ≤ w → w ≤ 10 → putFrom l at w n ≡ sets l at (numberText w n)
+some-text l at w n h k = rw (inside 1 10 w h k) (putFrom-sets l at w n)
+
+pub none-text : (l : List ℕ) (at w n : ℕ) → w < 1 → l ≡ sets l at (numberText w n)
+none-text l at w n h = rw (under 1 10 w h)
+
+pub over-text : (l : List ℕ) (at w n : ℕ) → 10 < w → l ≡ sets l at (numberText w n)
+over-text l at w n h = rw (over 1 10 w h)

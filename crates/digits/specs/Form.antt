@@ -1,0 +1,28 @@
+-- What a form is: how the value of a field stands in a frame.
+use Prim.Native.Nat.{ℕ, _+_, _≤_}
+use mathlib.Core.List.{List, [], _∷_, _++_}
+use mathlib.Core.Path.{_≡_}
+use lib.ListN.{length, getD, take, drop}
+use Rattle.digits.specs.declared.Number.{Number}
+use Rattle.digits.specs.declared.Number.the-variants.{Is}
+use Rattle.digits.specs.Digits.{digits, numberAt}
+
+-- so many bytes, the value that stands at a place, and a value's bytes
+pub record Form : Type 0 where
+  pub width : ℕ
+  pub got : List ℕ → ℕ → Number
+  pub put : ℕ → List ℕ
+
+-- one byte, as it is
+abbrev pub byte : Form
+byte = record { width = 1; got = λ s p. Is (getD s p 0); put = λ v. v ∷ [] }
+
+-- w digits
+abbrev pub number : ℕ → Form
+number w = record { width = w; got = λ s p. numberAt s p w; put = λ v. digits w v }
+
+-- what is asked of every form: a value takes the form's width, what is read goes by the form's own bytes alone, and a value that was read is written as the bytes that were there
+pub record Lawful (k : Form) : Type 0 where
+  pub long : (v : ℕ) → length (k .put v) ≡ k .width
+  pub local : (pre t post : List ℕ) → length t ≡ k .width → k .got (pre ++ t ++ post) (length pre) ≡ k .got t 0
+  pub again : (s : List ℕ) (p v : ℕ) → p + k .width ≤ length s → k .got s p ≡ Is v → take (k .width) (drop p s) ≡ k .put v

@@ -1,0 +1,97 @@
+// Bytes and numbers at places of lent memory, read and written. Every function takes any slice, any place and any width.
+ghost use mathlib.Core.Path.{_≡_};
+ghost use Prim.Native.Nat.{_+_};
+ghost use lib.ListN.{getD, set};
+ghost use lib.Seq.{sets};
+ghost use Rattle.digits.specs.Digits.{numberAt, numberText};
+
+// What stands where a number is looked for.
+pub enum Number {
+    Is(u64),
+    Wrong,
+}
+
+// The byte at a place; past the end 0.
+pub fn byte_at(s: &[u8], at: usize) -> u8
+    ensures { λ r. ⌜ r ≡ getD (now (s .entry)) at 0 ⌝ }
+{
+    if at < s.len() { s[at] } else { 0 }
+}
+
+// The number of `width` digits at a place; Wrong where they are not all digits, not all there, or the width is not 1 to 10.
+pub fn number_at(s: &[u8], at: usize, width: usize) -> Number
+    ensures { λ r. ⌜ r ≡ numberAt (now (s .entry)) at width ⌝ }
+{
+    if width < 1 {
+        return Number::Wrong;
+    }
+    if 10 < width {
+        return Number::Wrong;
+    }
+    let mut v: u64 = 0;
+    let mut p = at;
+    let mut left = width;
+    while 0 < left {
+        if s.len() <= p {
+            return Number::Wrong;
+        }
+        let b = wide(s[p]);
+        if b < 48 {
+            return Number::Wrong;
+        }
+        if 57 < b {
+            return Number::Wrong;
+        }
+        v = v * 10 + (b - 48);
+        p += 1;
+        left -= 1;
+    }
+    Number::Is(v)
+}
+
+fn wide(b: u8) -> u64
+    ensures { λ r. ⌜ r ≡ b ⌝ }
+{
+    b as u64
+}
+
+// Stores a byte at a place; past the end nothing.
+pub fn put_byte(out: &mut [u8], at: usize, b: u8)
+    ensures { λ _. ⌜ now (out .exit) ≡ set (now (out .entry)) at b ⌝ }
+{
+    if at < out.len() {
+        out[at] = b;
+    }
+}
+
+// Stores the last `width` digits of n from a place on; past the end nothing, and nothing at all where the width is not 1 to 10.
+pub fn put_number(out: &mut [u8], at: usize, width: usize, n: u64)
+    ensures { λ _. ⌜ now (out .exit) ≡ sets (now (out .entry)) at (numberText width n) ⌝ }
+{
+    if width < 1 {
+        return;
+    }
+    if 10 < width {
+        return;
+    }
+    let mut m = n;
+    let mut left = width;
+    while 0 < left {
+        left -= 1;
+        put_past(out, at, left, (48 + m % 10) as u8);
+        m = m / 10;
+    }
+}
+
+// Stores a byte k past a place, which may lie past every index.
+fn put_past(out: &mut [u8], at: usize, k: usize, b: u8)
+    ensures { λ _. ⌜ now (out .exit) ≡ set (now (out .entry)) (at + k) b ⌝ }
+{
+    if out.len() <= at {
+        return;
+    }
+    if k < out.len() - at {
+        let i = at + k;
+        out[i] = b;
+    }
+}
