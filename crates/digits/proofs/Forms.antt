@@ -9,7 +9,7 @@ use lib.Seq.{getD-at, getD-append-add, drop-cons}
 use Rattle.digits.specs.declared.Number.{Number}
 use Rattle.digits.specs.declared.Number.the-variants.{Is, Wrong}
 use Rattle.digits.specs.Digits.{digits, numberFrom, numberAt}
-use Rattle.digits.specs.Form.{Form, Lawful, byte, number}
+use Rattle.digits.specs.Form.{Form, Lawful, byte, number, named, renamed}
 use Rattle.digits.proofs.Reading.{some-width}
 use Rattle.digits.proofs.Writing.{length-digits}
 use Rattle.digits.proofs.Laws.{written-is-read, read-was-written}
@@ -46,3 +46,16 @@ number-lawful w h k = record {
 -- a number of no more than w digits comes back
 pub number-back : (w v : ℕ) → 1 ≤ w → w ≤ 10 → v < 10 ^ w → numberAt (digits w v) 0 w ≡ Is v
 number-back w v h k f = ap (λ (s : List ℕ). numberAt s 0 w) (sym (append-nil (digits w v))) ∙ written-is-read w v [] [] h k f
+
+-- a form under other names is lawful where a name leads back to the value that has it
+module _ (k : Form) (other : ℕ → Number) (own : ℕ → ℕ) (back : (n v : ℕ) → other n ≡ Is v → own v ≡ n) where
+  renamed-again : (w : List ℕ) (x : Number) (v : ℕ) → ((n : ℕ) → x ≡ Is n → w ≡ k .put n) → named other x ≡ Is v → w ≡ k .put (own v)
+  renamed-again w (Is n) v f e = f n refl ∙ ap (k .put) (sym (back n v e))
+  renamed-again w Wrong v f e = absurd (let z : _≡_ {A = ℕ} 0 1 = cc in omega arith)
+
+  pub renamed-lawful : Lawful k → Lawful (renamed k other own)
+  renamed-lawful l = record {
+    long = λ v. l .long (own v);
+    local = λ pre t post h. ap (named other) (l .local pre t post h);
+    again = λ s p v h e. renamed-again (take (k .width) (drop p s)) (k .got s p) v (λ n q. l .again s p n h q) e
+  }

@@ -2,3 +2,4 @@ pub mod Reading
 pub mod Writing
 pub mod Laws
 pub mod Forms
+pub mod Lists

@@ -4,7 +4,7 @@ use mathlib.Core.List.{List, [], _∷_, _++_}
 use mathlib.Core.Path.{_≡_}
 use lib.ListN.{length, getD, take, drop}
 use Rattle.digits.specs.declared.Number.{Number}
-use Rattle.digits.specs.declared.Number.the-variants.{Is}
+use Rattle.digits.specs.declared.Number.the-variants.{Is, Wrong}
 use Rattle.digits.specs.Digits.{digits, numberAt}
 
 -- so many bytes, the value that stands at a place, and a value's bytes
@@ -20,6 +20,15 @@ byte = record { width = 1; got = λ s p. Is (getD s p 0); put = λ v. v ∷ [] }
 -- w digits
 abbrev pub number : ℕ → Form
 number w = record { width = w; got = λ s p. numberAt s p w; put = λ v. digits w v }
+
+-- a value's other name, where it has one
+abbrev pub named : (ℕ → Number) → Number → Number
+named other (Is v) = other v
+named other Wrong = Wrong
+
+-- a form whose values are another's, each under another name: `other` gives the name, `own` the value that has it
+abbrev pub renamed : Form → (ℕ → Number) → (ℕ → ℕ) → Form
+renamed k other own = record { width = k .width; got = λ s p. named other (k .got s p); put = λ v. k .put (own v) }
 
 -- what is asked of every form: a value takes the form's width, what is read goes by the form's own bytes alone, and a value that was read is written as the bytes that were there
 pub record Lawful (k : Form) : Type 0 where

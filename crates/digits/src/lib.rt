@@ -4,6 +4,7 @@ ghost use Prim.Native.Nat.{_+_};
 ghost use lib.ListN.{getD, set};
 ghost use lib.Seq.{sets};
 ghost use Rattle.digits.specs.Digits.{numberAt, numberText};
+ghost use Rattle.digits.specs.Text.{oneOf};
 
 // What stands where a number is looked for.
 pub enum Number {
@@ -53,6 +54,20 @@ fn wide(b: u8) -> u64
     ensures { λ r. ⌜ r ≡ b ⌝ }
 {
     b as u64
+}
+
+// Whether a byte is one of a list's.
+pub fn one_of(list: &[u8], b: u8) -> bool
+    ensures { λ r. ⌜ r ≡ oneOf (now (list .entry)) b ⌝ }
+{
+    let mut i = 0;
+    while i < list.len() {
+        if b == list[i] {
+            return true;
+        }
+        i += 1;
+    }
+    false
 }
 
 // Stores a byte at a place; past the end nothing.

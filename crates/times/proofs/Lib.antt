@@ -1,0 +1,6 @@
+pub mod ClockLaws
+pub mod DayLaws
+pub mod SignedLaws
+pub mod NetLaws
+pub mod RunningLaws
+pub mod Unique

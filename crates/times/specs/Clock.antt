@@ -1,0 +1,43 @@
+-- A time of day, HHMMSSdddd, in ticks of a ten-thousandth of a second.
+use Prim.Native.Nat.{ℕ, _+_, _*_, _/_, _%_}
+use mathlib.Core.Bool.{Bool, cond, _&&_}
+use lib.Dec.{leb}
+use Rattle.digits.specs.declared.Number.{Number}
+use Rattle.digits.specs.declared.Number.the-variants.{Is, Wrong}
+use Rattle.digits.specs.Form.{Form, number, renamed}
+
+-- the ticks of a day
+abbrev pub aDay : ℕ
+aDay = 864000000
+
+-- the last tick of a day, 235959.9999
+abbrev pub lastTick : ℕ
+lastTick = 863999999
+
+-- the parts of a number whose ten digits are HHMMSSdddd; dddd is 0000 to 9999 in each
+abbrev pub hours : ℕ → ℕ
+hours n = n / 100000000
+
+abbrev pub minutes : ℕ → ℕ
+minutes n = n / 1000000 % 100
+
+abbrev pub seconds : ℕ → ℕ
+seconds n = n / 10000 % 100
+
+abbrev pub fraction : ℕ → ℕ
+fraction n = n % 10000
+
+-- hours 00 to 23, minutes and seconds 00 to 59
+unfoldable pub ticksOf : ℕ → Number
+ticksOf n =
+    cond (leb (hours n) 23 && leb (minutes n) 59 && leb (seconds n) 59)
+    (Is (((hours n * 60 + minutes n) * 60 + seconds n) * 10000 + fraction n))
+    Wrong
+
+-- ticks as the number HHMMSSdddd
+unfoldable pub clockNumber : ℕ → ℕ
+clockNumber v = ((v / 36000000 * 100 + v / 600000 % 60) * 100 + v / 10000 % 60) * 10000 + v % 10000
+
+-- ten digits, read and written as ticks
+abbrev pub clock : Form
+clock = renamed (number 10) ticksOf clockNumber

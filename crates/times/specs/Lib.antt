@@ -1,0 +1,4 @@
+pub mod Clock
+pub mod Day
+pub mod Net
+pub mod Running

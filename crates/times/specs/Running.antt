@@ -1,0 +1,29 @@
+-- Running time: Tnow - Tev - Taux in ticks, signed.
+use Prim.Native.Nat.{ℕ, _+_, _*_}
+use mathlib.Core.Bool.{Bool, not, _&&_, _||_}
+use lib.Dec.{eqb, leb}
+use lib.IntN.{ℤ, pos, _-ℤ_}
+use Rattle.digits.specs.Told.{Told, gives, refuses, tried}
+use Rattle.times.specs.declared.running.Running.{Running}
+use Rattle.times.specs.declared.running.Running.the-variants.{Ticks, Time}
+use Rattle.times.specs.declared.running.RunningOf.{RunningOf}
+use Rattle.times.specs.Clock.{aDay, lastTick}
+use Rattle.times.specs.Net.{signed}
+
+-- Tnow and Tev are times of day, and Tev is 0 where the bib is 0; Taux is a sign of 0 or 1, days of one digit and a time of day
+unfoldable pub inRange : RunningOf → Bool
+inRange o =
+    leb (o .tnow) lastTick && leb (o .tev) lastTick && (not (eqb (o .bib) 0) || eqb (o .tev) 0)
+    && leb (o .sign) 1 && leb (o .days) 9 && leb (o .time) lastTick
+
+-- here the minus covers days and time
+abbrev pub taux : RunningOf → ℤ
+taux o = signed (eqb (o .sign) 1) (o .days * aDay + o .time)
+
+-- TIME, number 8, is the only refusal
+unfoldable pub runningTime : RunningOf → Told ℤ
+runningTime o = tried (inRange o) 8 0 (gives ((pos (o .tnow) -ℤ pos (o .tev)) -ℤ taux o))
+
+abbrev pub runningTold : Running → Told ℤ
+runningTold (Ticks v) = gives v
+runningTold Time = refuses 8 0

@@ -1,0 +1,45 @@
+// Days of the years 2000 to 2099.
+ghost use mathlib.Core.Path.{_≡_};
+ghost use Prim.Native.Nat.{_≤_};
+ghost use Rattle.times.specs.Day.{realDay, monthLength, leap};
+
+// The days of each month but February, by the month's number.
+const LENGTHS: [u32; 13] = [0, 31, 0, 31, 30, 31, 30, 31, 31, 30, 31, 30, 31];
+
+// Whether day, month and year name a real day of the years 2000 to 2099.
+pub fn is_day(day: u32, month: u32, year: u32) -> bool
+    ensures { λ r. ⌜ r ≡ realDay day month year ⌝ }
+{
+    if year < 2000 {
+        return false;
+    }
+    if 2099 < year {
+        return false;
+    }
+    if month < 1 {
+        return false;
+    }
+    if 12 < month {
+        return false;
+    }
+    if day < 1 {
+        return false;
+    }
+    day <= month_length(month, year)
+}
+
+fn month_length(month: u32, year: u32) -> u32
+    requires { ⌜ (1 ≤ month) × (month ≤ 12) ⌝ }
+    ensures { λ r. ⌜ r ≡ monthLength month year ⌝ }
+{
+    if month != 2 {
+        return LENGTHS[month as usize];
+    }
+    if is_leap(year) { 29 } else { 28 }
+}
+
+fn is_leap(year: u32) -> bool
+    ensures { λ r. ⌜ r ≡ leap year ⌝ }
+{
+    (year % 4 == 0) & (year % 100 != 0) | (year % 400 == 0)
+}

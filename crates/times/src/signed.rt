@@ -1,0 +1,35 @@
+// The two places where a signed number is made or taken apart; all else is unsigned.
+ghost use mathlib.Core.Path.{_≡_};
+ghost use Prim.Native.Nat.{_<_, _^_};
+ghost use lib.IntN.{subℕ};
+ghost use Rattle.times.specs.Net.{apartOf};
+
+// v is rest, or -1 - rest where it is negative.
+pub struct SignAndRest {
+    pub negative: bool,
+    pub rest: u64,
+}
+
+pub fn apart(v: i64) -> SignAndRest
+    ensures { λ r. ⌜ r ≡ apartOf v ⌝ }
+{
+    if v < 0 {
+        SignAndRest {
+            negative: true,
+            rest: (-1 - v) as u64,
+        }
+    } else {
+        SignAndRest {
+            negative: false,
+            rest: v as u64,
+        }
+    }
+}
+
+// a - b.
+pub fn diff(a: u64, b: u64) -> i64
+    requires { ⌜ (a < 2 ^ 62) × (b < 2 ^ 62) ⌝ }
+    ensures { λ r. ⌜ r ≡ subℕ a b ⌝ }
+{
+    (a as i64) - (b as i64)
+}

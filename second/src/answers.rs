@@ -1,0 +1,362 @@
+//! Reads a file of cases and answers it, case by case.
+
+use crate::digits;
+use crate::refusal::Refusal;
+use crate::request::{self, Request};
+use crate::spelling::{
+    bytes_text, parse_bytes, parse_number, parse_ticks, parse_value, NotACase, MOST_BYTES,
+};
+use crate::times::{self, Net, Running};
+
+/// What every byte of an output holds before a frame is written to it.
+const UNTOUCHED: u8 = 0xee;
+
+/// The answer where something cannot be read.
+const WRONG: &str = "wrong";
+
+/// The answers to a whole file, or a complaint that names the first line that is not a case. In
+/// that case there are no answers at all, so half a file of them is never taken for a whole one.
+pub fn file(input: &[u8]) -> Result<String, String> {
+    let mut text = String::new();
+    for (index, line) in input.split_inclusive(|&code| code == b'\n').enumerate() {
+        let answer = case_of_line(line)
+            .and_then(answer)
+            .map_err(|NotACase(reason)| {
+                let shown = line.strip_suffix(b"\n").unwrap_or(line).escape_ascii();
+                format!("line {} is not a case ({reason}): {shown}", index + 1)
+            })?;
+        for answer_line in answer {
+            text.push_str(&answer_line);
+            text.push('\n');
+        }
+    }
+    Ok(text)
+}
+
+fn case_of_line(line: &[u8]) -> Result<&str, NotACase> {
+    let case = line
+        .strip_suffix(b"\n")
+        .ok_or(NotACase("the line is not ended by LF"))?;
+    std::str::from_utf8(case).map_err(|_| NotACase("the line is not text"))
+}
+
+/// The lines that answer one case.
+fn answer(case: &str) -> Result<Vec<String>, NotACase> {
+    let words: Vec<&str> = case.split(' ').collect();
+    match words.as_slice() {
+        ["number", place, width, text] => number(place, width, text).map(one_line),
+        ["digits", width, value] => digits_text(width, value).map(one_line),
+        ["clock", place, text] => clock(place, text).map(one_line),
+        ["clock-text", ticks] => clock_text(ticks).map(one_line),
+        ["day", day, month, year] => real_day(day, month, year).map(one_line),
+        ["net", minus, days, time] => net(minus, days, time).map(one_line),
+        ["net-parts", value] => net_parts(value).map(one_line),
+        ["running", arguments @ ..] => running(arguments).map(one_line),
+        ["read-request", frame] => read_request(frame).map(one_line),
+        ["write-request", room, record @ ..] => write_request(room, record).map(one_line),
+        ["damage-request", frame] => damage_request(frame),
+        _ => Err(NotACase("no such case with so many arguments")),
+    }
+}
+
+fn one_line(line: String) -> Vec<String> {
+    vec![line]
+}
+
+fn number(place: &str, width: &str, text: &str) -> Result<String, NotACase> {
+    let place = parse_place(place)?;
+    let width = parse_width(width)?;
+    let text = parse_bytes(text)?;
+    Ok(value_or_wrong(digits::read(&text, place, width)))
+}
+
+fn digits_text(width: &str, value: &str) -> Result<String, NotACase> {
+    let digits = value.len();
+    let width = parse_width(width)?;
+    let value = parse_number(value)?;
+    if digits > width {
+        return Err(NotACase("N has more digits than WIDTH"));
+    }
+    Ok(bytes_text(&digits::write(u64::from(value), width)))
+}
+
+fn clock(place: &str, text: &str) -> Result<String, NotACase> {
+    let place = parse_place(place)?;
+    let text = parse_bytes(text)?;
+    Ok(value_or_wrong(times::read_clock(&text, place)))
+}
+
+fn clock_text(ticks: &str) -> Result<String, NotACase> {
+    let text = times::clock_text(parse_ticks(ticks)?);
+    let text = text.ok_or(NotACase("TICKS are 0 to 863999999"))?;
+    Ok(bytes_text(&text))
+}
+
+fn real_day(day: &str, month: &str, year: &str) -> Result<String, NotACase> {
+    let day = parse_number(day)?.into();
+    let month = parse_number(month)?.into();
+    let year = parse_number(year)?.into();
+    Ok(u8::from(times::is_real_day(day, month, year)).to_string())
+}
+
+fn net(minus: &str, days: &str, time: &str) -> Result<String, NotACase> {
+    let net = Net {
+        minus: parse_minus(minus)?,
+        days: parse_number(days)?.into(),
+        time: parse_number(time)?.into(),
+    };
+    Ok(value_or_wrong(times::net_value(net)))
+}
+
+fn net_parts(value: &str) -> Result<String, NotACase> {
+    let parts = times::net_parts(parse_value(value)?);
+    let text = parts.map(|Net { minus, days, time }| format!("{} {days} {time}", u8::from(minus)));
+    Ok(value_or_wrong(text))
+}
+
+fn running(arguments: &[&str]) -> Result<String, NotACase> {
+    let &[bib, now, event, sign, days, time] = arguments else {
+        return Err(NotACase("running has six arguments"));
+    };
+    let running = Running {
+        bib: parse_number(bib)?.into(),
+        now: parse_number(now)?.into(),
+        event: parse_number(event)?.into(),
+        sign: parse_number(sign)?.into(),
+        days: parse_number(days)?.into(),
+        time: parse_number(time)?.into(),
+    };
+    Ok(match times::running_time(running) {
+        Some(ticks) => format!("0 0 {ticks}"),
+        None => "8 0 0".to_string(),
+    })
+}
+
+fn read_request(frame: &str) -> Result<String, NotACase> {
+    let frame = parse_bytes(frame)?;
+    Ok(match request::read(&frame) {
+        Ok(record) => format!("0 0 {}", record_text(&record)),
+        Err(refusal) => refusal_text(refusal),
+    })
+}
+
+fn write_request(room: &str, record: &[&str]) -> Result<String, NotACase> {
+    let mut output = vec![UNTOUCHED; parse_room(room)?];
+    let outcome = match parse_record(record)?.write(&mut output) {
+        Ok(()) => "0 0".to_string(),
+        Err(refusal) => refusal_text(refusal),
+    };
+    Ok(format!("{outcome} {}", bytes_text(&output)))
+}
+
+fn damage_request(frame: &str) -> Result<Vec<String>, NotACase> {
+    let frame = parse_bytes(frame)?;
+    let lines = (0..frame.len())
+        .map(|place| damage_line(&frame, place, read_and_write_again))
+        .collect();
+    Ok(lines)
+}
+
+/// Number and offset of a damage answer: the refusal's, or `0.0` where an accepted frame written
+/// again to as many bytes gives its own bytes, and `0.1` where it does not.
+fn read_and_write_again(frame: &[u8]) -> (u8, usize) {
+    match request::read(frame) {
+        Err(refusal) => (refusal.number(), refusal.offset()),
+        Ok(record) => {
+            let mut again = vec![UNTOUCHED; frame.len()];
+            let same = record.write(&mut again).is_ok() && again == frame;
+            (0, usize::from(!same))
+        }
+    }
+}
+
+/// The line of one place: each of the 256 values put there, the unchanged one too, and neighbours
+/// with the same answer counted together.
+fn damage_line(frame: &[u8], place: usize, outcome: fn(&[u8]) -> (u8, usize)) -> String {
+    let mut damaged = frame.to_vec();
+    let mut runs: Vec<(usize, (u8, usize))> = Vec::new();
+    for value in 0..=u8::MAX {
+        damaged[place] = value;
+        let answer = outcome(&damaged);
+        match runs.last_mut() {
+            Some((count, last)) if *last == answer => *count += 1,
+            _ => runs.push((1, answer)),
+        }
+    }
+    let runs: String = runs
+        .into_iter()
+        .map(|(count, (number, offset))| format!(" {count}*{number}.{offset}"))
+        .collect();
+    format!("{place}{runs}")
+}
+
+fn value_or_wrong(value: Option<impl ToString>) -> String {
+    value.map_or_else(|| WRONG.to_string(), |value| value.to_string())
+}
+
+fn refusal_text(refusal: Refusal) -> String {
+    format!("{} {}", refusal.number(), refusal.offset())
+}
+
+fn record_text(record: &Request) -> String {
+    let Request {
+        requester,
+        number,
+        bib,
+        information,
+        channel,
+        run,
+        group,
+        output,
+    } = record;
+    format!("{requester} {number} {bib} {information} {channel} {run} {group} {output}")
+}
+
+fn parse_record(words: &[&str]) -> Result<Request, NotACase> {
+    let &[requester, number, bib, information, channel, run, group, output] = words else {
+        return Err(NotACase("a request's record has eight parts"));
+    };
+    Ok(Request {
+        requester: parse_code(requester)?,
+        number: parse_number(number)?.into(),
+        bib: parse_number(bib)?.into(),
+        information: parse_code(information)?,
+        channel: parse_number(channel)?.into(),
+        run: parse_number(run)?.into(),
+        group: parse_number(group)?.into(),
+        output: parse_code(output)?,
+    })
+}
+
+/// A letter's code is a byte.
+fn parse_code(word: &str) -> Result<u8, NotACase> {
+    u8::try_from(parse_number(word)?).map_err(|_| NotACase("a letter's code is below 256"))
+}
+
+fn parse_place(word: &str) -> Result<usize, NotACase> {
+    usize::try_from(parse_number(word)?).map_err(|_| NotACase("PLACE is too large"))
+}
+
+fn parse_width(word: &str) -> Result<usize, NotACase> {
+    parse_place(word)
+        .ok()
+        .filter(|width| (1..=digits::WIDEST).contains(width))
+        .ok_or(NotACase("WIDTH is 1 to 10"))
+}
+
+fn parse_room(word: &str) -> Result<usize, NotACase> {
+    parse_place(word)
+        .ok()
+        .filter(|&room| room <= MOST_BYTES)
+        .ok_or(NotACase("ROOM is at most 100"))
+}
+
+fn parse_minus(word: &str) -> Result<bool, NotACase> {
+    match word {
+        "0" => Ok(false),
+        "1" => Ok(true),
+        _ => Err(NotACase("MINUS is 0 or 1")),
+    }
+}
+
+#[cfg(test)]
+mod tests {
+    use super::*;
+
+    /// The example's first request.
+    const FIRST: &str = "11522031303037303030303050303030303032303030530d";
+
+    fn check(case: &str, expected: &str) {
+        let answers = file(format!("{case}\n").as_bytes());
+        assert_eq!(answers, Ok(format!("{expected}\n")), "{case}");
+    }
+
+    #[test]
+    fn one_of_each_kind() {
+        check("number 1 3 7830303779", "7");
+        check("number 1 5 7830303779", "wrong");
+        check("digits 3 7", "303037");
+        check("clock 0 32333539353939393939", "863999999");
+        check("clock 0 32343030303030303030", "wrong");
+        check("clock-text 863999999", "32333539353939393939");
+        check("day 29 2 2024", "1");
+        check("day 29 2 2023", "0");
+        check("net 1 1 863990000", "-10000");
+        check("net 1 0 0", "wrong");
+        check("net-parts -10000", "1 1 863990000");
+        check("net-parts 8640000000000000", "wrong");
+        check("running 1 0 863999999 0 9 863999999", "0 0 -9503999998");
+        check("running 0 0 1 0 0 0", "8 0 0");
+        check("read-request -", "1 0");
+        check("read-request 11", "2 0");
+        check(&format!("read-request {FIRST}"), "0 0 49 7 0 80 0 2 0 83");
+        check(
+            "write-request 25 49 7 0 80 0 2 0 83",
+            &format!("0 0 {FIRST}ee"),
+        );
+        check("write-request 2 49 7 0 80 0 2 0 83", "7 0 eeee");
+        check("write-request 0 49 7 0 80 250 251 0 83", "6 13 -");
+    }
+
+    #[test]
+    fn damage_counts_runs_of_values() {
+        let case = format!("damage-request {FIRST}\n");
+        let answers = file(case.as_bytes()).expect("a case");
+        let lines: Vec<&str> = answers.lines().collect();
+        assert_eq!(lines.len(), 24);
+        assert_eq!(lines[0], "0 17*1.0 1*0.0 238*1.0");
+        assert_eq!(lines[2], "2 32*4.0 1*0.0 223*4.0");
+        assert_eq!(
+            lines[3],
+            "3 48*5.3 10*0.0 7*5.3 26*0.0 6*5.3 26*0.0 133*5.3"
+        );
+        assert_eq!(lines[5], "5 48*5.4 10*0.0 198*5.4");
+        assert_eq!(lines[23], "23 13*3.0 1*0.0 242*3.0");
+    }
+
+    #[test]
+    fn a_damage_case_without_bytes_has_no_lines() {
+        assert_eq!(file(b"damage-request -\n"), Ok(String::new()));
+        assert_eq!(file(b""), Ok(String::new()));
+    }
+
+    #[test]
+    fn lines_that_are_not_cases() {
+        for case in [
+            "",
+            " ",
+            "nothing 1",
+            "number 0 0 30",
+            "number 0 11 30",
+            "number 0 1",
+            "number 0  1 30",
+            "number 0 1 30 ",
+            "digits 1 10",
+            "digits 11 1",
+            "digits 0 0",
+            "clock-text 864000000",
+            "clock-text -1",
+            "net 2 0 0",
+            "day 1 1 4294967296",
+            "day 01 1 2000",
+            "running 1 0 0 0 0",
+            "running 1 0 0 0 0 0 0",
+            "read-request 1",
+            "read-request AA",
+            "write-request 101 49 7 0 80 0 2 0 83",
+            "write-request 24 256 7 0 80 0 2 0 83",
+            "write-request 24 49 7 0 80 0 2 0",
+            "read-request -\r",
+        ] {
+            assert!(file(format!("{case}\n").as_bytes()).is_err(), "{case:?}");
+        }
+        assert!(file(b"read-request -").is_err());
+        assert!(file(b"read-request \xff\n").is_err());
+    }
+
+    #[test]
+    fn the_complaint_names_the_line() {
+        let complaint = file(b"read-request -\nclock 0\n").expect_err("no case");
+        assert!(complaint.starts_with("line 2 "), "{complaint}");
+    }
+}

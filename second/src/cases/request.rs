@@ -1,0 +1,485 @@
+//! Cases of the static request: `read-request`, `damage-request` and `write-request`.
+
+use super::{replaced, Cases};
+use crate::random::Random;
+use crate::request::{at, Request, INFORMATION, LENGTH};
+use crate::spelling::bytes_text;
+
+/// The two requests of document 01's example, and one at the upper limits. No field is the same in
+/// all three.
+const FIRST: &[u8; LENGTH] = b"\x11R 100700000P000002000S\r";
+const SECOND: &[u8; LENGTH] = b"\x11R A012000411255001000S\r";
+const UPPER: &[u8; LENGTH] = b"\x11R z99959999q240250199T\r";
+
+const LAST: usize = LENGTH - 1;
+
+const REQUESTERS: &[u8; 62] = b"0123456789ABCDEFGHIJKLMNOPQRSTUVWXYZabcdefghijklmnopqrstuvwxyz";
+const OUTPUTS: &[u8; 4] = b"SABT";
+
+/// Each end of the three ranges of requesters, from both sides.
+const REQUESTER_EDGES: [u8; 12] = [
+    0x2f, 0x30, 0x39, 0x3a, 0x40, 0x41, 0x5a, 0x5b, 0x60, 0x61, 0x7a, 0x7b,
+];
+
+/// Both sides of every limit of the numbers, in the order of their offsets.
+const NUMBER_EDGES: &[u64] = &[0, 1, 99, 100, 255, 256, 998, 999];
+const BIB_EDGES: &[u64] = &[
+    0, 1, 255, 256, 9_999, 10_000, 59_998, 59_999, 60_000, 60_001, 65_535, 65_536, 99_999,
+];
+const CHANNEL_EDGES: &[u64] = &[
+    0, 1, 2, 99, 100, 199, 200, 238, 239, 240, 241, 242, 243, 244, 245, 246, 247, 248, 249, 250,
+    251, 252, 253, 254, 255, 256, 257, 299, 300, 511, 512, 998, 999,
+];
+const RUN_EDGES: &[u64] = &[0, 1, 2, 249, 250, 251, 252, 255, 256, 506, 998, 999];
+const GROUP_EDGES: &[u64] = &[0, 1, 2, 198, 199, 200, 201, 255, 256, 455, 998, 999];
+
+/// Numbers that no field has digits for. Some are good values again if cut to 8 or 16 bits.
+const FAR_BEYOND: [u64; 8] = [
+    1_000,
+    60_000,
+    65_535,
+    65_536,
+    65_784,
+    70_000,
+    100_000,
+    4_294_967_295,
+];
+
+/// A number's offset, its width and its edges.
+const NUMBERS: [(usize, usize, &[u64]); 5] = [
+    (at::NUMBER, 3, NUMBER_EDGES),
+    (at::BIB, 5, BIB_EDGES),
+    (at::CHANNEL, 3, CHANNEL_EDGES),
+    (at::RUN, 3, RUN_EDGES),
+    (at::GROUP, 3, GROUP_EDGES),
+];
+
+/// One wrong text for each field, by rising offset.
+const WRONG_FIELDS: [(usize, &[u8]); 8] = [
+    (at::REQUESTER, b"["),
+    (at::NUMBER, b"0 0"),
+    (at::BIB, b"60000"),
+    (at::INFORMATION, b"B"),
+    (at::CHANNEL, b"250"),
+    (at::RUN, b"251"),
+    (at::GROUP, b"200"),
+    (at::OUTPUT, b"C"),
+];
+
+pub fn add_all(cases: &mut Cases, seed: u64) {
+    add_good_frames(cases);
+    add_lengths(cases);
+    add_surround_faults(cases);
+    add_several_faults(cases);
+    add_number_edges(cases);
+    add_digit_faults(cases);
+    add_letters(cases);
+    add_random_frames(cases, &mut Random::new(seed, "read-request"));
+    for frame in [FIRST, SECOND, UPPER] {
+        cases.add(format!("damage-request {}", bytes_text(frame)));
+    }
+    add_writes(cases);
+    add_wrong_letters_to_write(cases);
+    add_wrong_numbers_to_write(cases);
+    add_several_wrong_to_write(cases);
+    add_random_writes(cases, &mut Random::new(seed, "write-request"));
+}
+
+fn add_read(cases: &mut Cases, frame: &[u8]) {
+    cases.add(format!("read-request {}", bytes_text(frame)));
+}
+
+fn add_good_frames(cases: &mut Cases) {
+    for frame in [FIRST, SECOND, UPPER] {
+        add_read(cases, frame);
+    }
+    add_read(cases, b"\x11R 000000000000000000S\r");
+    add_read(cases, b"\x11R Z00100001*248001001A\r");
+    add_read(cases, b"\x11R a50030000L251125100B\r");
+}
+
+/// Every length from 0 to 30 in three ways: the frame cut, or followed by zeros; with CR as its
+/// last byte; with another last byte.
+fn add_lengths(cases: &mut Cases) {
+    for length in 0..=30 {
+        let mut frame = SECOND.to_vec();
+        frame.resize(length, b'0');
+        add_read(cases, &frame);
+        for last in [b'\r', b'S'] {
+            if length > 0 {
+                add_read(cases, &replaced(&frame, length - 1, &[last]));
+            }
+        }
+    }
+    // As long as the two other kinds, with this lead byte and with others.
+    for length in [46, 51, 100] {
+        for lead in [0x11, 0x12, 0x13] {
+            let mut frame = replaced(SECOND, 0, &[lead]);
+            frame.resize(length, b'0');
+            add_read(cases, &replaced(&frame, length - 1, b"\r"));
+        }
+    }
+}
+
+fn add_surround_faults(cases: &mut Cases) {
+    for lead in *b"\x10\x12\x13\x00\x01\x0d\x14 1HRSAhz\x91\xff" {
+        add_read(cases, &replaced(FIRST, 0, &[lead]));
+    }
+    for lead in *b"\x10\x12\x13H" {
+        add_read(cases, &[lead]);
+    }
+    for first in *b"QSr H0\x00\x11\xd2\xff" {
+        add_read(cases, &replaced(FIRST, 1, &[first]));
+    }
+    for second in *b"\x1f!\x000R_\t\xa0\xff" {
+        add_read(cases, &replaced(FIRST, 2, &[second]));
+    }
+    add_read(cases, &replaced(FIRST, 1, b" R"));
+    for last in *b"\x0c\x0e\x0a\x00 S0\x11\x8d\xff" {
+        add_read(cases, &replaced(FIRST, LAST, &[last]));
+    }
+    // The CR one place early is not the last byte, but stands in the output's place.
+    add_read(cases, &replaced(FIRST, LAST - 1, b"\rS"));
+    add_read(cases, &replaced(FIRST, LAST - 1, b"\r\r"));
+}
+
+/// Something wrong with a frame.
+#[derive(Clone, Copy)]
+enum Fault {
+    /// These bytes stand at this place.
+    Put(usize, &'static [u8]),
+    /// The last byte stands there twice.
+    OneByteMore,
+}
+
+impl Fault {
+    fn befall(self, frame: &mut Vec<u8>) {
+        match self {
+            Fault::Put(place, wrong) => *frame = replaced(frame, place, wrong),
+            Fault::OneByteMore => frame.extend(frame.last().copied()),
+        }
+    }
+}
+
+/// Every two faults together, and all from each one on, to show which refusal goes first.
+fn add_several_faults(cases: &mut Cases) {
+    let mut faults = vec![
+        Fault::Put(0, b"\x13"),
+        Fault::Put(LAST, b"\n"),
+        Fault::OneByteMore,
+        Fault::Put(1, b"S"),
+        Fault::Put(2, b"R"),
+    ];
+    faults.extend(WRONG_FIELDS.map(|(offset, wrong)| Fault::Put(offset, wrong)));
+    for (low, &first) in faults.iter().enumerate() {
+        for &other in &faults[low + 1..] {
+            add_with_faults(cases, &[first, other]);
+        }
+        add_with_faults(cases, &faults[low..]);
+    }
+}
+
+fn add_with_faults(cases: &mut Cases, faults: &[Fault]) {
+    let mut frame = FIRST.to_vec();
+    for fault in faults {
+        fault.befall(&mut frame);
+    }
+    add_read(cases, &frame);
+}
+
+fn add_number_edges(cases: &mut Cases) {
+    for (offset, width, edges) in NUMBERS {
+        for value in edges {
+            let text = format!("{value:0width$}");
+            add_read(cases, &replaced(SECOND, offset, text.as_bytes()));
+        }
+    }
+}
+
+/// Every byte of every number in turn no digit: the neighbours of the digits, blanks, signs and
+/// bytes above 7Fh; then whole fields blank, and a wrong digit beside a value out of range.
+fn add_digit_faults(cases: &mut Cases) {
+    for (offset, width, _) in NUMBERS {
+        for place in offset..offset + width {
+            for wrong in [0x2f, 0x3a, b' ', b'+', b'-', 0x00, 0xb0, 0xff] {
+                add_read(cases, &replaced(SECOND, place, &[wrong]));
+            }
+        }
+        add_read(cases, &replaced(SECOND, offset, &vec![b' '; width]));
+        add_read(cases, &replaced(SECOND, offset, &vec![b'9'; width]));
+        let mut half_blank = vec![b'9'; width];
+        half_blank[width - 1] = b' ';
+        add_read(cases, &replaced(SECOND, offset, &half_blank));
+    }
+}
+
+fn add_letters(cases: &mut Cases) {
+    for code in (0x20..=0x7e).chain([0x00, 0x0d, 0x11, 0x1f, 0x7f, 0x80, 0xb0, 0xc1, 0xff]) {
+        add_read(cases, &replaced(FIRST, at::INFORMATION, &[code]));
+    }
+    for code in REQUESTER_EDGES
+        .into_iter()
+        .chain(*b"5Mm \x00\x0d\x11\x7f\x80\xb0\xc1\xff")
+    {
+        add_read(cases, &replaced(FIRST, at::REQUESTER, &[code]));
+    }
+    for code in *b"SABT@CRUDEsabt 01Z\x00\x0d\x7f\xd3\xff" {
+        add_read(cases, &replaced(FIRST, at::OUTPUT, &[code]));
+    }
+}
+
+fn add_random_frames(cases: &mut Cases, random: &mut Random) {
+    for _ in 0..300 {
+        let mut frame = frame_of(&random_record(random));
+        for _ in 0..random.below(3) {
+            add_random_fault(&mut frame, random);
+        }
+        add_read(cases, &frame);
+    }
+}
+
+fn add_random_fault(frame: &mut Vec<u8>, random: &mut Random) {
+    let place = random.place(frame.len());
+    match random.below(8) {
+        0 => {
+            frame.remove(place);
+        }
+        1 => frame.insert(place, random.byte()),
+        2 | 3 => frame[place] = random.byte(),
+        4 => frame[place] = random.pick(REQUESTERS),
+        _ => {
+            let (offset, width, _) = random.pick(&NUMBERS);
+            let limit = 10_u64.pow(width as u32);
+            let text = format!("{:0width$}", random.below(limit));
+            if let Some(field) = frame.get_mut(offset..offset + width) {
+                field.copy_from_slice(text.as_bytes());
+            }
+        }
+    }
+}
+
+fn random_record(random: &mut Random) -> Request {
+    Request {
+        requester: random.pick(REQUESTERS),
+        number: random.below(1_000),
+        bib: random.below(60_000),
+        information: random.pick(INFORMATION),
+        channel: match random.below(3) {
+            0 => random.pick(&[248, 249, 251, 255]),
+            _ => random.below(241),
+        },
+        run: random.below(251),
+        group: random.below(200),
+        output: random.pick(OUTPUTS),
+    }
+}
+
+/// The frame of a record whose fields all have few enough digits, spelled out here and not by the
+/// writer under comparison.
+fn frame_of(record: &Request) -> Vec<u8> {
+    let mut frame = b"\x11R ".to_vec();
+    frame.push(record.requester);
+    frame.extend(format!("{:03}{:05}", record.number, record.bib).bytes());
+    frame.push(record.information);
+    let numbers = format!("{:03}{:03}{:03}", record.channel, record.run, record.group);
+    frame.extend(numbers.bytes());
+    frame.push(record.output);
+    frame.push(b'\r');
+    frame
+}
+
+/// No room, one byte too little, just enough, and more.
+const ROOMS: [u64; 4] = [0, 23, 24, 30];
+
+fn add_write(cases: &mut Cases, room: u64, record: &Request) {
+    let Request {
+        requester,
+        number,
+        bib,
+        information,
+        channel,
+        run,
+        group,
+        output,
+    } = record;
+    cases.add(format!(
+        "write-request {room} {requester} {number} {bib} {information} {channel} {run} {group} {output}"
+    ));
+}
+
+fn add_write_to_all_rooms(cases: &mut Cases, record: &Request) {
+    for room in ROOMS {
+        add_write(cases, room, record);
+    }
+}
+
+/// The record of `SECOND`.
+fn middle_record() -> Request {
+    Request {
+        requester: b'A',
+        number: 12,
+        bib: 41,
+        information: b'1',
+        channel: 255,
+        run: 1,
+        group: 0,
+        output: b'S',
+    }
+}
+
+/// The record of `UPPER`.
+fn upper_record() -> Request {
+    Request {
+        requester: b'z',
+        number: 999,
+        bib: 59_999,
+        information: b'q',
+        channel: 240,
+        run: 250,
+        group: 199,
+        output: b'T',
+    }
+}
+
+fn set_letter(record: &mut Request, offset: usize, code: u8) {
+    match offset {
+        at::REQUESTER => record.requester = code,
+        at::INFORMATION => record.information = code,
+        _ => record.output = code,
+    }
+}
+
+fn set_number(record: &mut Request, offset: usize, value: u64) {
+    match offset {
+        at::NUMBER => record.number = value,
+        at::BIB => record.bib = value,
+        at::CHANNEL => record.channel = value,
+        at::RUN => record.run = value,
+        _ => record.group = value,
+    }
+}
+
+fn add_writes(cases: &mut Cases) {
+    let zeros = Request {
+        requester: b'0',
+        number: 0,
+        bib: 0,
+        information: b'0',
+        channel: 0,
+        run: 0,
+        group: 0,
+        output: b'A',
+    };
+    for record in [middle_record(), upper_record(), zeros] {
+        for room in [0, 1, 22, 23, 24, 25, 30, 99, 100] {
+            add_write(cases, room, &record);
+        }
+    }
+}
+
+/// Every code of every letter to just enough room, and those at the edges to all rooms.
+fn add_wrong_letters_to_write(cases: &mut Cases) {
+    let edges: [(usize, &[u8]); 3] = [
+        (at::REQUESTER, &REQUESTER_EDGES),
+        (at::INFORMATION, b")*+/09:@ABLlqr \xff"),
+        (at::OUTPUT, b"@ABCRSTUs \x00\xff"),
+    ];
+    for (offset, edge_codes) in edges {
+        for code in 0..=u8::MAX {
+            let mut record = middle_record();
+            set_letter(&mut record, offset, code);
+            add_write(cases, 24, &record);
+        }
+        for &code in edge_codes {
+            let mut record = upper_record();
+            set_letter(&mut record, offset, code);
+            add_write_to_all_rooms(cases, &record);
+        }
+    }
+}
+
+fn add_wrong_numbers_to_write(cases: &mut Cases) {
+    for (offset, _, edges) in NUMBERS {
+        for &value in edges.iter().chain(&FAR_BEYOND) {
+            let mut record = middle_record();
+            set_number(&mut record, offset, value);
+            add_write_to_all_rooms(cases, &record);
+        }
+    }
+}
+
+/// Every two fields wrong together, and all from each one on.
+fn add_several_wrong_to_write(cases: &mut Cases) {
+    let offsets = WRONG_FIELDS.map(|(offset, _)| offset);
+    for (low, &first) in offsets.iter().enumerate() {
+        for &other in &offsets[low + 1..] {
+            let mut record = upper_record();
+            spoil(&mut record, first);
+            spoil(&mut record, other);
+            add_write(cases, 24, &record);
+        }
+        let mut record = upper_record();
+        for &offset in &offsets[low..] {
+            spoil(&mut record, offset);
+        }
+        add_write_to_all_rooms(cases, &record);
+    }
+}
+
+fn spoil(record: &mut Request, offset: usize) {
+    match offset {
+        at::REQUESTER | at::INFORMATION | at::OUTPUT => set_letter(record, offset, b'['),
+        _ => set_number(record, offset, 70_000),
+    }
+}
+
+fn add_random_writes(cases: &mut Cases, random: &mut Random) {
+    for _ in 0..200 {
+        let mut record = random_record(random);
+        for _ in 0..random.below(3) {
+            spoil_at_random(&mut record, random);
+        }
+        let room = match random.below(3) {
+            0 => random.pick(&ROOMS),
+            1 => 24 + random.below(8),
+            _ => random.below(101),
+        };
+        add_write(cases, room, &record);
+    }
+}
+
+fn spoil_at_random(record: &mut Request, random: &mut Random) {
+    let (offset, _) = random.pick(&WRONG_FIELDS);
+    match offset {
+        at::REQUESTER | at::INFORMATION | at::OUTPUT => {
+            let code = random.byte();
+            set_letter(record, offset, code);
+        }
+        _ => {
+            let limit = random.pick(&[256, 1_000, 65_536, 100_000, 1 << 32]);
+            let value = random.below(limit);
+            set_number(record, offset, value);
+        }
+    }
+}
+
+#[cfg(test)]
+mod tests {
+    use super::*;
+    use crate::request;
+
+    #[test]
+    fn the_records_to_write_are_those_of_the_frames() {
+        assert_eq!(request::read(SECOND), Ok(middle_record()));
+        assert_eq!(request::read(UPPER), Ok(upper_record()));
+    }
+
+    #[test]
+    fn random_records_are_good() {
+        let mut random = Random::new(1, "test");
+        for _ in 0..1000 {
+            let record = random_record(&mut random);
+            assert_eq!(request::read(&frame_of(&record)), Ok(record));
+        }
+    }
+}

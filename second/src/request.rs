@@ -1,0 +1,258 @@
+//! The static request: 24 bytes, lead byte DC1.
+
+use crate::digits;
+use crate::frame::{self, is_output, is_requester};
+use crate::refusal::Refusal;
+
+pub const LEAD: u8 = 0x11;
+pub const LENGTH: usize = 24;
+
+/// The offset at which each field begins.
+pub mod at {
+    pub const REQUESTER: usize = 3;
+    pub const NUMBER: usize = 4;
+    pub const BIB: usize = 7;
+    pub const INFORMATION: usize = 12;
+    pub const CHANNEL: usize = 13;
+    pub const RUN: usize = 16;
+    pub const GROUP: usize = 19;
+    pub const OUTPUT: usize = 22;
+}
+
+/// How many digits each number has.
+mod width {
+    pub const NUMBER: usize = 3;
+    pub const BIB: usize = 5;
+    pub const CHANNEL: usize = 3;
+    pub const RUN: usize = 3;
+    pub const GROUP: usize = 3;
+}
+
+/// The 41 information letters, in the order document 01 lists them.
+pub const INFORMATION: &[u8; 41] = b"0123456789AQPaSsTKLtR*GHhIiJjpkugWwXlbcdq";
+
+/// A static request. The numbers are held wider than any field, so a record that is not well
+/// formed can be held too and is found out by its value.
+#[derive(Clone, Debug, PartialEq, Eq)]
+pub struct Request {
+    pub requester: u8,
+    pub number: u64,
+    pub bib: u64,
+    pub information: u8,
+    pub channel: u64,
+    pub run: u64,
+    pub group: u64,
+    pub output: u8,
+}
+
+/// Reads a frame. The fields are read in rising offset order, so the refusal names the first wrong one.
+pub fn read(bytes: &[u8]) -> Result<Request, Refusal> {
+    frame::check_surround(bytes, LEAD, LENGTH)?;
+    let requester = frame::letter(bytes, at::REQUESTER, is_requester)?;
+    let number = frame::number(bytes, at::NUMBER, width::NUMBER, is_number)?;
+    let bib = frame::number(bytes, at::BIB, width::BIB, is_bib)?;
+    let information = frame::letter(bytes, at::INFORMATION, is_information)?;
+    let channel = frame::number(bytes, at::CHANNEL, width::CHANNEL, is_channel)?;
+    let run = frame::number(bytes, at::RUN, width::RUN, is_run)?;
+    let group = frame::number(bytes, at::GROUP, width::GROUP, is_group)?;
+    let output = frame::letter(bytes, at::OUTPUT, is_output)?;
+    Ok(Request {
+        requester,
+        number,
+        bib,
+        information,
+        channel,
+        run,
+        group,
+        output,
+    })
+}
+
+impl Request {
+    /// Writes the frame to the first bytes of `output` and changes no other byte. RECORD is tried
+    /// before ROOM, and a refusal leaves the output as it was.
+    pub fn write(&self, output: &mut [u8]) -> Result<(), Refusal> {
+        if let Some(offset) = self.first_wrong_field() {
+            return Err(Refusal::Record(offset));
+        }
+        let target = output.get_mut(..LENGTH).ok_or(Refusal::Room)?;
+        target.copy_from_slice(&self.frame());
+        Ok(())
+    }
+
+    fn first_wrong_field(&self) -> Option<usize> {
+        let fields_by_offset = [
+            (at::REQUESTER, is_requester(self.requester)),
+            (at::NUMBER, is_number(self.number)),
+            (at::BIB, is_bib(self.bib)),
+            (at::INFORMATION, is_information(self.information)),
+            (at::CHANNEL, is_channel(self.channel)),
+            (at::RUN, is_run(self.run)),
+            (at::GROUP, is_group(self.group)),
+            (at::OUTPUT, is_output(self.output)),
+        ];
+        fields_by_offset
+            .into_iter()
+            .find(|&(_, good)| !good)
+            .map(|(offset, _)| offset)
+    }
+
+    /// The 24 bytes of a well formed record.
+    fn frame(&self) -> Vec<u8> {
+        let mut bytes = vec![LEAD];
+        bytes.extend(frame::ADDRESS);
+        bytes.push(self.requester);
+        bytes.extend(digits::write(self.number, width::NUMBER));
+        bytes.extend(digits::write(self.bib, width::BIB));
+        bytes.push(self.information);
+        bytes.extend(digits::write(self.channel, width::CHANNEL));
+        bytes.extend(digits::write(self.run, width::RUN));
+        bytes.extend(digits::write(self.group, width::GROUP));
+        bytes.push(self.output);
+        bytes.push(frame::CR);
+        bytes
+    }
+}
+
+fn is_number(value: u64) -> bool {
+    value <= 999
+}
+
+/// A static request's bib ends at 59999; 60000 is for the dynamic request alone.
+fn is_bib(value: u64) -> bool {
+    value <= 59_999
+}
+
+fn is_information(code: u8) -> bool {
+    INFORMATION.contains(&code)
+}
+
+/// A request's channels; 250 is one of a reply's and not one of these.
+fn is_channel(value: u64) -> bool {
+    matches!(value, 0..=240 | 248 | 249 | 251 | 255)
+}
+
+fn is_run(value: u64) -> bool {
+    value <= 250
+}
+
+fn is_group(value: u64) -> bool {
+    value <= 199
+}
+
+#[cfg(test)]
+mod tests {
+    use super::*;
+
+    /// The two requests of document 01's example.
+    const FIRST: &[u8; 24] = b"\x11R 100700000P000002000S\r";
+    const SECOND: &[u8; 24] = b"\x11R A012000411255001000S\r";
+
+    fn with(offset: usize, text: &[u8]) -> Vec<u8> {
+        let mut bytes = FIRST.to_vec();
+        bytes[offset..offset + text.len()].copy_from_slice(text);
+        bytes
+    }
+
+    fn first() -> Request {
+        Request {
+            requester: b'1',
+            number: 7,
+            bib: 0,
+            information: b'P',
+            channel: 0,
+            run: 2,
+            group: 0,
+            output: b'S',
+        }
+    }
+
+    #[test]
+    fn example_requests() {
+        assert_eq!(read(FIRST), Ok(first()));
+        let second = Request {
+            requester: b'A',
+            number: 12,
+            bib: 41,
+            information: b'1',
+            channel: 255,
+            run: 1,
+            group: 0,
+            output: b'S',
+        };
+        assert_eq!(read(SECOND), Ok(second));
+    }
+
+    #[test]
+    fn case_5_run() {
+        assert!(read(&with(at::RUN, b"250")).is_ok());
+        assert_eq!(read(&with(at::RUN, b"251")), Err(Refusal::Field(16)));
+    }
+
+    #[test]
+    fn case_6_channel() {
+        assert_eq!(read(&with(at::CHANNEL, b"250")), Err(Refusal::Field(13)));
+    }
+
+    #[test]
+    fn case_7_letter_l() {
+        assert!(read(&with(at::INFORMATION, b"L")).is_ok());
+    }
+
+    #[test]
+    fn case_9_empty_and_dc1_alone() {
+        assert_eq!(read(b""), Err(Refusal::Kind));
+        assert_eq!(read(b"\x11"), Err(Refusal::Length));
+    }
+
+    #[test]
+    fn case_10_requester() {
+        assert_eq!(read(&with(at::REQUESTER, b"[")), Err(Refusal::Field(3)));
+    }
+
+    #[test]
+    fn a_wrong_digit_names_the_field_and_not_the_byte() {
+        assert_eq!(read(&with(11, b"x")), Err(Refusal::Field(7)));
+    }
+
+    #[test]
+    fn information_letters_are_41_and_differ() {
+        let good = (0..=u8::MAX).filter(|&code| is_information(code)).count();
+        assert_eq!(good, 41);
+    }
+
+    #[test]
+    fn refusals_come_in_order() {
+        let mut bytes = with(at::REQUESTER, b"[");
+        assert_eq!(read(&bytes), Err(Refusal::Field(3)));
+        bytes[2] = b'0';
+        assert_eq!(read(&bytes), Err(Refusal::Address));
+        bytes[23] = b'\n';
+        assert_eq!(read(&bytes), Err(Refusal::End));
+        bytes.push(b'\r');
+        assert_eq!(read(&bytes), Err(Refusal::Length));
+        bytes[0] = 0x13;
+        assert_eq!(read(&bytes), Err(Refusal::Kind));
+    }
+
+    #[test]
+    fn a_written_frame_takes_the_first_bytes_alone() {
+        let mut output = [0xee; 30];
+        assert_eq!(first().write(&mut output), Ok(()));
+        assert_eq!(&output[..24], FIRST);
+        assert_eq!(output[24..], [0xee; 6]);
+    }
+
+    #[test]
+    fn a_refused_write_leaves_the_output() {
+        let mut output = [0xee; 23];
+        assert_eq!(first().write(&mut output), Err(Refusal::Room));
+        let wrong = Request {
+            bib: 60_000,
+            run: 251,
+            ..first()
+        };
+        assert_eq!(wrong.write(&mut output), Err(Refusal::Record(7)));
+        assert_eq!(output, [0xee; 23]);
+    }
+}
