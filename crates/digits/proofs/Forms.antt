@@ -18,7 +18,7 @@ pub byte-lawful : Lawful byte
 byte-lawful = record {
   long = λ v. refl;
   local = λ pre t post h. ap Is (byte-local pre t post h);
-  again = λ s p v h e. rw (drop-cons s p 0 (omega arith)) (ap (λ (x : ℕ). x ∷ []) (let q : getD s p 0 ≡ v = cc in q))
+  again = λ s p v h e. rw (drop-cons s p 0 (omega arith)) (ap (λ (x : ℕ). x ∷ []) (let q : getD s p 0 ≡ v = cc in q));
 }
   where
     byte-local : (pre t post : List ℕ) → length t ≡ 1 → getD (pre ++ t ++ post) (length pre) 0 ≡ getD t 0 0
@@ -40,7 +40,7 @@ number-lawful w h k = record {
       ∙ ap (λ (p : ℕ). numberFrom (pre ++ t ++ post) p w 0) (sym (add-zero (length pre)))
       ∙ number-local w 0 pre t post 0 (omega arith)
       ∙ sym (some-width t 0 w h k);
-  again = λ s p v l e. read-was-written w s p v e .text
+  again = λ s p v l e. read-was-written w s p v e .text;
 }
 
 -- a number of no more than w digits comes back
@@ -57,5 +57,5 @@ module _ (k : Form) (other : ℕ → Number) (own : ℕ → ℕ) (back : (n v : 
   renamed-lawful l = record {
     long = λ v. l .long (own v);
     local = λ pre t post h. ap (named other) (l .local pre t post h);
-    again = λ s p v h e. renamed-again (take (k .width) (drop p s)) (k .got s p) v (λ n q. l .again s p n h q) e
+    again = λ s p v h e. renamed-again (take (k .width) (drop p s)) (k .got s p) v (λ n q. l .again s p n h q) e;
   }

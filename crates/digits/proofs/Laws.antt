@@ -4,7 +4,7 @@ use mathlib.Core.List.{List, [], _∷_, _++_, append-assoc}
 use mathlib.Core.Bool.{Bool, true, false, cond}
 use mathlib.Core.Path.{_≡_, refl, sym, ap, _∙_}
 use native.Mathlib.Omega.{arith}
-use native.Mathlib.Nat.{add-zero, add-suc, suc-add, pow-suc, pow-zero}
+use native.Mathlib.Nat.{add-zero, add-suc, suc-add, pow-suc, pow-zero, pow-le-pow-right}
 use lib.ListN.{length, getD, take, drop, length-append, length-drop}
 use lib.Seq.{getD-at, take-suc, getD-drop}
 use Rattle.digits.specs.declared.Number.{Number}
@@ -47,8 +47,8 @@ value-of-digits (suc w) n pre post h =
     ap (λ (s : List ℕ). numberFrom s (length pre) (suc w) 0) e
     ∙ last-apart (pre ++ digits w (n / 10) ++ last) (length pre) w 0
     ∙ last-digit (numberFrom (pre ++ digits w (n / 10) ++ last) (length pre) w 0) (getD (pre ++ digits w (n / 10) ++ last) (length pre + w) 0) n
-        (value-of-digits w (n / 10) pre last few)
-        (getD-at (pre ++ digits w (n / 10)) (48 + n % 10) post 0 (length pre + w) long)
+    (value-of-digits w (n / 10) pre last few)
+    (getD-at (pre ++ digits w (n / 10)) (48 + n % 10) post 0 (length pre + w) long)
 
 pub written-is-read : (w n : ℕ) (pre post : List ℕ) → 1 ≤ w → w ≤ 10 → n < 10 ^ w → numberAt (pre ++ digits w n ++ post) (length pre) w ≡ Is n
 written-is-read w n pre post h k f = some-width (pre ++ digits w n ++ post) (length pre) w h k ∙ value-of-digits w n pre post f
@@ -89,7 +89,7 @@ digits-of-value s p (suc w) n e =
     let i : p + w < length s = within s (p + w) (n % 10) (q .last) in
     record {
       text = take-suc (drop p s) w 0 (omega (arith, length-drop p s)) ∙ rw (getD-drop p s w 0, q .last, r .text);
-      small = omega (arith, pow-suc 10 w, r .small)
+      small = omega (arith, pow-suc 10 w, r .small);
     }
 
 pub read-was-written : (w : ℕ) (s : List ℕ) (p n : ℕ) → numberAt s p w ≡ Is n → Stands s p w n
@@ -99,3 +99,9 @@ read-was-written w s p n e = go (isWidth w) refl e
     go : (t : Bool) → isWidth w ≡ t → cond t (numberFrom s p w 0) Wrong ≡ Is n → Stands s p w n
     go true q r = digits-of-value s p w n r
     go false q r = absurd (let z : _≡_ {A = ℕ} 0 1 = cc in omega arith)
+
+-- a number of at most nine digits fits 32 bits
+pub small-number : (s : List ℕ) (p w n : ℕ) → w ≤ 9 → numberAt s p w ≡ Is n → n < 4294967296
+small-number s p w n h e =
+    let l = read-was-written w s p n e .small in
+    let k : 10 ^ w ≤ 10 ^ 9 = pow-le-pow-right (omega arith) {i = w} {j = 9} h in omega arith

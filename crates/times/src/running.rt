@@ -37,6 +37,8 @@ pub fn running_time(of: RunningOf) -> Running
 fn in_range(of: RunningOf) -> bool
     ensures { λ r. ⌜ r ≡ inRange of ⌝ }
 {
-    let times = (of.tnow <= 863_999_999) & (of.tev <= 863_999_999) & ((of.bib != 0) | (of.tev == 0));
+    let times = (of.tnow <= 863_999_999)
+        & (of.tev <= 863_999_999)
+        & ((of.bib != 0) | (of.tev == 0));
     times & (of.sign <= 1) & (of.days <= 9) & (of.time <= 863_999_999)
 }

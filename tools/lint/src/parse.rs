@@ -1,16 +1,16 @@
-//! Reads the items of a crate: what each is called, where it stands, whether it is `pub`, and what the lint asks of it.
+//! Reads the items of a crate.
 //!
 //! What it cannot read is an error and never passed over: a function that is not seen would not be checked.
 
 use crate::lex::{self, Token};
-use std::fs;
-use std::ops::Range;
 use std::path::{Path, PathBuf};
+use std::{fs, mem};
 
 /// A path as code writes it: `a::b` is `["a", "b"]`.
 pub type Names = Vec<String>;
 
 /// A library crate.
+#[derive(Default)]
 pub struct Crate {
     /// The root module comes first.
     pub modules: Vec<Module>,
@@ -25,6 +25,7 @@ pub struct Module {
 }
 
 pub struct Item {
+    /// Its name; of a method `Type::name`, of a glob `*`.
     pub name: String,
     /// The module in which it stands.
     pub module: usize,
@@ -32,105 +33,84 @@ pub struct Item {
     /// Is it `pub`? `pub(crate)` and the like are not.
     pub public: bool,
     pub kind: Kind,
-    /// The paths in its signature, or in what others see of a type: among them are the types that it hands out.
+    /// The paths in its signature or its declaration; among them are the types that it hands out.
     pub mentions: Vec<Names>,
 }
 
 pub enum Kind {
     Module(usize),
-    /// `use` of a path, under the item's name. A glob's name is `*`.
+    /// A `use` of a path, or a `type` that stands for it.
     Use(Names),
-    /// `type`, of what its `mentions` say. Does it stand for a `&mut ..`?
-    Alias { lent: bool },
-    /// A struct or an enum.
-    Type,
-    Constant,
-    Function(Contract),
-    /// A function in an `impl` block of the type at this path.
-    Method(Names, Contract),
+    /// A struct, an enum or a constant.
+    Data,
+    Function(Function),
 }
 
-pub struct Contract {
-    pub parameters: Vec<Parameter>,
-    pub clauses: Vec<Clause>,
-}
-
-pub struct Parameter {
-    pub name: String,
-    /// Is its type written `&mut ..`?
-    pub lent: bool,
-    /// The first path of its type, which may be an alias.
-    pub head: Names,
-}
-
-pub struct Clause {
-    /// `requires`, `ensures` or `ghost`.
-    pub keyword: String,
-    /// The names and marks in its braces.
-    pub names: Vec<String>,
+pub struct Function {
+    /// The type whose `impl` block it is in.
+    pub owner: Option<Names>,
+    /// The parameters that are `&mut ..`.
+    pub lent: Vec<String>,
+    /// Its clauses: each one's keyword, and the names and marks of its text.
+    pub clauses: Vec<(String, Vec<String>)>,
 }
 
 impl Crate {
-    /// Reads the library crate in the folder `root/folder`.
-    pub fn read(root: &Path, folder: &Path) -> Result<Crate, String> {
-        let mut found = Crate { modules: Vec::new(), items: Vec::new() };
-        let source = folder.join("src");
-        found.read_file(root, source.join("lib.rt"), source, None)?;
-        Ok(found)
-    }
-
-    /// Reads the module in `file`, whose own modules are files of `folder`. Returns its number.
-    fn read_file(&mut self, root: &Path, file: PathBuf, folder: PathBuf, parent: Option<usize>) -> Result<usize, String> {
-        let shown = file.display().to_string();
-        let text = fs::read_to_string(root.join(&file)).map_err(|e| format!("{shown}: cannot be read: {e}"))?;
+    /// Reads the module in the file `root/file`, whose own modules are files of `folder`. Returns its number.
+    pub fn read(&mut self, root: &Path, file: &Path, folder: &Path, parent: Option<usize>) -> Result<usize, String> {
+        let shown = file.display();
+        let text = fs::read_to_string(root.join(file)).map_err(|e| format!("{shown}: cannot be read: {e}"))?;
         let tokens = lex::tokens(&text).map_err(|(line, what)| format!("{shown}:{line}: {what}"))?;
         let module = self.modules.len();
-        self.modules.push(Module { file, parent });
-        let mut parser = Parser { root, shown, tokens, at: 0, found: self };
+        self.modules.push(Module { file: file.to_path_buf(), parent });
+        let mut parser = Parser { found: self, root, file, folder, tokens, at: 0, module, owner: None };
         while parser.at < parser.tokens.len() {
-            parser.item(&Place { module, folder: folder.clone(), owner: None })?;
+            parser.item()?;
         }
         Ok(module)
     }
 }
 
-/// Where an item stands.
-struct Place {
+/// Reads one file.
+struct Parser<'a> {
+    /// Where the items go.
+    found: &'a mut Crate,
+    root: &'a Path,
+    file: &'a Path,
+    /// Where the files of its modules are.
+    folder: &'a Path,
+    tokens: Vec<Token>,
+    /// The number of tokens that were read.
+    at: usize,
+    /// The module that is being read.
     module: usize,
-    /// Where the files of the module's own modules are.
-    folder: PathBuf,
-    /// The type of the `impl` block around it.
+    /// The type whose `impl` block is being read.
     owner: Option<Names>,
 }
 
-struct Parser<'a> {
-    root: &'a Path,
-    /// The file's path, for errors.
-    shown: String,
-    tokens: Vec<Token>,
-    at: usize,
-    found: &'a mut Crate,
-}
-
 impl Parser<'_> {
-    /// An error at the last token that was read.
-    fn error<T>(&self, what: &str) -> Result<T, String> {
-        let line = self.tokens.get(self.at.saturating_sub(1)).map_or(1, |t| t.line);
-        Err(format!("{}:{line}: {what}", self.shown))
+    /// The line of the token that was read last.
+    fn line(&self) -> usize {
+        self.tokens.get(self.at.saturating_sub(1)).map_or(1, |t| t.line)
     }
 
-    /// The next token's text; empty at the end of the file.
+    /// An error at that line.
+    fn error<T>(&self, what: &str) -> Result<T, String> {
+        Err(format!("{}:{}: {what}", self.file.display(), self.line()))
+    }
+
+    /// The next token's text; empty at the end.
     fn peek(&self) -> &str {
         self.tokens.get(self.at).map_or("", |t| &t.text)
     }
 
     /// Reads a token, and returns its text.
     fn next(&mut self) -> Result<String, String> {
-        if self.at == self.tokens.len() {
+        let Some(token) = self.tokens.get(self.at) else {
             return self.error("the file ends inside an item");
-        }
+        };
         self.at += 1;
-        Ok(self.tokens[self.at - 1].text.clone())
+        Ok(token.text.clone())
     }
 
     /// Reads `text`, if it comes next.
@@ -140,16 +120,8 @@ impl Parser<'_> {
         here
     }
 
-    /// Reads `text`, which must come next.
-    fn expect(&mut self, text: &str) -> Result<(), String> {
-        match self.next()? {
-            found if found == text => Ok(()),
-            found => self.error(&format!("expected `{text}`, found `{found}`")),
-        }
-    }
-
     /// Reads a token and, where it opens a group, the whole group. Returns what lies within.
-    fn group(&mut self) -> Result<Range<usize>, String> {
+    fn group(&mut self) -> Result<&[Token], String> {
         let start = self.at + 1;
         let mut depth = 0;
         loop {
@@ -158,184 +130,137 @@ impl Parser<'_> {
                 return self.error("nothing opens what closes here");
             }
             if depth == 0 {
-                return Ok(start..start.max(self.at - 1));
+                return Ok(&self.tokens[start..start.max(self.at - 1)]);
             }
         }
     }
 
-    /// Reads to the next `;` that is in no group, and past it. Returns what lies before it.
-    fn statement(&mut self) -> Result<&[Token], String> {
+    /// Reads up to one of `ends`, outside all groups. Returns what lies before it.
+    fn until(&mut self, ends: &[&str]) -> Result<&[Token], String> {
         let start = self.at;
-        while !self.take(";") {
+        while !ends.contains(&self.peek()) {
             self.group()?;
         }
-        Ok(&self.tokens[start..self.at - 1])
-    }
-
-    /// Reads `<..>`, if it comes next. Rattle has lifetimes there and nothing else, and `lex` drops them.
-    fn lifetimes(&mut self) -> Result<(), String> {
-        if self.take("<") {
-            while self.next()? != ">" {}
-        }
-        Ok(())
-    }
-
-    /// Reads `pub` or `pub(..)`, if it comes next: is what follows public?
-    fn visibility(&mut self) -> Result<bool, String> {
-        let public = self.take("pub");
-        if public && self.peek() == "(" {
-            self.group()?;
-            return Ok(false);
-        }
-        Ok(public)
+        Ok(&self.tokens[start..self.at])
     }
 
     /// Reads an item.
-    fn item(&mut self, place: &Place) -> Result<(), String> {
+    fn item(&mut self) -> Result<(), String> {
         while self.take("#") {
-            self.take("!");
             self.group()?;
         }
-        let public = self.visibility()?;
+        let mut public = self.take("pub");
+        if public && self.peek() == "(" {
+            self.group()?;
+            public = false;
+        }
         loop {
             match self.next()?.as_str() {
-                "fn" => return self.function(place, public),
-                "mod" => return self.module(place, public),
-                "use" => return self.imports(place, public),
-                "impl" => return self.methods(place),
-                "struct" => return self.declared(place, public, |field| field.iter().any(|t| t.text == "pub")),
-                "enum" => return self.declared(place, public, |_| true),
-                "type" => return self.alias(place, public),
-                "extern" if self.peek() == "{" => return self.block(place),
-                "const" if !["fn", "extern"].contains(&self.peek()) => return self.constant(place, public),
+                "fn" => return self.function(public),
+                "mod" => return self.submodule(public),
+                "use" => return self.imports(public),
+                "impl" => return self.methods(),
+                "struct" | "enum" => return self.data(public, &["{", ";"]),
+                "const" if !["fn", "extern"].contains(&self.peek()) => return self.data(public, &[";"]),
+                "type" => return self.alias(public),
+                "extern" if self.peek() == "{" => return self.block(self.module, None),
                 "const" | "extern" => {}
-                "ghost" => return Ok(()),
+                "ghost" if self.tokens[self.at - 1].clause.is_some() => return Ok(()), // `ghost use ..;`
                 other => return self.error(&format!("the lint cannot read an item that begins with `{other}`")),
             }
         }
     }
 
-    /// Reads the items of a block.
-    fn block(&mut self, place: &Place) -> Result<(), String> {
-        self.expect("{")?;
-        while !self.take("}") {
-            self.item(place)?;
+    /// Reads the items of a block in braces, which stand in `module` and in the `impl` block of `owner`.
+    fn block(&mut self, module: usize, owner: Option<Names>) -> Result<(), String> {
+        let around = (mem::replace(&mut self.module, module), mem::replace(&mut self.owner, owner));
+        if !self.take("{") {
+            return self.error("expected a `{` after this");
         }
+        while !self.take("}") {
+            self.item()?;
+        }
+        (self.module, self.owner) = around;
         Ok(())
     }
 
-    fn push(&mut self, place: &Place, public: bool, name: String, line: usize, kind: Kind, mentions: Vec<Names>) {
-        self.found.items.push(Item { name, module: place.module, line, public, kind, mentions });
-    }
-
-    /// The line of the last token that was read.
-    fn line(&self) -> usize {
-        self.tokens[self.at - 1].line
+    /// Notes an item of the module that is being read.
+    fn push(&mut self, name: String, line: usize, public: bool, kind: Kind, mentions: Vec<Names>) {
+        self.found.items.push(Item { name, module: self.module, line, public, kind, mentions });
     }
 
     /// Reads a function, from its name on.
-    fn function(&mut self, place: &Place, public: bool) -> Result<(), String> {
-        let (name, line) = (self.next()?, self.line());
-        self.lifetimes()?;
-        let start = self.at;
-        self.expect("(")?;
-        self.at = start;
-        let within = self.group()?;
-        let parameters = split(&self.tokens[within]).into_iter().map(parameter).collect();
-        while !["{", ";"].contains(&self.peek()) {
-            self.group()?;
+    fn function(&mut self, public: bool) -> Result<(), String> {
+        let (mut name, line) = (self.next()?, self.line());
+        if let Some(owner) = &self.owner {
+            name = format!("{}::{name}", owner.join("::"));
         }
-        let head = &self.tokens[start..self.at];
-        let mentions = paths(head);
-        let clauses = head.iter().filter_map(clause).collect();
+        self.until(&["("])?;
+        let parameters = self.group()?;
+        let lent = split(parameters).into_iter().filter_map(lent).collect();
+        let mut mentions = paths(parameters);
+        let rest = self.until(&["{", ";"])?;
+        mentions.extend(paths(rest));
+        let clauses = rest.iter().filter_map(|t| Some((t.text.clone(), t.clause.clone()?))).collect();
         self.group()?;
-        let contract = Contract { parameters, clauses };
-        let kind = match &place.owner {
-            Some(owner) => Kind::Method(owner.clone(), contract),
-            None => Kind::Function(contract),
-        };
-        self.push(place, public, name, line, kind, mentions);
+        let function = Function { owner: self.owner.clone(), lent, clauses };
+        self.push(name, line, public, Kind::Function(function), mentions);
         Ok(())
     }
 
     /// Reads `mod NAME;` and its file, or `mod NAME { .. }`.
-    fn module(&mut self, place: &Place, public: bool) -> Result<(), String> {
+    fn submodule(&mut self, public: bool) -> Result<(), String> {
         let (name, line) = (self.next()?, self.line());
-        let folder = place.folder.join(&name);
+        let parent = Some(self.module);
         let module = if self.take(";") {
-            let mut file = place.folder.join(format!("{name}.rt"));
-            let inside = folder.join("mod.rt");
-            if !self.root.join(&file).exists() && self.root.join(&inside).exists() {
-                file = inside;
-            }
-            self.found.read_file(self.root, file, folder, Some(place.module))?
+            let file = self.folder.join(format!("{name}.rt"));
+            self.found.read(self.root, &file, &self.folder.join(&name), parent)?
         } else {
-            let module = self.found.modules.len();
-            let file = self.found.modules[place.module].file.clone();
-            self.found.modules.push(Module { file, parent: Some(place.module) });
-            self.block(&Place { module, folder, owner: None })?;
+            self.found.modules.push(Module { file: self.file.to_path_buf(), parent });
+            let module = self.found.modules.len() - 1;
+            self.block(module, None)?;
             module
         };
-        self.push(place, public, name, line, Kind::Module(module), Vec::new());
+        self.push(name, line, public, Kind::Module(module), Vec::new());
         Ok(())
     }
 
     /// Reads a `use`, from its path on.
-    fn imports(&mut self, place: &Place, public: bool) -> Result<(), String> {
-        let line = self.line();
-        for (name, path) in imported(self.statement()?, &[]) {
+    fn imports(&mut self, public: bool) -> Result<(), String> {
+        for (name, path) in imported(self.until(&[";"])?, &[]) {
             if public && name == "*" {
                 return self.error("a glob in a `pub use`: name what it passes on");
             }
-            self.push(place, public, name, line, Kind::Use(path), Vec::new());
+            self.push(name, self.line(), public, Kind::Use(path), Vec::new());
         }
-        Ok(())
+        self.group().map(|_| ())
     }
 
     /// Reads an `impl` block, from its type on.
-    fn methods(&mut self, place: &Place) -> Result<(), String> {
-        let start = self.at;
-        while self.peek() != "{" {
-            self.next()?;
-        }
-        let owner = paths(&self.tokens[start..self.at]).into_iter().next();
-        self.block(&Place { module: place.module, folder: place.folder.clone(), owner })
+    fn methods(&mut self) -> Result<(), String> {
+        let owner = paths(self.until(&["{"])?).into_iter().next();
+        self.block(self.module, owner)
     }
 
-    /// Reads a struct or an enum, from its name on. `seen` says which of its fields or variants others see.
-    fn declared(&mut self, place: &Place, public: bool, seen: fn(&[Token]) -> bool) -> Result<(), String> {
+    /// Reads a struct, an enum or a constant, from its name on. One of `ends` is or begins its last group.
+    fn data(&mut self, public: bool, ends: &[&str]) -> Result<(), String> {
         let (name, line) = (self.next()?, self.line());
-        while !["{", "(", ";"].contains(&self.peek()) {
-            self.next()?;
-        }
-        let tuple = self.peek() == "(";
-        let body = self.group()?;
-        if tuple {
-            self.statement()?;
-        }
-        let mentions = split(&self.tokens[body]).into_iter().filter(|f| seen(f)).flat_map(paths).collect();
-        self.push(place, public, name, line, Kind::Type, mentions);
+        let mut mentions = paths(self.until(ends)?);
+        mentions.extend(paths(self.group()?));
+        self.push(name, line, public, Kind::Data, mentions);
         Ok(())
     }
 
     /// Reads a `type`, from its name on.
-    fn alias(&mut self, place: &Place, public: bool) -> Result<(), String> {
+    fn alias(&mut self, public: bool) -> Result<(), String> {
         let (name, line) = (self.next()?, self.line());
-        self.lifetimes()?;
-        self.take("=");
-        let aliased = self.statement()?;
-        let (lent, mentions) = (is_lent(aliased), paths(aliased));
-        self.push(place, public, name, line, Kind::Alias { lent }, mentions);
-        Ok(())
-    }
-
-    /// Reads a `const`, from its name on.
-    fn constant(&mut self, place: &Place, public: bool) -> Result<(), String> {
-        let (name, line) = (self.next()?, self.line());
-        let rest = self.statement()?;
-        let mentions = rest.split(|t| t.text == "=").next().map(paths).unwrap_or_default();
-        self.push(place, public, name, line, Kind::Constant, mentions);
-        Ok(())
+        let aliased = self.until(&[";"])?;
+        let (mentions, lends) = (paths(aliased), aliased.iter().any(|t| t.text == "mut"));
+        if lends {
+            return self.error("a `type` with a `mut` in it would hide a `&mut` parameter: write the type out");
+        }
+        self.push(name, line, public, Kind::Use(mentions.first().cloned().unwrap_or_default()), mentions);
+        self.group().map(|_| ())
     }
 }
 
@@ -344,7 +269,7 @@ fn nesting(text: &str) -> i32 {
     i32::from("([{".contains(text)) - i32::from(")]}".contains(text))
 }
 
-/// Parts a list at its commas. The commas of `Both<'a, 'b>` part too, which harms nothing: what they leave is no parameter.
+/// Parts a list at its commas.
 fn split(list: &[Token]) -> Vec<&[Token]> {
     let mut depth = 0;
     let parts = list.split(|t| {
@@ -354,16 +279,24 @@ fn split(list: &[Token]) -> Vec<&[Token]> {
     parts.filter(|part| !part.is_empty()).collect()
 }
 
-fn is_word(token: &Token) -> bool {
-    token.clause.is_none() && token.text.chars().all(|c| c.is_alphanumeric() || c == '_')
+/// The name of a parameter `name: &mut ..` or `&mut self`; none if it is another. `lex` has dropped its lifetime, and a
+/// parenthesis around its type goes too.
+fn lent(parameter: &[Token]) -> Option<String> {
+    let texts: Vec<&str> = parameter.iter().map(|t| t.text.as_str()).filter(|t| *t != "(").collect();
+    if texts == ["&", "mut", "self"] {
+        return Some("self".to_string());
+    }
+    let found = texts.windows(4).find(|w| w[1..] == [":", "&", "mut"])?;
+    Some(found[0].to_string())
 }
 
 /// The paths in `tokens`, from left to right: each word, with those that `::` joins to it.
 fn paths(tokens: &[Token]) -> Vec<Names> {
     let mut found: Vec<Names> = Vec::new();
-    for (i, token) in tokens.iter().enumerate().filter(|(_, t)| is_word(t)) {
+    for (i, token) in tokens.iter().enumerate() {
         let joined = i >= 2 && tokens[i - 2..i].iter().all(|t| t.text == ":");
         match found.last_mut() {
+            _ if token.clause.is_some() || !token.text.chars().all(lex::in_word) => {}
             Some(path) if joined => path.push(token.text.clone()),
             _ => found.push(vec![token.text.clone()]),
         }
@@ -371,46 +304,19 @@ fn paths(tokens: &[Token]) -> Vec<Names> {
     found
 }
 
-/// A type without parentheses around it.
-fn bare(ty: &[Token]) -> &[Token] {
-    match ty {
-        [open, rest @ ..] if open.text == "(" => bare(rest),
-        _ => ty,
-    }
-}
-
-/// Is the type written `&mut ..`? (`lex` drops a lifetime.)
-fn is_lent(ty: &[Token]) -> bool {
-    matches!(bare(ty), [a, b, ..] if a.text == "&" && b.text == "mut")
-}
-
-/// Reads a parameter: `name: type`, or a form of `self`.
-fn parameter(tokens: &[Token]) -> Parameter {
-    let (pattern, ty) = match tokens.iter().position(|t| t.text == ":") {
-        Some(colon) => (&tokens[..colon], &tokens[colon + 1..]),
-        None => (tokens, tokens),
-    };
-    let name = pattern.last().map(|t| t.text.clone()).unwrap_or_default();
-    let named = bare(ty).first().is_some_and(is_word);
-    let head = paths(ty).into_iter().next().filter(|_| named).unwrap_or_default();
-    Parameter { name, lent: is_lent(ty), head }
-}
-
-fn clause(token: &Token) -> Option<Clause> {
-    let names = token.clause.clone()?;
-    Some(Clause { keyword: token.text.clone(), names })
-}
-
 /// What the tree of a `use` brings, below the path `prefix`: names, each with its path.
 fn imported(tree: &[Token], prefix: &[String]) -> Vec<(String, Names)> {
     let mut path = prefix.to_vec();
     for (i, token) in tree.iter().enumerate() {
         match token.text.as_str() {
-            ":" => {}
-            "{" => return split(&tree[i + 1..tree.len() - 1]).into_iter().flat_map(|part| imported(part, &path)).collect(),
+            "{" => {
+                let parts = split(tree.get(i + 1..tree.len() - 1).unwrap_or_default());
+                return parts.into_iter().flat_map(|part| imported(part, &path)).collect();
+            }
             "as" => return tree.get(i + 1).map(|name| (name.text.clone(), path)).into_iter().collect(),
             "*" => return vec![("*".to_string(), path)],
             "self" if !path.is_empty() => {} // `a::{self}` is `a`
+            ":" => {}
             word => path.push(word.to_string()),
         }
     }

@@ -69,8 +69,7 @@ loop-less c = omega arith
 loop-again : tie.Need-loop-again Inv-loop μ-loop
 loop-again c =
     let t = c .before .before .before .before .before in
-    let l = t .before .loop in
-    (
+    let l = t .before .loop in (
       l .inv .0 ∙ step-on _ _ _ _ _ (t .loop-test .taken) (c .before .before .wide .ensures) (c .before .if4 .left) (c .if5 .left),
       grown (l .v) (l .left) _ (omega arith) (omega arith) (omega arith) (l .inv .1),
       omega arith,

@@ -40,8 +40,7 @@ loop-less c = search needs
 
 loop-again : tie.Need-loop-again Inv-loop μ-loop
 loop-again c =
-    let l = c .before .before .before .before .before in
-    (
+    let l = c .before .before .before .before .before in (
       l .loop .inv .0 ∙ put-step _ _ _ _ _ (c .before .before .before .before .loop-test .taken) (c .before .before .put-past .ensures),
       c .before .before .put-past .kept .0 ∙ l .loop .inv .1,
     )

@@ -1,0 +1,77 @@
+-- What is tried before the fields, and what is tried before a frame is written, test by test. Assumes nothing.
+use Prim.Native.Nat.{ℕ, _-_, _≤_, _<_}
+use mathlib.Core.List.{List, [], _∷_}
+use mathlib.Core.Bool.{Bool, true, false}
+use mathlib.Core.Path.{_≡_, refl, sym, ap, _∙_}
+use native.Mathlib.Omega.{arith}
+use lib.Dec.{eqb, leb}
+use lib.ListN.{length, getD}
+use borrow.Author.Tests.{eq-eqb, ne-eqb, le-leb, lt-leb, eqb-true}
+use Rattle.digits.specs.Told.{Told, gives, refuses, tried}
+use Rattle.frames.specs.Refusals.{KIND, LENGTH, END, ADDRESS, RECORD, ROOM}
+use Rattle.frames.specs.Kind.{leadIs, letterR, CR, headTold, andThen, writeTried}
+
+-- ---- answers that gave something
+
+module _ {A : Type 0} where
+  pub tried-gives : (t : Bool) (n o : ℕ) (rest : Told A) (a : A) → tried t n o rest ≡ gives a → (t ≡ true) × (rest ≡ gives a)
+  tried-gives true n o rest a e = (refl, e)
+  tried-gives false n o rest a e = absurd (let z : _≡_ {A = ℕ} 0 1 = cc in omega arith)
+
+  pub then-gives : (t : Told (Unit {0})) (rest : Told A) (a : A) → andThen t rest ≡ gives a → (t ≡ gives tt) × (rest ≡ gives a)
+  then-gives (gives x) rest a e = (refl, e)
+  then-gives (refuses n o) rest a e = absurd (let z : _≡_ {A = ℕ} 0 1 = cc in omega arith)
+
+-- ---- the head of a frame
+
+-- a lead byte that is not 0 is told from an empty frame by the byte at 0
+lead-at : (lead : ℕ) (s : List ℕ) → 0 < lead → leadIs lead s ≡ eqb (getD s 0 0) lead
+lead-at lead [] h = sym (ne-eqb 0 lead (λ (e : 0 ≡ lead). omega arith))
+lead-at lead (b ∷ s) h = refl
+
+module _ (lead size : ℕ) (s : List ℕ) (some : 0 < lead) where
+  pub head-kind : (getD s 0 0 ≡ lead → ⊥) → refuses KIND 0 ≡ headTold lead size s
+  unfolding headTold
+  head-kind k = rw (lead-at lead s some, ne-eqb (getD s 0 0) lead k)
+
+  module _ (kind : getD s 0 0 ≡ lead) where
+    pub head-length : (length s ≡ size → ⊥) → refuses LENGTH 0 ≡ headTold lead size s
+    unfolding headTold
+    head-length l = rw (lead-at lead s some, eq-eqb (getD s 0 0) lead kind, ne-eqb (length s) size l)
+
+    module _ (long : length s ≡ size) where
+      pub head-end : (getD s (size - 1) 0 ≡ CR → ⊥) → refuses END 0 ≡ headTold lead size s
+      unfolding headTold
+      head-end e = rw (lead-at lead s some, eq-eqb (getD s 0 0) lead kind, eq-eqb (length s) size long, ne-eqb (getD s (size - 1) 0) CR e)
+
+      module _ (ended : getD s (size - 1) 0 ≡ CR) where
+        pub head-letter : (getD s 1 0 ≡ letterR → ⊥) → refuses ADDRESS 0 ≡ headTold lead size s
+        unfolding headTold
+        head-letter a =
+            rw (lead-at lead s some, eq-eqb (getD s 0 0) lead kind, eq-eqb (length s) size long, eq-eqb (getD s (size - 1) 0) CR ended, ne-eqb (getD s 1 0) letterR a)
+
+        module _ (letter : getD s 1 0 ≡ letterR) where
+          pub head-address : (getD s 2 0 ≡ 32 → ⊥) → refuses ADDRESS 0 ≡ headTold lead size s
+          unfolding headTold
+          head-address a =
+              rw (lead-at lead s some, eq-eqb (getD s 0 0) lead kind, eq-eqb (length s) size long, eq-eqb (getD s (size - 1) 0) CR ended, eq-eqb (getD s 1 0) letterR letter, ne-eqb (getD s 2 0) 32 a)
+
+          pub head-good : getD s 2 0 ≡ 32 → gives tt ≡ headTold lead size s
+          unfolding headTold
+          head-good a =
+              rw (lead-at lead s some, eq-eqb (getD s 0 0) lead kind, eq-eqb (length s) size long, eq-eqb (getD s (size - 1) 0) CR ended, eq-eqb (getD s 1 0) letterR letter, eq-eqb (getD s 2 0) 32 a)
+
+-- ---- the tests of writing
+
+module _ (wrong size room : ℕ) where
+  pub write-record : (wrong ≡ 0 → ⊥) → refuses RECORD wrong ≡ writeTried wrong size room
+  unfolding writeTried
+  write-record w = rw (ne-eqb wrong 0 w)
+
+  pub write-room : wrong ≡ 0 → room < size → refuses ROOM 0 ≡ writeTried wrong size room
+  unfolding writeTried
+  write-room w h = rw (eq-eqb wrong 0 w, lt-leb size room h)
+
+  pub write-done : wrong ≡ 0 → size ≤ room → gives tt ≡ writeTried wrong size room
+  unfolding writeTried
+  write-done w h = rw (eq-eqb wrong 0 w, le-leb size room h)

@@ -1,0 +1,5 @@
+pub mod HeadLaws
+pub mod LayoutLaws
+pub mod KindLaws
+pub mod RequestLaws
+pub mod Unique

@@ -1,0 +1,80 @@
+-- A kind of frame with its records of type R, and how it is read and written: lead byte, R, address, fields, CR.
+use Prim.Native.Nat.{ℕ, _-_}
+use mathlib.Core.List.{List, [], _∷_, _++_}
+use mathlib.Core.Bool.{Bool, true, false, _&&_}
+use mathlib.Core.Path.{_≡_}
+use lib.ListN.{length, getD, drop}
+use lib.Dec.{eqb, leb}
+use Rattle.digits.specs.Told.{Told, gives, refuses, tried}
+use Rattle.frames.specs.declared.refusals.WriteAnswer.{WriteAnswer}
+use Rattle.frames.specs.Refusals.{KIND, LENGTH, END, ADDRESS, FIELD, RECORD, ROOM, writeTold}
+use Rattle.frames.specs.Rules.{isAddress}
+use Rattle.frames.specs.Layout.{Layout, firstWrong, values, recordWrong, write}
+
+pub record Kind (R : Type 0) : Type 0 where
+  pub lead : ℕ
+  pub size : ℕ
+  pub fields : Layout
+  -- a record as the values of its parts, and the record with these values
+  pub valuesOf : R → List ℕ
+  pub ofValues : List ℕ → R
+
+abbrev pub letterR : ℕ
+letterR = 82
+
+abbrev pub CR : ℕ
+CR = 13
+
+-- ---- reading
+
+-- an empty frame has no lead byte
+abbrev pub leadIs : ℕ → List ℕ → Bool
+leadIs lead [] = false
+leadIs lead (b ∷ s) = eqb b lead
+
+-- the refusals that go by lead byte, length and frame marks, in their order
+unfoldable pub headTold : ℕ → ℕ → List ℕ → Told (Unit {0})
+headTold lead size s =
+    tried (leadIs lead s) KIND 0
+    (tried (eqb (length s) size) LENGTH 0
+    (tried (eqb (getD s (size - 1) 0) CR) END 0
+    (tried (eqb (getD s 1 0) letterR && isAddress (getD s 2 0)) ADDRESS 0
+    (gives tt))))
+
+module _ {A : Type 0} where
+  -- a refusal stands, and after none the rest is tried
+  abbrev pub andThen : Told (Unit {0}) → Told A → Told A
+  andThen (gives _) rest = rest
+  andThen (refuses number offset) rest = refuses number offset
+
+module _ {R : Type 0} (k : Kind R) where
+  -- the head, then the fields
+  unfoldable pub read : List ℕ → Told R
+  read s =
+      andThen (headTold (k .lead) (k .size) s)
+      (tried (eqb (firstWrong (k .fields) 3 s) 0) FIELD (firstWrong (k .fields) 3 s)
+      (gives (k .ofValues (values (k .fields) 3 s))))
+
+  -- ---- writing
+
+  -- the offset of a record's first wrong part, or 0 where it is well formed
+  unfoldable pub wrongIn : R → ℕ
+  wrongIn r = recordWrong (k .fields) (k .valuesOf r)
+
+  -- the frame of a record
+  unfoldable pub frameOf : R → List ℕ
+  frameOf r = k .lead ∷ letterR ∷ 32 ∷ (write (k .fields) (k .valuesOf r) ++ (CR ∷ []))
+
+-- the refusals of writing, in their order
+unfoldable pub writeTried : ℕ → ℕ → ℕ → Told (Unit {0})
+writeTried wrong size room = tried (eqb wrong 0) RECORD wrong (tried (leb size room) ROOM 0 (gives tt))
+
+-- an output after the writing of a frame: the frame in its first bytes, or no change
+abbrev pub outputAfter : Told (Unit {0}) → List ℕ → ℕ → List ℕ → List ℕ
+outputAfter (gives _) frame size out = frame ++ drop size out
+outputAfter (refuses number offset) frame size out = out
+
+-- what is promised of writing the record r to the output out: the answer, and every byte
+pub record Wrote {R : Type 0} (k : Kind R) (r : R) (out : List ℕ) (answer : WriteAnswer) (out′ : List ℕ) : Type 0 where
+  pub told : writeTold answer ≡ writeTried (wrongIn k r) (k .size) (length out)
+  pub bytes : out′ ≡ outputAfter (writeTried (wrongIn k r) (k .size) (length out)) (frameOf k r) (k .size) out
