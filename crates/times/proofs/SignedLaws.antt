@@ -42,14 +42,14 @@ mag-pick : (b : Bool) (x y : ℤ) (k : ℕ) → mag x ≤ k → mag y ≤ k → 
 mag-pick true x y k h g = h
 mag-pick false x y k h g = g
 
-module _ (a b : ℕ) (ha : a < 2 ^ 62) (hb : b < 2 ^ 62) where
+module _ (a b : ℕ) (ha : a < 2 ^ 63) (hb : b < 2 ^ 63) where
   pub machine-sub : toZ w64 a -ℤ toZ w64 b ≡ subℕ a b
   machine-sub = ap₂ (λ (x y : ℤ). x -ℤ y) (toZ-pos w64 a (omega arith)) (toZ-pos w64 b (omega arith)) ∙ pos-pos a b
 
   pub machine-fits : SFits w64 (toZ w64 a -ℤ toZ w64 b)
   machine-fits =
       subst (λ (z : ℤ). SFits w64 z) (sym machine-sub)
-      (record { sfits = omega (arith, mag-pick (ltb a b) (negsuc (b - suc a)) (pos (a - b)) (a + b) (omega arith) (omega arith)) })
+      (record { sfits = omega (arith, mag-pick (ltb a b) (negsuc (b - suc a)) (pos (a - b)) 9223372036854775807 (omega arith) (omega arith)) })
 
 -- ---- `apart`: a signed number's side of zero, and how far on it is
 

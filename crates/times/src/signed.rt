@@ -28,7 +28,7 @@ pub fn apart(v: i64) -> SignAndRest
 
 // a - b.
 pub fn diff(a: u64, b: u64) -> i64
-    requires { ⌜ (a < 2 ^ 62) × (b < 2 ^ 62) ⌝ }
+    requires { ⌜ (a < 2 ^ 63) × (b < 2 ^ 63) ⌝ }
     ensures { λ r. ⌜ r ≡ subℕ a b ⌝ }
 {
     (a as i64) - (b as i64)

@@ -1,0 +1,59 @@
+-- `cases::line::asks` is safe and ends. Assumes nothing.
+use Prim.Native.Nat.{_-_, _≤_}
+use borrow.Author.Needs.{needs}
+use Rattle.cases.proofs.line.asks.Statement.{statement}
+use Rattle.cases.proofs.line.asks.Tie as tie
+use lib.ListN.{length}
+
+abbrev Inv-loop : tie.InvT-loop
+Inv-loop s name i₀ i = i ≤ length name
+
+abbrev μ-loop : tie.MeasureT-loop
+μ-loop s name i₀ i = length name - i
+
+nth-word-requires : tie.Need-nth-word-requires Inv-loop μ-loop
+nth-word-requires c κs = search needs
+
+returns : tie.Need-returns Inv-loop μ-loop
+returns c = search needs
+
+loop-holds : tie.Need-loop-holds Inv-loop μ-loop
+loop-holds c = search needs
+
+byte-at-requires : tie.Need-byte-at-requires Inv-loop μ-loop
+byte-at-requires c κs = search needs
+
+shared-slice-read-if2 : tie.Need-shared-slice-read-if2 Inv-loop μ-loop
+shared-slice-read-if2 c = search needs
+
+returns-2 : tie.Need-returns-2 Inv-loop μ-loop
+returns-2 c = search needs
+
+add-i : tie.Need-add-i Inv-loop μ-loop
+add-i c = search needs
+
+loop-less : tie.Need-loop-less Inv-loop μ-loop
+loop-less c = search needs
+
+loop-again : tie.Need-loop-again Inv-loop μ-loop
+loop-again c = search needs
+
+returns-3 : tie.Need-returns-3 Inv-loop μ-loop
+returns-3 c = search needs
+
+pub asks-spec : {M : Type 1} → statement M
+asks-spec =
+    tie.close
+    (tie.spec
+    Inv-loop
+    μ-loop
+    nth-word-requires
+    returns
+    loop-holds
+    byte-at-requires
+    shared-slice-read-if2
+    returns-2
+    add-i
+    loop-less
+    loop-again
+    returns-3)
