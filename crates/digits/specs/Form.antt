@@ -1,6 +1,7 @@
 -- What a form is: how the value of a field stands in a frame.
 use Prim.Native.Nat.{ℕ, _+_, _≤_}
 use mathlib.Core.List.{List, [], _∷_, _++_}
+use mathlib.Core.Bool.{Bool, true}
 use mathlib.Core.Path.{_≡_}
 use lib.ListN.{length, getD, take, drop}
 use Rattle.digits.specs.declared.Number.{Number}
@@ -35,3 +36,8 @@ pub record Lawful (k : Form) : Type 0 where
   pub long : (v : ℕ) → length (k .put v) ≡ k .width
   pub local : (pre t post : List ℕ) → length t ≡ k .width → k .got (pre ++ t ++ post) (length pre) ≡ k .got t 0
   pub again : (s : List ℕ) (p v : ℕ) → p + k .width ≤ length s → k .got s p ≡ Is v → take (k .width) (drop p s) ≡ k .put v
+
+-- reading and writing are inverse: the form is lawful, and each good value is read back from its writing
+pub record Inverse (k : Form) (good : ℕ → Bool) : Type 0 where
+  pub lawful : Lawful k
+  pub back : (v : ℕ) → good v ≡ true → k .got (k .put v) 0 ≡ Is v

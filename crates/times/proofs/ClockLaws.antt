@@ -8,9 +8,9 @@ use lib.Dec.{leb}
 use borrow.Author.Tests.{leb-true, le-leb}
 use Rattle.digits.specs.declared.Number.{Number}
 use Rattle.digits.specs.declared.Number.the-variants.{Is, Wrong}
-use Rattle.digits.specs.Form.{Lawful, number, named, renamed}
+use Rattle.digits.specs.Form.{Lawful, Inverse, number, named, renamed}
 use Rattle.digits.proofs.Forms.{number-lawful, number-back, renamed-lawful}
-use Rattle.times.specs.Clock.{aDay, hours, minutes, seconds, fraction, ticksOf, clockNumber, clock}
+use Rattle.times.specs.Clock.{aDay, lastTick, isTime, hours, minutes, seconds, fraction, ticksOf, clockNumber, clock}
 
 -- what the ticks of HHMMSSdddd say of it
 record Time (n v : ℕ) : Type 0 where
@@ -56,7 +56,7 @@ number-again n v e =
     let q = split-ticks (hours n) (minutes n) (seconds n) (fraction n) (t .minute) (t .second) (omega arith) v (t .sum) in
     rw (q .0, q .1, q .2, q .3) (join-digits n)
 
-pub clock-lawful : Lawful clock
+clock-lawful : Lawful clock
 clock-lawful = renamed-lawful (number 10) ticksOf clockNumber number-again (number-lawful 10 (omega arith) (omega arith))
 
 time-of : (n h m s d : ℕ) → hours n ≡ h → minutes n ≡ m → seconds n ≡ s → fraction n ≡ d → h ≤ 23 → m ≤ 59 → s ≤ 59
@@ -78,6 +78,9 @@ ten-digits : (v : ℕ) → v < aDay → clockNumber v < 10 ^ 10
 unfolding clockNumber
 ten-digits v h = omega arith
 
--- ticks of a day come back
-pub clock-back : (v : ℕ) → v < aDay → clock .got (clock .put v) 0 ≡ Is v
+clock-back : (v : ℕ) → v < aDay → clock .got (clock .put v) 0 ≡ Is v
 clock-back v h = ap (named ticksOf) (number-back 10 (clockNumber v) (omega arith) (omega arith) (ten-digits v h)) ∙ ticks-again v h
+
+-- a time of day and its ticks, both ways
+pub clock-inverse : Inverse clock isTime
+clock-inverse = record { lawful = clock-lawful; back = λ v e. let h = leb-true v lastTick e in clock-back v (omega arith) }

@@ -14,20 +14,20 @@ use Rattle.times.specs.declared.net.NetValue.the-variants.{Is, Wrong as 
 use Rattle.times.specs.declared.net.NetShown.{NetShown}
 use Rattle.times.specs.declared.net.NetShown.the-variants.{As, Wrong as not-shown}
 use Rattle.times.specs.Clock.{aDay, lastTick}
-use Rattle.times.specs.Net.{signed, isNet, netSum, netValue, netApart, netShown, apartOf}
+use Rattle.times.specs.Net.{signed, isNet, netSum, netValue, netApart, netShown, NetInverse, apartOf}
 use Rattle.times.proofs.SignedLaws.{neg-mul, neg-pos, sub-none, sub-neg, sub-pos}
 
 -- ---- the sum as a difference
 
-pub sum-minus : (d t : ℕ) → netSum (record { minus = true; days = d; time = t }) ≡ subℕ t (d * aDay)
+sum-minus : (d t : ℕ) → netSum (record { minus = true; days = d; time = t }) ≡ subℕ t (d * aDay)
 sum-minus d t = ap (λ (z : ℤ). z +ℤ pos t) (neg-mul d aDay) ∙ neg-pos (d * aDay) t
 
-pub sum-plus : (d t : ℕ) → netSum (record { minus = false; days = d; time = t }) ≡ subℕ (d * aDay + t) 0
+sum-plus : (d t : ℕ) → netSum (record { minus = false; days = d; time = t }) ≡ subℕ (d * aDay + t) 0
 sum-plus d t = sym (sub-none (d * aDay + t))
 
 -- ---- a value is the sum of its parts
 
-pub sum-of-parts : (z : ℤ) → netSum (netApart z) ≡ z
+sum-of-parts : (z : ℤ) → netSum (netApart z) ≡ z
 sum-of-parts (pos n) = ap pos (omega arith)
 sum-of-parts (negsuc n) =
     sum-minus (n / aDay + 1) (lastTick - n % aDay) ∙ sub-neg (lastTick - n % aDay) ((n / aDay + 1) * aDay) n (omega arith)
@@ -37,7 +37,7 @@ sum-of-parts (negsuc n) =
 abbrev parts : Bool → ℕ → ℕ → NetParts
 parts m d t = record { minus = m; days = d; time = t }
 
-pub parts-of-sum : (m : Bool) (d t : ℕ) → t < aDay → (m ≡ true → 0 < d) → netApart (netSum (parts m d t)) ≡ parts m d t
+parts-of-sum : (m : Bool) (d t : ℕ) → t < aDay → (m ≡ true → 0 < d) → netApart (netSum (parts m d t)) ≡ parts m d t
 parts-of-sum true d t h q =
     let p = q refl in
     let k = d * aDay - t - 1 in
@@ -123,17 +123,20 @@ parts-are p e =
     some-days true d m n = let z = eqb-false d 0 (not-true (eqb d 0) n) in omega (arith, z)
     some-days false d m n = absurd (let z : _≡_ {A = ℕ} 0 1 = cc in omega arith)
 
-pub shown-of-value : (p : NetParts) → isNet p ≡ true → netShown (netSum p) ≡ As p
+shown-of-value : (p : NetParts) → isNet p ≡ true → netShown (netSum p) ≡ As p
 unfolding netShown
 shown-of-value p e =
     let a = parts-are p e in
     let s = parts-of-sum (p .minus) (p .days) (p .time) (a .0) (a .1) in
     rw (s, e)
 
-pub value-of-shown : (v : ℤ) (p : NetParts) → netShown v ≡ As p → netValue p ≡ Is v
+value-of-shown : (v : ℤ) (p : NetParts) → netShown v ≡ As p → netValue p ≡ Is v
 unfolding netShown netValue
 value-of-shown v p e = go (isNet (netApart v)) refl e
   where
     go : (t : Bool) → isNet (netApart v) ≡ t → cond t (As (netApart v)) not-shown ≡ As p → cond (isNet p) (Is (netSum p)) no-value ≡ Is v
     go true q r = let s : netApart v ≡ p = cc in rw (← s, q) (ap Is (sum-of-parts v))
     go false q r = absurd (let z : _≡_ {A = ℕ} 0 1 = cc in omega arith)
+
+pub net-inverse : NetInverse
+net-inverse = record { back = shown-of-value; again = value-of-shown }

@@ -7,7 +7,7 @@ use borrow.Author.Tests.{eq-eqb, ne-eqb}
 use Rattle.digits.specs.Told.{Told, gives, refuses}
 use Rattle.times.specs.declared.running.RunningOf.{RunningOf}
 use Rattle.times.specs.Clock.{aDay}
-use Rattle.times.specs.Running.{inRange, runningTime}
+use Rattle.times.specs.Running.{TIME, inRange, runningTime}
 use Rattle.times.proofs.SignedLaws.{pos-pos}
 
 take-plus : (n e m : ℕ) → (pos n -ℤ pos e) -ℤ pos m ≡ subℕ n (e + m)
@@ -21,7 +21,7 @@ take-minus n e m =
     ∙ sym (+ℤ-assoc (pos n) (pos m) (negℤ (pos e))) ∙ pos-pos (n + m) e
 
 module _ (o : RunningOf) where
-  pub out-of-range : inRange o ≡ false → refuses 8 0 ≡ runningTime o
+  pub out-of-range : inRange o ≡ false → refuses TIME 0 ≡ runningTime o
   unfolding runningTime
   out-of-range e = rw e
 

@@ -41,3 +41,7 @@ clockNumber v = ((v / 36000000 * 100 + v / 600000 % 60) * 100 + v / 10000 % 60) 
 -- ten digits, read and written as ticks
 abbrev pub clock : Form
 clock = renamed (number 10) ticksOf clockNumber
+
+-- the ticks of a day
+abbrev pub isTime : ℕ → Bool
+isTime v = leb v lastTick

@@ -1,6 +1,7 @@
 -- Net times: signed days and a time of day as one signed value in ticks.
 use Prim.Native.Nat.{ℕ, _+_, _-_, _*_, _/_, _%_}
 use mathlib.Core.Bool.{Bool, true, false, cond, not, _&&_}
+use mathlib.Core.Path.{_≡_}
 use lib.Dec.{eqb, leb}
 use lib.IntN.{ℤ, pos, negsuc, negℤ, _+ℤ_, _*ℤ_}
 use Rattle.times.specs.declared.signed.SignAndRest.{SignAndRest}
@@ -34,6 +35,11 @@ netApart (negsuc n) = record { minus = true; days = n / aDay + 1; time = lastTic
 
 unfoldable pub netShown : ℤ → NetShown
 netShown v = cond (isNet (netApart v)) (As (netApart v)) not-shown
+
+-- both ways: parts that a net reply can show are those that their value shows, and a value that can be shown is that of what shows it
+pub record NetInverse : Type 0 where
+  pub back : (p : NetParts) → isNet p ≡ true → netShown (netSum p) ≡ As p
+  pub again : (v : ℤ) (p : NetParts) → netShown v ≡ As p → netValue p ≡ Is v
 
 -- a signed number as the code takes it apart
 abbrev pub apartOf : ℤ → SignAndRest

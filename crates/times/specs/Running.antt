@@ -20,10 +20,13 @@ inRange o =
 abbrev pub taux : RunningOf → ℤ
 taux o = signed (eqb (o .sign) 1) (o .days * aDay + o .time)
 
--- TIME, number 8, is the only refusal
+-- the only refusal: Tnow, Tev or Taux out of range
+abbrev pub TIME : ℕ
+TIME = 8
+
 unfoldable pub runningTime : RunningOf → Told ℤ
-runningTime o = tried (inRange o) 8 0 (gives ((pos (o .tnow) -ℤ pos (o .tev)) -ℤ taux o))
+runningTime o = tried (inRange o) TIME 0 (gives ((pos (o .tnow) -ℤ pos (o .tev)) -ℤ taux o))
 
 abbrev pub runningTold : Running → Told ℤ
 runningTold (Ticks v) = gives v
-runningTold Time = refuses 8 0
+runningTold Time = refuses TIME 0
