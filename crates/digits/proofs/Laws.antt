@@ -10,7 +10,7 @@ use lib.Seq.{getD-at, take-suc, getD-drop}
 use Rattle.digits.specs.declared.Number.{Number}
 use Rattle.digits.specs.declared.Number.the-variants.{Is, Wrong}
 use Rattle.digits.specs.Digits.{digits, numberFrom, numberAt, isDigit, isWidth}
-use Rattle.digits.proofs.Reading.{inside, between, some-width, some-room}
+use Rattle.digits.proofs.Reading.{inside, between, some-width}
 use Rattle.digits.proofs.Writing.{length-digits}
 
 -- ---- a number's last digit, apart

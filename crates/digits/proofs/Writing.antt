@@ -1,5 +1,5 @@
 -- Runs of stores, and a number stored from its last digit. Assumes nothing.
-use Prim.Native.Nat.{ℕ, zero, suc, _+_, _-_, _*_, _/_, _%_, _≤_, _<_}
+use Prim.Native.Nat.{ℕ, zero, suc, _+_, _-_, _/_, _%_, _≤_, _<_}
 use mathlib.Core.List.{List, [], _∷_, _++_}
 use mathlib.Core.Path.{_≡_, refl, sym, ap, _∙_}
 use native.Mathlib.Omega.{arith}
@@ -7,7 +7,7 @@ use native.Mathlib.Nat.{add-zero, add-suc, suc-add}
 use native.Mathlib.Numerals.{add-one, sub-one}
 use lib.ListN.{length, set, length-append}
 use lib.Seq.{sets, set-comm}
-use Rattle.digits.specs.Digits.{digits, numberText, isWidth}
+use Rattle.digits.specs.Digits.{digits, numberText}
 use Rattle.digits.proofs.Reading.{inside, under, over}
 
 pub length-digits : (w n : ℕ) → length (digits w n) ≡ w

@@ -2,12 +2,11 @@
 use Prim.Native.Nat.{ℕ, suc, _+_, _-_, _≤_, _<_}
 use mathlib.Core.List.{List, [], _∷_, _++_}
 use mathlib.Core.Bool.{Bool, true, false, _&&_, and-eq-true-iff}
-use mathlib.Core.Logic.{_↔_}
 use mathlib.Core.Path.{_≡_, refl, sym, ap, _∙_}
 use native.Mathlib.Omega.{arith}
 use native.Mathlib.Nat.{zero-add}
 use lib.Dec.{eqb, leb}
-use borrow.Author.Tests.{eq-eqb, eqb-true, leb-true}
+use borrow.Author.Tests.{eqb-true, leb-true}
 use lib.ListN.{length, getD, take, drop, length-append}
 use lib.Seq.{getD-at, take-at, take-suc, take-all, sets, sets-eq}
 use Rattle.digits.specs.Told.{Told, gives, refuses, tried}
@@ -17,10 +16,10 @@ use Rattle.frames.specs.declared.refusals.WriteRefusal.{WriteRefusal}
 use Rattle.frames.specs.declared.refusals.WriteRefusal.the-variants.{Record, Room}
 use Rattle.frames.specs.declared.refusals.WriteAnswer.{WriteAnswer}
 use Rattle.frames.specs.declared.refusals.WriteAnswer.the-variants.{Written, Refused}
-use Rattle.frames.specs.Refusals.{FIELD, RECORD, ROOM, readRefused, writeTold}
-use Rattle.frames.specs.Layout.{Layout, firstWrong, values, recordWrong, write, Sound}
-use Rattle.frames.specs.Kind.{Kind, leadIs, letterR, CR, headTold, andThen, read, wrongIn, frameOf, writeTried, outputAfter, Wrote}
-use Rattle.frames.specs.Demand2.{outputOf, Faithful}
+use Rattle.frames.specs.Refusals.{FIELD, readRefused, writeTold}
+use Rattle.frames.specs.Layout.{firstWrong, values, write, Sound}
+use Rattle.frames.specs.Kind.{Kind, leadIs, letterR, CR, headTold, andThen, read, wrongIn, frameOf, writeTried, Wrote}
+use Rattle.frames.specs.Demand2.{Faithful}
 use Rattle.frames.specs.declared.core.Head.{Head}
 use Rattle.frames.specs.declared.core.Head.the-variants.{Good, Bad}
 use Rattle.frames.specs.Inside.{held, headSays}
@@ -64,19 +63,25 @@ whole-frame lead n (x ∷ y ∷ z ∷ t) p =
     let e : getD (x ∷ y ∷ z ∷ t) (suc (suc (suc n))) 0 ≡ CR = rw i at (p .last) in
     rw (with-last t n CR (omega arith) e, ← p .first, ← p .letter, ← p .address)
 
--- ---- a kind whose layout is sound over n bytes, and whose records are the values of its fields
+-- ---- a kind whose layout is sound, and whose records are the values of its fields
 
-module _ {R : Type 0} (k : Kind R) (n : ℕ) (sound : Sound (k .fields) n) (size : k .size ≡ n + 4) (some : 0 < k .lead)
-    (Whole : R → Type 0) (back : (r : R) → Whole r → k .ofValues (k .valuesOf r) ≡ r)
-    (whole : (s : List ℕ) → Whole (k .ofValues (values (k .fields) 3 s)))
-    (again : (s : List ℕ) → k .valuesOf (k .ofValues (values (k .fields) 3 s)) ≡ values (k .fields) 3 s) where
+pub record SoundKind {R : Type 0} (k : Kind R) (Whole : R → Type 0) : Type 0 where
+  pub bytes : ℕ
+  pub sound : Sound (k .fields) bytes
+  pub size : k .size ≡ bytes + 4
+  pub some : 0 < k .lead
+  pub back : (r : R) → Whole r → k .ofValues (k .valuesOf r) ≡ r
+  pub whole : (s : List ℕ) → Whole (k .ofValues (values (k .fields) 3 s))
+  pub again : (s : List ℕ) → k .valuesOf (k .ofValues (values (k .fields) 3 s)) ≡ values (k .fields) 3 s
+
+module _ {R : Type 0} {k : Kind R} {Whole : R → Type 0} (g : SoundKind k Whole) where
   pub length-frame : (r : R) → wrongIn k r ≡ 0 → length (frameOf k r) ≡ k .size
   unfolding wrongIn frameOf
   length-frame r e =
-      size-of (omega (arith, length-append (write (k .fields) (k .valuesOf r)) (CR ∷ []), length-write (k .fields) n (k .valuesOf r) sound e))
+      size-of (omega (arith, length-append (write (k .fields) (k .valuesOf r)) (CR ∷ []), length-write (g .sound) (k .valuesOf r) e))
     where
-      size-of : {m : ℕ} → m ≡ n + 4 → m ≡ k .size
-      size-of q = q ∙ sym size
+      size-of : {m : ℕ} → m ≡ g .bytes + 4 → m ≡ k .size
+      size-of q = q ∙ sym (g .size)
 
   -- a well formed record's frame is read as that record
   pub frame-back : (r : R) → Whole r → wrongIn k r ≡ 0 → read k (frameOf k r) ≡ gives r
@@ -84,11 +89,11 @@ module _ {R : Type 0} (k : Kind R) (n : ℕ) (sound : Sound (k .fields) n) (size
   frame-back r w e =
       let vs = k .valuesOf r in
       let s = frameOf k r in
-      let q = written-reads (k .fields) n vs (k .lead ∷ letterR ∷ 32 ∷ []) (CR ∷ []) s 3 sound e refl refl in
-      let l = length-write (k .fields) n vs sound e in
+      let q = written-reads (g .sound) vs (k .lead ∷ letterR ∷ 32 ∷ []) (CR ∷ []) s 3 e refl refl in
+      let l = length-write (g .sound) vs e in
       let long : length s ≡ k .size = length-frame r e in
-      let last : getD s (k .size - 1) 0 ≡ CR = getD-at (k .lead ∷ letterR ∷ 32 ∷ write (k .fields) vs) CR [] 0 (k .size - 1) (omega (arith, size)) in
-      rw (← head-good (k .lead) (k .size) s some refl long last refl refl, q .wrong, q .same, back r w)
+      let last : getD s (k .size - 1) 0 ≡ CR = getD-at (k .lead ∷ letterR ∷ 32 ∷ write (k .fields) vs) CR [] 0 (k .size - 1) (omega (arith, g .size)) in
+      rw (← head-good (k .lead) (k .size) s (g .some) refl long last refl refl, q .wrong, q .same, g .back r w)
 
   -- an accepted frame is that of a well formed record, which is whole
   pub record Own (s : List ℕ) (r : R) : Type 0 where
@@ -102,12 +107,12 @@ module _ {R : Type 0} (k : Kind R) (n : ℕ) (sound : Sound (k .fields) n) (size
       let h = then-gives (headTold (k .lead) (k .size) s) _ r e in
       let f = tried-gives (eqb (firstWrong (k .fields) 3 s) 0) _ _ _ r (h .1) in
       let is : k .ofValues (values (k .fields) 3 s) ≡ r = let g = f .1 in cc in
-      let p : Passed (k .lead) (n + 4) s = rw size at (passed (k .lead) (k .size) s (h .0)) in
-      let w = reads-write (k .fields) n 3 s sound (let l = p .long in omega arith) (eqb-true _ _ (f .0)) in
+      let p : Passed (k .lead) (g .bytes + 4) s = rw (g .size) at (passed (k .lead) (k .size) s (h .0)) in
+      let w = reads-write (g .sound) 3 s (let l = p .long in omega arith) (eqb-true _ _ (f .0)) in
       record {
-        has = rw (← is) (whole s);
-        fine = rw (← is, again s) (w .fine);
-        bytes = rw (← is, again s, w .text) (whole-frame (k .lead) n s p);
+        has = rw (← is) (g .whole s);
+        fine = rw (← is, g .again s) (w .fine);
+        bytes = rw (← is, g .again s, w .text) (whole-frame (k .lead) (g .bytes) s p);
       }
 
   room-enough : (r : R) → wrongIn k r ≡ 0 → (out : List ℕ) → k .size ≤ length out → gives tt ≡ writeTried (wrongIn k r) (k .size) (length out)
@@ -139,12 +144,12 @@ module _ {R : Type 0} (k : Kind R) (n : ℕ) (sound : Sound (k .fields) n) (size
         → tried (eqb (wrongIn k r) 0) FIELD (wrongIn k r) (gives r) ≡ tried (eqb (firstWrong (k .fields) 3 s) 0) FIELD (firstWrong (k .fields) 3 s) (gives (k .ofValues (values (k .fields) 3 s)))
     unfolding wrongIn
     fields-told r is =
-        let a = as-held (k .fields) n 3 s sound none in
+        let a = as-held (g .sound) 3 s none in
         rw (is, says s, ← a .wrong) (by-wrong (eqb (firstWrong (k .fields) 3 s) 0) refl)
       where
         by-wrong : (t : Bool) → eqb (firstWrong (k .fields) 3 s) 0 ≡ t
             → tried t FIELD (firstWrong (k .fields) 3 s) (gives (k .ofValues (held (k .fields) 3 s))) ≡ tried t FIELD (firstWrong (k .fields) 3 s) (gives (k .ofValues (values (k .fields) 3 s)))
-        by-wrong true q = let a = as-held (k .fields) n 3 s sound none in rw (a .same (eqb-true _ _ q))
+        by-wrong true q = let a = as-held (g .sound) 3 s none in rw (a .same (eqb-true _ _ q))
         by-wrong false q = refl
 
     pub read-fields : (h : Head) (r : R) (t : Told R) → h ≡ Good → headSays h ≡ headTold (k .lead) (k .size) s → r ≡ k .ofValues (held (k .fields) 3 s) → t ≡ tried (eqb (wrongIn k r) 0) FIELD (wrongIn k r) (gives r) → t ≡ read k s

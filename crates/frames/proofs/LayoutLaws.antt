@@ -1,18 +1,19 @@
 -- The fields, once over every sound layout: what is written is read, what is read was written so, and a frame's wrong field is that of the values that the code holds. Assumes nothing.
-use Prim.Native.Nat.{ℕ, zero, suc, _+_, _-_, _≤_, _<_}
+use Prim.Native.Nat.{ℕ, zero, suc, _+_, _-_, _^_, _≤_, _<_}
 use mathlib.Core.List.{List, [], _∷_, _++_, append-assoc}
 use mathlib.Core.Bool.{Bool, true, false, _&&_, and-eq-true-iff}
 use mathlib.Core.Path.{_≡_, refl, sym, ap, _∙_}
 use native.Mathlib.Omega.{arith}
-use lib.Dec.{eqb}
+use lib.Dec.{T, eqb, leb, ltb, leb→le, ltb→lt}
 use borrow.Author.Tests.{eqb-true}
 use lib.ListN.{length, take, drop, replicate, length-append}
 use lib.Seq.{take-add, drop-drop}
 use Rattle.digits.specs.declared.Number.{Number}
 use Rattle.digits.specs.declared.Number.the-variants.{Is, Wrong}
-use Rattle.digits.specs.Form.{Form, Lawful}
-use Rattle.frames.specs.Layout.{Layout, field, end, holds, valueOf, unless, firstWrong, values, zeros, recordWrong, write, Sound}
-use Rattle.frames.specs.Inside.{orNone, held}
+use Rattle.digits.specs.Form.{Form, byte, number}
+use Rattle.digits.proofs.Forms.{byte-lawful, number-lawful, number-back}
+use Rattle.frames.specs.Layout.{Layout, field, end, holds, valueOf, unless, firstWrong, values, zeros, recordWrong, write, Sound, field-sound, end-sound}
+use Rattle.frames.specs.Inside.{held}
 
 -- ---- tests that came out well
 
@@ -27,6 +28,10 @@ record Kept (rule : ℕ → Bool) (x : Number) : Type 0 where
 kept : (rule : ℕ → Bool) (x : Number) → holds rule x ≡ true → Kept rule x
 kept rule (Is v) e = record { is = refl; good = e }
 kept rule Wrong e = absurd (let z : _≡_ {A = ℕ} 0 1 = cc in omega arith)
+
+both : (a b : Bool) → T (a && b) → T a × T b
+both true b t = (tt, t)
+both false b t = absurd t
 
 -- ---- the parts that are not used
 
@@ -48,28 +53,27 @@ pub record Reads (L : Layout) (p : ℕ) (s : List ℕ) (vs : List ℕ) : Type 0 
   pub wrong : firstWrong L p s ≡ 0
   pub same : values L p s ≡ vs
 
-pub written-reads : (L : Layout) (n : ℕ) (vs pre post s : List ℕ) (p : ℕ) → Sound L n → recordWrong L vs ≡ 0 → s ≡ pre ++ write L vs ++ post → p ≡ length pre → Reads L p s vs
+pub written-reads : {L : Layout} {n : ℕ} → Sound L n → (vs pre post s : List ℕ) (p : ℕ) → recordWrong L vs ≡ 0 → s ≡ pre ++ write L vs ++ post → p ≡ length pre → Reads L p s vs
 unfolding firstWrong values write recordWrong
-written-reads (field at form rule next) n [] pre post s p f e is here = absurd (let h = f .0 in omega arith)
-written-reads (field at form rule next) n (v ∷ vs) pre post s p f e is here =
-    let q = unless-none (rule v) at (recordWrong (next v) vs) (f .0) e in
-    let g = f .3 v (q .0) in
+written-reads (field-sound some fits inverse rest) [] pre post s p e is here = absurd (omega arith)
+written-reads (field-sound {at} {n} {form} {rule} {next} some fits inverse rest) (v ∷ vs) pre post s p e is here =
+    let q = unless-none (rule v) at (recordWrong (next v) vs) some e in
     let is′ : s ≡ pre ++ form .put v ++ (write (next v) vs ++ post) = is ∙ simp append-assoc in
-    let got : form .got s p ≡ Is v = rw (is′, here) (f .2 .local pre (form .put v) (write (next v) vs ++ post) (f .2 .long v) ∙ g .0) in
-    let r = written-reads (next v) (n - form .width) vs (pre ++ form .put v) post s (p + form .width) (g .1) (q .1) (is ∙ simp append-assoc)
-    (rw (length-append, f .2 .long v, here)) in
+    let got : form .got s p ≡ Is v = rw (is′, here) (inverse .lawful .local pre (form .put v) (write (next v) vs ++ post) (inverse .lawful .long v) ∙ inverse .back v (q .0)) in
+    let r = written-reads (rest v (q .0)) vs (pre ++ form .put v) post s (p + form .width) (q .1) (is ∙ simp append-assoc)
+    (rw (length-append, inverse .lawful .long v, here)) in
     record { wrong = rw (got, q .0) (r .wrong); same = rw got (ap (λ (l : List ℕ). v ∷ l) (r .same)) }
-written-reads (end cr unused) n vs pre post s p f e is here =
-    record { wrong = refl; same = zeros-are unused vs (unless-none (zeros unused vs) cr 0 (f .0) e .0) }
+written-reads (end-sound {cr} {unused} some) vs pre post s p e is here =
+    record { wrong = refl; same = zeros-are unused vs (unless-none (zeros unused vs) cr 0 some e .0) }
 
-pub length-write : (L : Layout) (n : ℕ) (vs : List ℕ) → Sound L n → recordWrong L vs ≡ 0 → length (write L vs) ≡ n
+pub length-write : {L : Layout} {n : ℕ} → Sound L n → (vs : List ℕ) → recordWrong L vs ≡ 0 → length (write L vs) ≡ n
 unfolding write recordWrong
-length-write (field at form rule next) n [] f e = absurd (let h = f .0 in omega arith)
-length-write (field at form rule next) n (v ∷ vs) f e =
-    let q = unless-none (rule v) at (recordWrong (next v) vs) (f .0) e in
-    let l = length-write (next v) (n - form .width) vs (f .3 v (q .0) .1) (q .1) in
-    length-append (form .put v) (write (next v) vs) ∙ omega (arith, f .2 .long v, f .1)
-length-write (end cr unused) n vs f e = sym (f .1)
+length-write (field-sound some fits inverse rest) [] e = absurd (omega arith)
+length-write (field-sound {at} {n} {form} {rule} {next} some fits inverse rest) (v ∷ vs) e =
+    let q = unless-none (rule v) at (recordWrong (next v) vs) some e in
+    let l = length-write (rest v (q .0)) vs (q .1) in
+    length-append (form .put v) (write (next v) vs) ∙ omega (arith, inverse .lawful .long v)
+length-write (end-sound some) vs e = refl
 
 -- ---- what is read was written so
 
@@ -82,46 +86,67 @@ join n a p s x y h e q =
     let split : n ≡ a + (n - a) = omega arith in
     sym (ap (λ (m : ℕ). take m (drop p s)) split ∙ take-add a (n - a) (drop p s) ∙ rw (drop-drop a p s, e, q))
 
-pub reads-write : (L : Layout) (n p : ℕ) (s : List ℕ) → Sound L n → p + n ≤ length s → firstWrong L p s ≡ 0 → Writes L p s n
+pub reads-write : {L : Layout} {n : ℕ} → Sound L n → (p : ℕ) (s : List ℕ) → p + n ≤ length s → firstWrong L p s ≡ 0 → Writes L p s n
 unfolding firstWrong values write recordWrong
-reads-write (field at form rule next) n p s f h e =
-    let q = unless-none (holds rule (form .got s p)) at (firstWrong (next (valueOf (form .got s p))) (p + form .width) s) (f .0) e in
+reads-write (field-sound {at} {n} {form} {rule} {next} some fits inverse rest) p s h e =
+    let q = unless-none (holds rule (form .got s p)) at (firstWrong (next (valueOf (form .got s p))) (p + form .width) s) some e in
     let g = kept rule (form .got s p) (q .0) in
     let v = valueOf (form .got s p) in
-    let d = f .3 v (g .good) in
-    let w = f .1 in
-    let r = reads-write (next v) (n - form .width) (p + form .width) s (d .1) (omega arith) (q .1) in
+    let r = reads-write (rest v (g .good)) (p + form .width) s (omega arith) (q .1) in
     record {
       fine = rw (g .good) (r .fine);
-      text = join n (form .width) p s _ _ w (f .2 .again s p v (omega arith) (g .is)) (sym (r .text));
+      text = join n (form .width) p s _ _ fits (inverse .lawful .again s p v (omega arith) (g .is)) (sym (r .text));
     }
-reads-write (end cr unused) n p s f h e = record { fine = rw (zeros-replicate unused); text = rw (f .1) }
+reads-write (end-sound {cr} {unused} some) p s h e = record { fine = rw (zeros-replicate unused); text = refl }
 
 -- ---- the values that the code holds: it checks a frame as it checks a record
 
 -- no rule takes what stands for no number
-abbrev pub NoneRefused : Layout → Type 0
-NoneRefused (field at form rule next) = (rule 4294967295 ≡ false) × ((v : ℕ) → rule v ≡ true → NoneRefused (next v))
-NoneRefused (end cr unused) = Unit {0}
+pub data NoneRefused : Layout → Type 0 where
+  none-field : {at : ℕ} {form : Form} {rule : ℕ → Bool} {next : ℕ → Layout}
+      → rule 4294967295 ≡ false → ((v : ℕ) → rule v ≡ true → NoneRefused (next v)) → NoneRefused (field at form rule next)
+  none-end : {cr unused : ℕ} → NoneRefused (end cr unused)
 
 pub record AsHeld (L : Layout) (p : ℕ) (s : List ℕ) : Type 0 where
   pub wrong : firstWrong L p s ≡ recordWrong L (held L p s)
   pub same : firstWrong L p s ≡ 0 → values L p s ≡ held L p s
 
-pub as-held : (L : Layout) (n p : ℕ) (s : List ℕ) → Sound L n → NoneRefused L → AsHeld L p s
+pub as-held : {L : Layout} {n : ℕ} → Sound L n → (p : ℕ) (s : List ℕ) → NoneRefused L → AsHeld L p s
 unfolding firstWrong values recordWrong held
-as-held (field at form rule next) n p s f r =
-    by-number (λ v q. as-held (next v) (n - form .width) (p + form .width) s (f .3 v q .1) (r .1 v q)) (form .got s p) refl
+as-held (field-sound {at} {n} {form} {rule} {next} some fits inverse rest) p s (none-field none later) =
+    by-number (λ v q. as-held (rest v q) (p + form .width) s (later v q)) (form .got s p) refl
   where
     by-rule : ((v : ℕ) → rule v ≡ true → AsHeld (next v) (p + form .width) s) → (v : ℕ) (t : Bool) → form .got s p ≡ Is v → rule v ≡ t → AsHeld (field at form rule next) p s
-    by-rule rest v true e q =
-        let a = rest v q in
+    by-rule more v true e q =
+        let a = more v q in
         record { wrong = rw (e, q) (a .wrong); same = λ z. rw e (ap (λ (l : List ℕ). v ∷ l) (a .same (rw (e, q) at z))) }
-    by-rule rest v false e q =
-        record { wrong = rw (e, q); same = λ z. absurd (let y : at ≡ 0 = rw (e, q) at z in let h = f .0 in omega arith) }
+    by-rule more v false e q = record { wrong = rw (e, q); same = λ z. absurd (let y : at ≡ 0 = rw (e, q) at z in omega arith) }
 
     by-number : ((v : ℕ) → rule v ≡ true → AsHeld (next v) (p + form .width) s) → (x : Number) → form .got s p ≡ x → AsHeld (field at form rule next) p s
-    by-number rest (Is v) e = by-rule rest v (rule v) e refl
-    by-number rest Wrong e =
-        record { wrong = rw (e, r .0); same = λ z. absurd (let y : at ≡ 0 = rw e at z in let h = f .0 in omega arith) }
-as-held (end cr unused) n p s f r = record { wrong = rw (zeros-replicate unused); same = λ z. refl }
+    by-number more (Is v) e = by-rule more v (rule v) e refl
+    by-number more Wrong e = record { wrong = rw (e, none); same = λ z. absurd (let y : at ≡ 0 = rw e at z in omega arith) }
+as-held (end-sound {cr} {unused} some) p s none-end = record { wrong = rw (zeros-replicate unused); same = λ z. refl }
+
+-- ---- sound fields, and at a field of digits the rule's highest value
+
+module _ {at n : ℕ} {rule : ℕ → Bool} {next : ℕ → Layout} where
+  pub byte-sound : T (ltb 0 at && leb 1 n) → ((v : ℕ) → rule v ≡ true → Sound (next v) (n - 1)) → Sound (field at byte rule next) n
+  byte-sound t rest =
+      let q = both (ltb 0 at) (leb 1 n) t in
+      field-sound (ltb→lt 0 at (q .0)) (leb→le 1 n (q .1)) (record { lawful = byte-lawful; back = λ v h. refl }) rest
+
+  pub number-sound : (w hi : ℕ) → T (ltb 0 at && leb w n && (leb 1 w && leb w 10) && ltb hi (10 ^ w)) → ((v : ℕ) → rule v ≡ true → v ≤ hi)
+      → ((v : ℕ) → rule v ≡ true → Sound (next v) (n - w)) → Sound (field at (number w) rule next) n
+  number-sound w hi t below rest =
+      let a = both (ltb 0 at && leb w n && (leb 1 w && leb w 10)) (ltb hi (10 ^ w)) t in
+      let b = both (ltb 0 at && leb w n) (leb 1 w && leb w 10) (a .0) in
+      let c = both (ltb 0 at) (leb w n) (b .0) in
+      let d = both (leb 1 w) (leb w 10) (b .1) in
+      let least = leb→le 1 w (d .0) in
+      let most = leb→le w 10 (d .1) in
+      field-sound (ltb→lt 0 at (c .0)) (leb→le w n (c .1))
+      (record {
+        lawful = number-lawful w least most;
+        back = λ v h. let k = below v h in let l = ltb→lt hi (10 ^ w) (a .1) in number-back w v least most (omega arith);
+      })
+      rest

@@ -1,4 +1,5 @@
 pub mod HeadLaws
+pub mod RuleLaws
 pub mod LayoutLaws
 pub mod KindLaws
 pub mod RequestLaws

@@ -1,8 +1,8 @@
 -- The static request: its layout is sound, and so what is demanded of it holds. Assumes nothing.
-use Prim.Native.Nat.{ℕ, _+_, _≤_, _<_}
-use mathlib.Core.List.{List, [], _∷_, _++_, append-assoc}
-use mathlib.Core.Bool.{Bool, true, false, _||_}
-use mathlib.Core.Path.{_≡_, refl, sym, ap, _∙_}
+use Prim.Native.Nat.{ℕ, _≤_}
+use mathlib.Core.List.{List, [], _∷_, append-assoc}
+use mathlib.Core.Bool.{true}
+use mathlib.Core.Path.{_≡_, refl}
 use native.Mathlib.Omega.{arith}
 use borrow.Author.Tests.{leb-true, eqb-true}
 use lib.Dec.{leb, eqb}
@@ -10,11 +10,10 @@ use lib.ListN.{length, set}
 use lib.Seq.{sets}
 use Rattle.digits.specs.Text.{oneOf}
 use Rattle.digits.specs.Digits.{digits}
-use Rattle.digits.proofs.Forms.{byte-lawful, number-lawful, number-back}
 use Rattle.digits.proofs.Writing.{sets-append, length-digits}
 use Rattle.frames.specs.declared.request.StaticRequest.{StaticRequest}
 use Rattle.frames.specs.Rules.{between, upTo, isRequester, isOutput}
-use Rattle.frames.specs.Layout.{Sound, values, write}
+use Rattle.frames.specs.Layout.{Sound, end-sound, values, write}
 use Rattle.digits.specs.Told.{Told, gives, tried}
 use Rattle.frames.specs.Refusals.{FIELD}
 use Rattle.frames.specs.Kind.{headTold, read, wrongIn, frameOf}
@@ -23,16 +22,10 @@ use Rattle.frames.specs.declared.core.Head.{Head}
 use Rattle.frames.specs.declared.core.Head.the-variants.{Good}
 use Rattle.frames.specs.Inside.{held, headSays}
 use Rattle.frames.specs.Request.{isInformation, isChannel, requestFields, request}
-use Rattle.frames.proofs.LayoutLaws.{NoneRefused}
+use Rattle.frames.proofs.RuleLaws.{up-to, or-cases}
+use Rattle.frames.proofs.LayoutLaws.{NoneRefused, none-field, none-end, byte-sound, number-sound}
 use Rattle.frames.proofs.KindLaws as K
-
-up-to : (hi v : ℕ) → upTo hi v ≡ true → v ≤ hi
-unfolding upTo
-up-to hi v e = leb-true v hi e
-
-or-cases : (a b : Bool) (P : Type 0) → (a ≡ true → P) → (b ≡ true → P) → (a || b) ≡ true → P
-or-cases true b P f g e = f refl
-or-cases false b P f g e = g e
+use Rattle.frames.proofs.KindLaws.{SoundKind, faithful, length-frame}
 
 channel-bound : (v : ℕ) → isChannel v ≡ true → v ≤ 255
 unfolding isChannel
@@ -45,75 +38,29 @@ channel-bound v e =
 
 sound : Sound requestFields 20
 unfolding requestFields
-sound = (
-  omega arith,
-  omega arith,
-  byte-lawful,
-  λ v h. (
-    refl,
-    (
-      omega arith,
-      omega arith,
-      number-lawful 3 (omega arith) (omega arith),
-      λ v h. (
-        number-back 3 v (omega arith) (omega arith) (omega (arith, up-to 999 v h)),
-        (
-          omega arith,
-          omega arith,
-          number-lawful 5 (omega arith) (omega arith),
-          λ v h. (
-            number-back 5 v (omega arith) (omega arith) (omega (arith, up-to 59999 v h)),
-            (
-              omega arith,
-              omega arith,
-              byte-lawful,
-              λ v h. (
-                refl,
-                (
-                  omega arith,
-                  omega arith,
-                  number-lawful 3 (omega arith) (omega arith),
-                  λ v h. (
-                    number-back 3 v (omega arith) (omega arith) (omega (arith, channel-bound v h)),
-                    (
-                      omega arith,
-                      omega arith,
-                      number-lawful 3 (omega arith) (omega arith),
-                      λ v h. (
-                        number-back 3 v (omega arith) (omega arith) (omega (arith, up-to 250 v h)),
-                        (
-                          omega arith,
-                          omega arith,
-                          number-lawful 3 (omega arith) (omega arith),
-                          λ v h. (
-                            number-back 3 v (omega arith) (omega arith) (omega (arith, up-to 199 v h)),
-                            (
-                              omega arith,
-                              omega arith,
-                              byte-lawful,
-                              λ v h. (
-                                refl,
-                                (omega arith, refl),
-                              ),
-                            ),
-                          ),
-                        ),
-                      ),
-                    ),
-                  ),
-                ),
-              ),
-            ),
-          ),
-        ),
-      ),
-    ),
-  ),
-)
+sound =
+    byte-sound tt λ _ _.
+    number-sound 3 999 tt (up-to 999) λ _ _.
+    number-sound 5 59999 tt (up-to 59999) λ _ _.
+    byte-sound tt λ _ _.
+    number-sound 3 255 tt channel-bound λ _ _.
+    number-sound 3 250 tt (up-to 250) λ _ _.
+    number-sound 3 199 tt (up-to 199) λ _ _.
+    byte-sound tt λ _ _.
+    end-sound (omega arith)
 
 none-refused : NoneRefused requestFields
 unfolding requestFields isRequester between upTo isInformation isChannel isOutput oneOf
-none-refused = (refl, λ v h. (refl, λ v h. (refl, λ v h. (refl, λ v h. (refl, λ v h. (refl, λ v h. (refl, λ v h. (refl, λ v h. tt))))))))
+none-refused =
+    none-field refl λ _ _.
+    none-field refl λ _ _.
+    none-field refl λ _ _.
+    none-field refl λ _ _.
+    none-field refl λ _ _.
+    none-field refl λ _ _.
+    none-field refl λ _ _.
+    none-field refl λ _ _.
+    none-end
 
 -- a record without arrays is whole
 abbrev Whole : StaticRequest → Type 0
@@ -127,18 +74,29 @@ held-again : (s : List ℕ) → request .valuesOf (request .ofValues (held reque
 unfolding requestFields held
 held-again s = refl
 
--- the promise of document 01's second demand, for the static request
+request-sound : SoundKind request Whole
+request-sound = record {
+  bytes = 20;
+  sound = sound;
+  size = refl;
+  some = omega arith;
+  back = λ r w. refl;
+  whole = λ s. tt;
+  again = values-again;
+}
+
+-- what is demanded of reading and writing holds of the static request
 pub request-faithful : Faithful request Whole
-request-faithful = K.faithful request 20 sound refl (omega arith) Whole (λ r w. refl) (λ s. tt) values-again
+request-faithful = faithful request-sound
 
 pub length-request : (r : StaticRequest) → wrongIn request r ≡ 0 → length (frameOf request r) ≡ 24
-length-request r e = K.length-frame request 20 sound refl (omega arith) Whole (λ r w. refl) (λ s. tt) values-again r e
+length-request = length-frame request-sound
 
 -- ---- what the code's steps come to
 
 pub read-fields : (s : List ℕ) (h : Head) (r : StaticRequest) (t : Told StaticRequest) → h ≡ Good → headSays h ≡ headTold 17 24 s → r ≡ request .ofValues (held requestFields 3 s)
     → t ≡ tried (eqb (wrongIn request r) 0) FIELD (wrongIn request r) (gives r) → t ≡ read request s
-read-fields s = K.read-fields request 20 sound refl (omega arith) Whole (λ r w. refl) (λ s. tt) values-again none-refused s held-again
+read-fields s = K.read-fields request-sound none-refused s held-again
 
 -- the stores of a frame, one after the other, are one run
 pub stores-frame : (r : StaticRequest) (l : List ℕ) →

@@ -4,7 +4,7 @@ use mathlib.Core.List.{List, _++_}
 use mathlib.Core.Logic.{_↔_}
 use mathlib.Core.Path.{_≡_}
 use lib.ListN.{length, take, drop}
-use Rattle.digits.specs.Told.{Told, gives, refuses}
+use Rattle.digits.specs.Told.{gives, refuses}
 use Rattle.frames.specs.Kind.{Kind, read, wrongIn, frameOf, writeTried, outputAfter}
 
 -- the output after writing r to out

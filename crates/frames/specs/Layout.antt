@@ -7,7 +7,7 @@ use lib.ListN.{replicate}
 use lib.Dec.{eqb}
 use Rattle.digits.specs.declared.Number.{Number}
 use Rattle.digits.specs.declared.Number.the-variants.{Is, Wrong}
-use Rattle.digits.specs.Form.{Form, Lawful}
+use Rattle.digits.specs.Form.{Form, Inverse}
 
 pub data Layout : Type 0 where
   -- offset, form, rule on the value, and what follows a value
@@ -63,9 +63,11 @@ write (field at form rule next) [] = []
 write (field at form rule next) (v ∷ vs) = form .put v ++ write (next v) vs
 write (end cr unused) vs = []
 
--- ---- what makes a layout sound: no offset is 0, each form is lawful, each value that keeps its rule can be read back from its writing, and the widths add up to n
-abbrev pub Sound : Layout → ℕ → Type 0
-Sound (field at form rule next) n =
-    (0 < at) × (form .width ≤ n) × Lawful form
-    × ((v : ℕ) → rule v ≡ true → (form .got (form .put v) 0 ≡ Is v) × Sound (next v) (n - form .width))
-Sound (end cr unused) n = (0 < cr) × (n ≡ 0)
+-- ---- what makes a layout sound over n bytes
+
+pub data Sound : Layout → ℕ → Type 0 where
+  -- an offset that is not 0, a form that fits and that reads and writes what the rule takes, and after each such value a sound rest
+  field-sound : {at n : ℕ} {form : Form} {rule : ℕ → Bool} {next : ℕ → Layout}
+      → 0 < at → form .width ≤ n → Inverse form rule → ((v : ℕ) → rule v ≡ true → Sound (next v) (n - form .width))
+      → Sound (field at form rule next) n
+  end-sound : {cr unused : ℕ} → 0 < cr → Sound (end cr unused) 0

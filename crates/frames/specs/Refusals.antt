@@ -3,7 +3,6 @@ use Prim.Native.Nat.{ℕ}
 use Rattle.digits.specs.Told.{Told, gives, refuses}
 use Rattle.frames.specs.declared.refusals.ReadRefusal.{ReadRefusal}
 use Rattle.frames.specs.declared.refusals.ReadRefusal.the-variants.{Kind, Length, End, Address, Field}
-use Rattle.frames.specs.declared.refusals.WriteRefusal.{WriteRefusal}
 use Rattle.frames.specs.declared.refusals.WriteRefusal.the-variants.{Record, Room}
 use Rattle.frames.specs.declared.refusals.WriteAnswer.{WriteAnswer}
 use Rattle.frames.specs.declared.refusals.WriteAnswer.the-variants.{Written, Refused}

@@ -1,6 +1,6 @@
 -- The static request: 24 bytes, lead byte DC1.
 use Prim.Native.Nat.{ℕ}
-use mathlib.Core.List.{List, [], _∷_}
+use mathlib.Core.List.{[], _∷_}
 use mathlib.Core.Bool.{Bool, _||_}
 use lib.ListN.{getD}
 use lib.Dec.{leb, eqb}

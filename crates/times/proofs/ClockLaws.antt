@@ -1,14 +1,12 @@
 -- A time of day is a lawful form: each reads as one number of ticks, and each number of ticks of a day is written once. Assumes nothing.
-use Prim.Native.Nat.{ℕ, zero, suc, _+_, _-_, _*_, _/_, _%_, _^_, _≤_, _<_}
-use mathlib.Core.List.{List}
+use Prim.Native.Nat.{ℕ, _+_, _*_, _/_, _%_, _^_, _≤_, _<_}
 use mathlib.Core.Bool.{Bool, true, false, cond, _&&_, and-eq-true-iff}
 use mathlib.Core.Path.{_≡_, refl, sym, ap, _∙_}
 use native.Mathlib.Omega.{arith}
 use lib.Dec.{leb}
 use borrow.Author.Tests.{leb-true, le-leb}
-use Rattle.digits.specs.declared.Number.{Number}
 use Rattle.digits.specs.declared.Number.the-variants.{Is, Wrong}
-use Rattle.digits.specs.Form.{Lawful, Inverse, number, named, renamed}
+use Rattle.digits.specs.Form.{Lawful, Inverse, number, named}
 use Rattle.digits.proofs.Forms.{number-lawful, number-back, renamed-lawful}
 use Rattle.times.specs.Clock.{aDay, lastTick, isTime, hours, minutes, seconds, fraction, ticksOf, clockNumber, clock}
 

@@ -2,20 +2,17 @@
 use mathlib.Core.Path.{_≡_, refl, sym, ap, ap₂, _∙_, subst}
 use mathlib.Core.Bool.{Bool, true, false, not, cond, _&&_, and-eq-true-iff}
 use Prim.Native.Nat.{ℕ, _+_, _-_, _*_, _/_, _%_, _≤_, _<_}
-use native.Mathlib.Nat.{add-comm}
 use native.Mathlib.Omega.{arith}
 use lib.Dec.{T, eqb, leb}
 use lib.IntN.{ℤ, pos, negsuc, subℕ, _+ℤ_, _*ℤ_}
 use borrow.Author.Tests.{le-leb, lt-leb, leb-true, ne-eqb, eqb-false, not-true}
 use Rattle.times.specs.declared.signed.SignAndRest.{SignAndRest}
 use Rattle.times.specs.declared.net.NetParts.{NetParts}
-use Rattle.times.specs.declared.net.NetValue.{NetValue}
 use Rattle.times.specs.declared.net.NetValue.the-variants.{Is, Wrong as no-value}
-use Rattle.times.specs.declared.net.NetShown.{NetShown}
 use Rattle.times.specs.declared.net.NetShown.the-variants.{As, Wrong as not-shown}
 use Rattle.times.specs.Clock.{aDay, lastTick}
 use Rattle.times.specs.Net.{signed, isNet, netSum, netValue, netApart, netShown, NetInverse, apartOf}
-use Rattle.times.proofs.SignedLaws.{neg-mul, neg-pos, sub-none, sub-neg, sub-pos}
+use Rattle.times.proofs.SignedLaws.{neg-mul, neg-pos, sub-none, sub-neg}
 
 -- ---- the sum as a difference
 

@@ -1,10 +1,10 @@
 -- Running time as a difference of two natural numbers. Assumes nothing.
-use mathlib.Core.Path.{_≡_, refl, sym, ap, _∙_}
+use mathlib.Core.Path.{_≡_, sym, ap, _∙_}
 use mathlib.Core.Bool.{true, false}
 use Prim.Native.Nat.{ℕ, _+_, _*_}
 use lib.IntN.{ℤ, pos, negℤ, subℕ, _+ℤ_, _-ℤ_, negℤ-+ℤ, negℤ-negℤ, +ℤ-assoc, +ℤ-comm}
 use borrow.Author.Tests.{eq-eqb, ne-eqb}
-use Rattle.digits.specs.Told.{Told, gives, refuses}
+use Rattle.digits.specs.Told.{gives, refuses}
 use Rattle.times.specs.declared.running.RunningOf.{RunningOf}
 use Rattle.times.specs.Clock.{aDay}
 use Rattle.times.specs.Running.{TIME, inRange, runningTime}

@@ -1,8 +1,7 @@
 -- No second answer meets the promise of running time. Assumes nothing.
 use Prim.Native.Nat.{ℕ}
-use mathlib.Core.Path.{_≡_, refl, sym, ap, _∙_}
+use mathlib.Core.Path.{_≡_, refl, sym, _∙_}
 use native.Mathlib.Omega.{arith}
-use Rattle.digits.specs.Told.{Told, gives, refuses}
 use Rattle.times.specs.declared.running.Running.{Running}
 use Rattle.times.specs.declared.running.Running.the-variants.{Ticks, Time}
 use Rattle.times.specs.declared.running.RunningOf.{RunningOf}
