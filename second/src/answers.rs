@@ -1,8 +1,12 @@
 //! Reads a file of cases and answers it, case by case.
 
 use crate::digits;
+use crate::dynamic::Dynamic;
+use crate::frame::Kind;
+use crate::records::{parse_array, Spelled};
 use crate::refusal::Refusal;
-use crate::request::{self, Request};
+use crate::reply::Reply;
+use crate::request::Request;
 use crate::spelling::{
     bytes_text, parse_bytes, parse_number, parse_ticks, parse_value, NotACase, MOST_BYTES,
 };
@@ -10,6 +14,9 @@ use crate::times::{self, Net, Running};
 
 /// What every byte of an output holds before a frame is written to it.
 const UNTOUCHED: u8 = 0xee;
+
+/// The answer where nothing was refused.
+const DONE: &str = "0 0";
 
 /// The answer where something cannot be read.
 const WRONG: &str = "wrong";
@@ -52,9 +59,17 @@ fn answer(case: &str) -> Result<Vec<String>, NotACase> {
         ["net", minus, days, time] => net(minus, days, time).map(one_line),
         ["net-parts", value] => net_parts(value).map(one_line),
         ["running", arguments @ ..] => running(arguments).map(one_line),
-        ["read-request", frame] => read_request(frame).map(one_line),
-        ["write-request", room, record @ ..] => write_request(room, record).map(one_line),
-        ["damage-request", frame] => damage_request(frame),
+        ["read-request", frame] => read::<Request>(frame).map(one_line),
+        ["write-request", room, record @ ..] => write::<Request>(room, record).map(one_line),
+        ["damage-request", frame] => damage::<Request>(frame),
+        ["read-reply", frame] => read::<Reply>(frame).map(one_line),
+        ["write-reply", room, record @ ..] => write::<Reply>(room, record).map(one_line),
+        ["damage-reply", frame] => damage::<Reply>(frame),
+        ["read-reply-value", value] => read_reply_value(value).map(one_line),
+        ["write-reply-value", record @ ..] => write_reply_value(record).map(one_line),
+        ["read-dynamic", frame] => read::<Dynamic>(frame).map(one_line),
+        ["write-dynamic", room, record @ ..] => write::<Dynamic>(room, record).map(one_line),
+        ["damage-dynamic", frame] => damage::<Dynamic>(frame),
         _ => Err(NotACase("no such case with so many arguments")),
     }
 }
@@ -127,40 +142,44 @@ fn running(arguments: &[&str]) -> Result<String, NotACase> {
         time: parse_number(time)?.into(),
     };
     Ok(match times::running_time(running) {
-        Some(ticks) => format!("0 0 {ticks}"),
+        Some(ticks) => format!("{DONE} {ticks}"),
         None => "8 0 0".to_string(),
     })
 }
 
-fn read_request(frame: &str) -> Result<String, NotACase> {
+fn read<Record: Kind + Spelled>(frame: &str) -> Result<String, NotACase> {
     let frame = parse_bytes(frame)?;
-    Ok(match request::read(&frame) {
-        Ok(record) => format!("0 0 {}", record_text(&record)),
-        Err(refusal) => refusal_text(refusal),
-    })
+    Ok(reading_text(Record::read(&frame)))
 }
 
-fn write_request(room: &str, record: &[&str]) -> Result<String, NotACase> {
+fn read_reply_value(value: &str) -> Result<String, NotACase> {
+    let value = parse_array(value)?;
+    Ok(reading_text(Reply::read_value(value)))
+}
+
+fn write<Record: Kind + Spelled>(room: &str, record: &[&str]) -> Result<String, NotACase> {
     let mut output = vec![UNTOUCHED; parse_room(room)?];
-    let outcome = match parse_record(record)?.write(&mut output) {
-        Ok(()) => "0 0".to_string(),
-        Err(refusal) => refusal_text(refusal),
-    };
-    Ok(format!("{outcome} {}", bytes_text(&output)))
+    let outcome = Record::parse(record)?.write(&mut output);
+    Ok(writing_text(outcome, &output))
 }
 
-fn damage_request(frame: &str) -> Result<Vec<String>, NotACase> {
+fn write_reply_value(record: &[&str]) -> Result<String, NotACase> {
+    let (outcome, value) = Reply::parse(record)?.write_value();
+    Ok(writing_text(outcome, &value))
+}
+
+fn damage<Record: Kind>(frame: &str) -> Result<Vec<String>, NotACase> {
     let frame = parse_bytes(frame)?;
     let lines = (0..frame.len())
-        .map(|place| damage_line(&frame, place, read_and_write_again))
+        .map(|place| damage_line(&frame, place, read_and_write_again::<Record>))
         .collect();
     Ok(lines)
 }
 
 /// Number and offset of a damage answer: the refusal's, or `0.0` where an accepted frame written
 /// again to as many bytes gives its own bytes, and `0.1` where it does not.
-fn read_and_write_again(frame: &[u8]) -> (u8, usize) {
-    match request::read(frame) {
+fn read_and_write_again<Record: Kind>(frame: &[u8]) -> (u8, usize) {
+    match Record::read(frame) {
         Err(refusal) => (refusal.number(), refusal.offset()),
         Ok(record) => {
             let mut again = vec![UNTOUCHED; frame.len()];
@@ -198,39 +217,20 @@ fn refusal_text(refusal: Refusal) -> String {
     format!("{} {}", refusal.number(), refusal.offset())
 }
 
-fn record_text(record: &Request) -> String {
-    let Request {
-        requester,
-        number,
-        bib,
-        information,
-        channel,
-        run,
-        group,
-        output,
-    } = record;
-    format!("{requester} {number} {bib} {information} {channel} {run} {group} {output}")
+fn reading_text<Record: Spelled>(outcome: Result<Record, Refusal>) -> String {
+    match outcome {
+        Ok(record) => format!("{DONE} {}", record.text()),
+        Err(refusal) => refusal_text(refusal),
+    }
 }
 
-fn parse_record(words: &[&str]) -> Result<Request, NotACase> {
-    let &[requester, number, bib, information, channel, run, group, output] = words else {
-        return Err(NotACase("a request's record has eight parts"));
+/// The outcome and the whole output after the call.
+fn writing_text(outcome: Result<(), Refusal>, output: &[u8]) -> String {
+    let outcome = match outcome {
+        Ok(()) => DONE.to_string(),
+        Err(refusal) => refusal_text(refusal),
     };
-    Ok(Request {
-        requester: parse_code(requester)?,
-        number: parse_number(number)?.into(),
-        bib: parse_number(bib)?.into(),
-        information: parse_code(information)?,
-        channel: parse_number(channel)?.into(),
-        run: parse_number(run)?.into(),
-        group: parse_number(group)?.into(),
-        output: parse_code(output)?,
-    })
-}
-
-/// A letter's code is a byte.
-fn parse_code(word: &str) -> Result<u8, NotACase> {
-    u8::try_from(parse_number(word)?).map_err(|_| NotACase("a letter's code is below 256"))
+    format!("{outcome} {}", bytes_text(output))
 }
 
 fn parse_place(word: &str) -> Result<usize, NotACase> {

@@ -1,6 +1,7 @@
 //! Makes the file of cases. Each subject adds its own; the file is the same for the same seed.
 
 mod digits;
+mod frames;
 mod request;
 mod times;
 

@@ -1,16 +1,51 @@
-//! What all kinds of frame have in common: the bytes around the fields, and how a field is read.
+//! What all kinds of frame have in common: the bytes around the fields, how a field is read, and the
+//! order in which a frame is read and a record written.
 
 use crate::digits;
 use crate::refusal::Refusal;
+use crate::times;
 
-pub const CR: u8 = 0x0d;
+const CR: u8 = 0x0d;
 
 /// Bytes 1 and 2 of every frame.
-pub const ADDRESS: &[u8] = b"R ";
+const ADDRESS: &[u8] = b"R ";
 const ADDRESS_OFFSET: usize = 1;
 
+/// One kind of frame, by the record that holds what it says.
+pub trait Kind: Sized {
+    const LEAD: u8;
+    const LENGTH: usize;
+
+    /// The fields of a frame that has nothing wrong around them. They are read in rising offset
+    /// order, so the refusal names the first wrong one.
+    fn read_fields(frame: &[u8]) -> Result<Self, Refusal>;
+
+    /// The offset of the first field that keeps the record from being well formed.
+    fn first_wrong_field(&self) -> Option<usize>;
+
+    /// What stands between the address and the CR of a well formed record's frame.
+    fn fields(&self) -> Vec<u8>;
+
+    fn read(frame: &[u8]) -> Result<Self, Refusal> {
+        check_surround(frame, Self::LEAD, Self::LENGTH)?;
+        Self::read_fields(frame)
+    }
+
+    /// Writes the frame to the first bytes of `output` and changes no other byte. RECORD is tried
+    /// before ROOM, and a refusal leaves the output as it was.
+    fn write(&self, output: &mut [u8]) -> Result<(), Refusal> {
+        if let Some(offset) = self.first_wrong_field() {
+            return Err(Refusal::Record(offset));
+        }
+        let target = output.get_mut(..Self::LENGTH).ok_or(Refusal::Room)?;
+        let frame = [&[Self::LEAD], ADDRESS, &self.fields(), &[CR]].concat();
+        target.copy_from_slice(&frame);
+        Ok(())
+    }
+}
+
 /// Refusals 1 to 4, tried in that order, so a frame with several faults gets the lowest number.
-pub fn check_surround(frame: &[u8], lead: u8, length: usize) -> Result<(), Refusal> {
+fn check_surround(frame: &[u8], lead: u8, length: usize) -> Result<(), Refusal> {
     if frame.first() != Some(&lead) {
         return Err(Refusal::Kind);
     }
@@ -40,11 +75,31 @@ pub fn number(
     frame: &[u8],
     offset: usize,
     width: usize,
-    good: fn(u64) -> bool,
+    good: impl FnOnce(u64) -> bool,
 ) -> Result<u64, Refusal> {
     digits::read(frame, offset, width)
         .filter(|&value| good(value))
         .ok_or(Refusal::Field(offset))
+}
+
+/// The time HHMMSSdddd at `offset`, in ticks.
+pub fn time(frame: &[u8], offset: usize) -> Result<i128, Refusal> {
+    times::read_clock(frame, offset).ok_or(Refusal::Field(offset))
+}
+
+/// The `WIDTH` raw bytes at `offset`, which are one field.
+pub fn raw<const WIDTH: usize>(frame: &[u8], offset: usize) -> Result<[u8; WIDTH], Refusal> {
+    frame
+        .get(offset..offset + WIDTH)
+        .and_then(|field| field.try_into().ok())
+        .filter(|field: &[u8; WIDTH]| all_raw(field))
+        .ok_or(Refusal::Field(offset))
+}
+
+/// The offset of the first field that is not good. The fields come by rising offset.
+pub fn first_wrong(fields: &[(usize, bool)]) -> Option<usize> {
+    let wrong = fields.iter().find(|&&(_, good)| !good);
+    wrong.map(|&(offset, _)| offset)
 }
 
 /// Three ranges, not one: between `9` and `A`, and between `Z` and `a`, stand bytes that are no
@@ -57,6 +112,15 @@ pub fn is_output(code: u8) -> bool {
     matches!(code, b'S' | b'A' | b'B' | b'T')
 }
 
+/// The blank and all that prints, and so neither CR nor any lead byte.
+pub fn is_raw(code: u8) -> bool {
+    matches!(code, 0x20..=0x7e)
+}
+
+pub fn all_raw(codes: &[u8]) -> bool {
+    codes.iter().copied().all(is_raw)
+}
+
 #[cfg(test)]
 mod tests {
     use super::*;
@@ -66,6 +130,16 @@ mod tests {
         let codes = || 0..=u8::MAX;
         assert_eq!(codes().filter(|&code| is_requester(code)).count(), 62);
         assert_eq!(codes().filter(|&code| is_output(code)).count(), 4);
+    }
+
+    #[test]
+    fn raw_bytes_are_20h_to_7eh() {
+        assert_eq!((0..=u8::MAX).filter(|&code| is_raw(code)).count(), 95);
+        assert_eq!(raw(b"x ~y", 1), Ok([0x20, 0x7e]));
+        for wrong in [0x00, 0x0d, 0x1f, 0x7f, 0x80, 0xff] {
+            assert_eq!(raw::<2>(&[b'x', b' ', wrong], 1), Err(Refusal::Field(1)));
+        }
+        assert_eq!(raw::<2>(b"xyz", 2), Err(Refusal::Field(2)));
     }
 
     #[test]

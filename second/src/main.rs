@@ -8,9 +8,12 @@
 mod answers;
 mod cases;
 mod digits;
+mod dynamic;
 mod frame;
 mod random;
+mod records;
 mod refusal;
+mod reply;
 mod request;
 mod spelling;
 mod times;

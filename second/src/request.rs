@@ -1,11 +1,8 @@
 //! The static request: 24 bytes, lead byte DC1.
 
 use crate::digits;
-use crate::frame::{self, is_output, is_requester};
+use crate::frame::{self, is_output, is_requester, Kind};
 use crate::refusal::Refusal;
-
-pub const LEAD: u8 = 0x11;
-pub const LENGTH: usize = 24;
 
 /// The offset at which each field begins.
 pub mod at {
@@ -45,43 +42,33 @@ pub struct Request {
     pub output: u8,
 }
 
-/// Reads a frame. The fields are read in rising offset order, so the refusal names the first wrong one.
-pub fn read(bytes: &[u8]) -> Result<Request, Refusal> {
-    frame::check_surround(bytes, LEAD, LENGTH)?;
-    let requester = frame::letter(bytes, at::REQUESTER, is_requester)?;
-    let number = frame::number(bytes, at::NUMBER, width::NUMBER, is_number)?;
-    let bib = frame::number(bytes, at::BIB, width::BIB, is_bib)?;
-    let information = frame::letter(bytes, at::INFORMATION, is_information)?;
-    let channel = frame::number(bytes, at::CHANNEL, width::CHANNEL, is_channel)?;
-    let run = frame::number(bytes, at::RUN, width::RUN, is_run)?;
-    let group = frame::number(bytes, at::GROUP, width::GROUP, is_group)?;
-    let output = frame::letter(bytes, at::OUTPUT, is_output)?;
-    Ok(Request {
-        requester,
-        number,
-        bib,
-        information,
-        channel,
-        run,
-        group,
-        output,
-    })
-}
+impl Kind for Request {
+    const LEAD: u8 = 0x11;
+    const LENGTH: usize = 24;
 
-impl Request {
-    /// Writes the frame to the first bytes of `output` and changes no other byte. RECORD is tried
-    /// before ROOM, and a refusal leaves the output as it was.
-    pub fn write(&self, output: &mut [u8]) -> Result<(), Refusal> {
-        if let Some(offset) = self.first_wrong_field() {
-            return Err(Refusal::Record(offset));
-        }
-        let target = output.get_mut(..LENGTH).ok_or(Refusal::Room)?;
-        target.copy_from_slice(&self.frame());
-        Ok(())
+    fn read_fields(frame: &[u8]) -> Result<Self, Refusal> {
+        let requester = frame::letter(frame, at::REQUESTER, is_requester)?;
+        let number = frame::number(frame, at::NUMBER, width::NUMBER, is_number)?;
+        let bib = frame::number(frame, at::BIB, width::BIB, is_bib)?;
+        let information = frame::letter(frame, at::INFORMATION, is_information)?;
+        let channel = frame::number(frame, at::CHANNEL, width::CHANNEL, is_channel)?;
+        let run = frame::number(frame, at::RUN, width::RUN, is_run)?;
+        let group = frame::number(frame, at::GROUP, width::GROUP, is_group)?;
+        let output = frame::letter(frame, at::OUTPUT, is_output)?;
+        Ok(Request {
+            requester,
+            number,
+            bib,
+            information,
+            channel,
+            run,
+            group,
+            output,
+        })
     }
 
     fn first_wrong_field(&self) -> Option<usize> {
-        let fields_by_offset = [
+        frame::first_wrong(&[
             (at::REQUESTER, is_requester(self.requester)),
             (at::NUMBER, is_number(self.number)),
             (at::BIB, is_bib(self.bib)),
@@ -90,27 +77,19 @@ impl Request {
             (at::RUN, is_run(self.run)),
             (at::GROUP, is_group(self.group)),
             (at::OUTPUT, is_output(self.output)),
-        ];
-        fields_by_offset
-            .into_iter()
-            .find(|&(_, good)| !good)
-            .map(|(offset, _)| offset)
+        ])
     }
 
-    /// The 24 bytes of a well formed record.
-    fn frame(&self) -> Vec<u8> {
-        let mut bytes = vec![LEAD];
-        bytes.extend(frame::ADDRESS);
-        bytes.push(self.requester);
-        bytes.extend(digits::write(self.number, width::NUMBER));
-        bytes.extend(digits::write(self.bib, width::BIB));
-        bytes.push(self.information);
-        bytes.extend(digits::write(self.channel, width::CHANNEL));
-        bytes.extend(digits::write(self.run, width::RUN));
-        bytes.extend(digits::write(self.group, width::GROUP));
-        bytes.push(self.output);
-        bytes.push(frame::CR);
-        bytes
+    fn fields(&self) -> Vec<u8> {
+        let mut fields = vec![self.requester];
+        fields.extend(digits::write(self.number, width::NUMBER));
+        fields.extend(digits::write(self.bib, width::BIB));
+        fields.push(self.information);
+        fields.extend(digits::write(self.channel, width::CHANNEL));
+        fields.extend(digits::write(self.run, width::RUN));
+        fields.extend(digits::write(self.group, width::GROUP));
+        fields.push(self.output);
+        fields
     }
 }
 
@@ -169,7 +148,7 @@ mod tests {
 
     #[test]
     fn example_requests() {
-        assert_eq!(read(FIRST), Ok(first()));
+        assert_eq!(Request::read(FIRST), Ok(first()));
         let second = Request {
             requester: b'A',
             number: 12,
@@ -180,39 +159,48 @@ mod tests {
             group: 0,
             output: b'S',
         };
-        assert_eq!(read(SECOND), Ok(second));
+        assert_eq!(Request::read(SECOND), Ok(second));
     }
 
     #[test]
     fn case_5_run() {
-        assert!(read(&with(at::RUN, b"250")).is_ok());
-        assert_eq!(read(&with(at::RUN, b"251")), Err(Refusal::Field(16)));
+        assert!(Request::read(&with(at::RUN, b"250")).is_ok());
+        assert_eq!(
+            Request::read(&with(at::RUN, b"251")),
+            Err(Refusal::Field(16))
+        );
     }
 
     #[test]
     fn case_6_channel() {
-        assert_eq!(read(&with(at::CHANNEL, b"250")), Err(Refusal::Field(13)));
+        assert_eq!(
+            Request::read(&with(at::CHANNEL, b"250")),
+            Err(Refusal::Field(13))
+        );
     }
 
     #[test]
     fn case_7_letter_l() {
-        assert!(read(&with(at::INFORMATION, b"L")).is_ok());
+        assert!(Request::read(&with(at::INFORMATION, b"L")).is_ok());
     }
 
     #[test]
     fn case_9_empty_and_dc1_alone() {
-        assert_eq!(read(b""), Err(Refusal::Kind));
-        assert_eq!(read(b"\x11"), Err(Refusal::Length));
+        assert_eq!(Request::read(b""), Err(Refusal::Kind));
+        assert_eq!(Request::read(b"\x11"), Err(Refusal::Length));
     }
 
     #[test]
     fn case_10_requester() {
-        assert_eq!(read(&with(at::REQUESTER, b"[")), Err(Refusal::Field(3)));
+        assert_eq!(
+            Request::read(&with(at::REQUESTER, b"[")),
+            Err(Refusal::Field(3))
+        );
     }
 
     #[test]
     fn a_wrong_digit_names_the_field_and_not_the_byte() {
-        assert_eq!(read(&with(11, b"x")), Err(Refusal::Field(7)));
+        assert_eq!(Request::read(&with(11, b"x")), Err(Refusal::Field(7)));
     }
 
     #[test]
@@ -224,15 +212,15 @@ mod tests {
     #[test]
     fn refusals_come_in_order() {
         let mut bytes = with(at::REQUESTER, b"[");
-        assert_eq!(read(&bytes), Err(Refusal::Field(3)));
+        assert_eq!(Request::read(&bytes), Err(Refusal::Field(3)));
         bytes[2] = b'0';
-        assert_eq!(read(&bytes), Err(Refusal::Address));
+        assert_eq!(Request::read(&bytes), Err(Refusal::Address));
         bytes[23] = b'\n';
-        assert_eq!(read(&bytes), Err(Refusal::End));
+        assert_eq!(Request::read(&bytes), Err(Refusal::End));
         bytes.push(b'\r');
-        assert_eq!(read(&bytes), Err(Refusal::Length));
+        assert_eq!(Request::read(&bytes), Err(Refusal::Length));
         bytes[0] = 0x13;
-        assert_eq!(read(&bytes), Err(Refusal::Kind));
+        assert_eq!(Request::read(&bytes), Err(Refusal::Kind));
     }
 
     #[test]

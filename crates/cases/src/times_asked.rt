@@ -8,8 +8,8 @@ use times::clock::clock_at;
 use times::clock::put_clock;
 use times::day::is_day;
 use times::net::NetParts;
-use times::net::NetShown;
 use times::net::NetValue;
+use times::net::is_net;
 use times::net::net_parts;
 use times::net::net_value;
 use times::running::Running;
@@ -67,7 +67,7 @@ pub fn day(s: &[u8]) {
 pub fn net(s: &[u8]) {
     let parts = NetParts {
         minus: line::small(s, 1) == 1,
-        days: line::small(s, 2),
+        days: line::small(s, 2) as u64,
         time: line::small(s, 3),
     };
     match net_value(parts) {
@@ -92,9 +92,11 @@ pub fn net_parts_of(s: &[u8]) {
 }
 
 fn shown(v: i64) {
-    match net_parts(v) {
-        NetShown::As(p) => parts(p),
-        NetShown::Wrong => print::text(b"wrong"),
+    let p = net_parts(v);
+    if is_net(p) {
+        parts(p);
+    } else {
+        print::text(b"wrong");
     }
 }
 
@@ -104,7 +106,7 @@ fn parts(p: NetParts) {
     } else {
         print::text(b"0 ");
     }
-    print::pair(p.days as u64, p.time as u64);
+    print::pair(p.days, p.time as u64);
 }
 
 pub fn running(s: &[u8]) {

@@ -12,17 +12,17 @@ use lib.Seq.{getD-at, take-at, take-suc, take-all, sets, sets-eq}
 use Rattle.digits.specs.Told.{Told, gives, refuses, tried}
 use Rattle.frames.specs.declared.refusals.ReadRefusal.{ReadRefusal}
 use Rattle.frames.specs.declared.refusals.ReadRefusal.the-variants.{Kind as kind, Length, End, Address, Field}
+use Rattle.frames.specs.declared.refusals.ReadVerdict.{ReadVerdict}
+use Rattle.frames.specs.declared.refusals.ReadVerdict.the-variants.{Read, Refused as turned}
 use Rattle.frames.specs.declared.refusals.WriteRefusal.{WriteRefusal}
 use Rattle.frames.specs.declared.refusals.WriteRefusal.the-variants.{Record, Room}
 use Rattle.frames.specs.declared.refusals.WriteAnswer.{WriteAnswer}
 use Rattle.frames.specs.declared.refusals.WriteAnswer.the-variants.{Written, Refused}
-use Rattle.frames.specs.Refusals.{FIELD, readRefused, writeTold}
-use Rattle.frames.specs.Layout.{firstWrong, values, write, Sound}
+use Rattle.frames.specs.Refusals.{FIELD, readRefused, verdictTold, writeTold}
+use Rattle.frames.specs.Layout.{firstWrong, values, recordWrong, write, Sound}
 use Rattle.frames.specs.Kind.{Kind, leadIs, letterR, CR, headTold, andThen, read, wrongIn, frameOf, writeTried, Wrote}
 use Rattle.frames.specs.Demand2.{Faithful}
-use Rattle.frames.specs.declared.core.Head.{Head}
-use Rattle.frames.specs.declared.core.Head.the-variants.{Good, Bad}
-use Rattle.frames.specs.Inside.{held, headSays}
+use Rattle.frames.specs.Inside.{held}
 use Rattle.frames.proofs.HeadLaws.{tried-gives, then-gives, head-good, write-done}
 use Rattle.frames.proofs.LayoutLaws.{written-reads, length-write, reads-write, NoneRefused, as-held}
 
@@ -70,9 +70,9 @@ pub record SoundKind {R : Type 0} (k : Kind R) (Whole : R → Type 0) : Type 0 w
   pub sound : Sound (k .fields) bytes
   pub size : k .size ≡ bytes + 4
   pub some : 0 < k .lead
-  pub back : (r : R) → Whole r → k .ofValues (k .valuesOf r) ≡ r
+  pub back : (r : R) → Whole r → wrongIn k r ≡ 0 → k .ofValues (k .valuesOf r) ≡ r
   pub whole : (s : List ℕ) → Whole (k .ofValues (values (k .fields) 3 s))
-  pub again : (s : List ℕ) → k .valuesOf (k .ofValues (values (k .fields) 3 s)) ≡ values (k .fields) 3 s
+  pub again : (s : List ℕ) → firstWrong (k .fields) 3 s ≡ 0 → k .valuesOf (k .ofValues (values (k .fields) 3 s)) ≡ values (k .fields) 3 s
 
 module _ {R : Type 0} {k : Kind R} {Whole : R → Type 0} (g : SoundKind k Whole) where
   pub length-frame : (r : R) → wrongIn k r ≡ 0 → length (frameOf k r) ≡ k .size
@@ -93,7 +93,7 @@ module _ {R : Type 0} {k : Kind R} {Whole : R → Type 0} (g : SoundKind k Whole
       let l = length-write (g .sound) vs e in
       let long : length s ≡ k .size = length-frame r e in
       let last : getD s (k .size - 1) 0 ≡ CR = getD-at (k .lead ∷ letterR ∷ 32 ∷ write (k .fields) vs) CR [] 0 (k .size - 1) (omega (arith, g .size)) in
-      rw (← head-good (k .lead) (k .size) s (g .some) refl long last refl refl, q .wrong, q .same, g .back r w)
+      rw (← head-good (k .lead) (k .size) s (g .some) refl long last refl refl, q .wrong, q .same, g .back r w e)
 
   -- an accepted frame is that of a well formed record, which is whole
   pub record Own (s : List ℕ) (r : R) : Type 0 where
@@ -108,11 +108,12 @@ module _ {R : Type 0} {k : Kind R} {Whole : R → Type 0} (g : SoundKind k Whole
       let f = tried-gives (eqb (firstWrong (k .fields) 3 s) 0) _ _ _ r (h .1) in
       let is : k .ofValues (values (k .fields) 3 s) ≡ r = let g = f .1 in cc in
       let p : Passed (k .lead) (g .bytes + 4) s = rw (g .size) at (passed (k .lead) (k .size) s (h .0)) in
-      let w = reads-write (g .sound) 3 s (let l = p .long in omega arith) (eqb-true _ _ (f .0)) in
+      let z = eqb-true (firstWrong (k .fields) 3 s) 0 (f .0) in
+      let w = reads-write (g .sound) 3 s (let l = p .long in omega arith) z in
       record {
         has = rw (← is) (g .whole s);
-        fine = rw (← is, g .again s) (w .fine);
-        bytes = rw (← is, g .again s, w .text) (whole-frame (k .lead) (g .bytes) s p);
+        fine = rw (← is, g .again s z) (w .fine);
+        bytes = rw (← is, g .again s z, w .text) (whole-frame (k .lead) (g .bytes) s p);
       }
 
   room-enough : (r : R) → wrongIn k r ≡ 0 → (out : List ℕ) → k .size ≤ length out → gives tt ≡ writeTried (wrongIn k r) (k .size) (length out)
@@ -137,24 +138,23 @@ module _ {R : Type 0} {k : Kind R} {Whole : R → Type 0} (g : SoundKind k Whole
     );
   }
 
-  -- ---- `read`, from the head and from the values that the code holds
+  -- ---- `read`, from the head and from the values that the code holds: their first wrong field, and the record where there is none
 
-  module _ (none : NoneRefused (k .fields)) (s : List ℕ) (says : (l : List ℕ) → k .valuesOf (k .ofValues (held (k .fields) 3 l)) ≡ held (k .fields) 3 l) where
-    fields-told : (r : R) → r ≡ k .ofValues (held (k .fields) 3 s)
-        → tried (eqb (wrongIn k r) 0) FIELD (wrongIn k r) (gives r) ≡ tried (eqb (firstWrong (k .fields) 3 s) 0) FIELD (firstWrong (k .fields) 3 s) (gives (k .ofValues (values (k .fields) 3 s)))
-    unfolding wrongIn
-    fields-told r is =
-        let a = as-held (g .sound) 3 s none in
-        rw (is, says s, ← a .wrong) (by-wrong (eqb (firstWrong (k .fields) 3 s) 0) refl)
+  module _ (none : NoneRefused (k .fields)) (s : List ℕ) (w : ℕ) (r : R)
+      (wrong : w ≡ recordWrong (k .fields) (held (k .fields) 3 s)) (is : w ≡ 0 → r ≡ k .ofValues (held (k .fields) 3 s)) where
+    fields-told : tried (eqb w 0) FIELD w (gives r) ≡ tried (eqb (firstWrong (k .fields) 3 s) 0) FIELD (firstWrong (k .fields) 3 s) (gives (k .ofValues (values (k .fields) 3 s)))
+    fields-told = let a = as-held (g .sound) 3 s none in rw (a .wrong, ← wrong) (by-wrong (eqb w 0) refl)
       where
-        by-wrong : (t : Bool) → eqb (firstWrong (k .fields) 3 s) 0 ≡ t
-            → tried t FIELD (firstWrong (k .fields) 3 s) (gives (k .ofValues (held (k .fields) 3 s))) ≡ tried t FIELD (firstWrong (k .fields) 3 s) (gives (k .ofValues (values (k .fields) 3 s)))
-        by-wrong true q = let a = as-held (g .sound) 3 s none in rw (a .same (eqb-true _ _ q))
+        by-wrong : (t : Bool) → eqb w 0 ≡ t → tried t FIELD w (gives r) ≡ tried t FIELD w (gives (k .ofValues (values (k .fields) 3 s)))
+        by-wrong true q =
+            let a = as-held (g .sound) 3 s none in
+            let z = eqb-true w 0 q in
+            rw (is z, a .same (a .wrong ∙ sym wrong ∙ z))
         by-wrong false q = refl
 
-    pub read-fields : (h : Head) (r : R) (t : Told R) → h ≡ Good → headSays h ≡ headTold (k .lead) (k .size) s → r ≡ k .ofValues (held (k .fields) 3 s) → t ≡ tried (eqb (wrongIn k r) 0) FIELD (wrongIn k r) (gives r) → t ≡ read k s
+    pub read-fields : (h : ReadVerdict) (t : Told R) → h ≡ Read → verdictTold h ≡ headTold (k .lead) (k .size) s → t ≡ tried (eqb w 0) FIELD w (gives r) → t ≡ read k s
     unfolding read
-    read-fields h r t g q is e = rw (← q, g) (e ∙ fields-told r is)
+    read-fields h t q e f = rw (← e, q) (f ∙ fields-told)
 
 module _ {A : Type 0} where
   pub refused-then : (f : ReadRefusal) (rest : Told A) → andThen (readRefused f) rest ≡ readRefused f
@@ -164,7 +164,7 @@ module _ {A : Type 0} where
   refused-then Address rest = refl
   refused-then (Field p) rest = refl
 
-pub read-head : {R : Type 0} (k : Kind R) (s : List ℕ) (h : Head) (f : ReadRefusal) → h ≡ Bad f → headSays h ≡ headTold (k .lead) (k .size) s → readRefused f ≡ read k s
+pub read-head : {R : Type 0} (k : Kind R) (s : List ℕ) (h : ReadVerdict) (f : ReadRefusal) → h ≡ turned f → verdictTold h ≡ headTold (k .lead) (k .size) s → readRefused f ≡ read k s
 unfolding read
 read-head k s h f is e = rw (← e, is) (sym (refused-then f _))
 

@@ -12,6 +12,8 @@ use Rattle.digits.specs.declared.Number.{Number}
 use Rattle.digits.specs.declared.Number.the-variants.{Is, Wrong}
 use Rattle.digits.specs.Form.{Form, byte, number}
 use Rattle.digits.proofs.Forms.{byte-lawful, number-lawful, number-back}
+use Rattle.times.specs.Clock.{clock, isTime}
+use Rattle.times.proofs.ClockLaws.{clock-inverse}
 use Rattle.frames.specs.Layout.{Layout, field, end, holds, valueOf, unless, firstWrong, values, zeros, recordWrong, write, Sound, field-sound, end-sound}
 use Rattle.frames.specs.Inside.{held}
 
@@ -150,3 +152,9 @@ module _ {at n : ℕ} {rule : ℕ → Bool} {next : ℕ → Layout} where
         back = λ v h. let k = below v h in let l = ltb→lt hi (10 ^ w) (a .1) in number-back w v least most (omega arith);
       })
       rest
+
+module _ {at n : ℕ} {next : ℕ → Layout} where
+  pub clock-sound : T (ltb 0 at && leb 10 n) → ((v : ℕ) → isTime v ≡ true → Sound (next v) (n - 10)) → Sound (field at clock isTime next) n
+  clock-sound t rest =
+      let q = both (ltb 0 at) (leb 10 n) t in
+      field-sound (ltb→lt 0 at (q .0)) (leb→le 10 n (q .1)) clock-inverse rest

@@ -2,7 +2,7 @@
 use Prim.Native.Nat.{ℕ, _≤_}
 use mathlib.Core.List.{List, [], _∷_, append-assoc}
 use mathlib.Core.Bool.{true}
-use mathlib.Core.Path.{_≡_, refl}
+use mathlib.Core.Path.{_≡_, refl, ap, _∙_}
 use native.Mathlib.Omega.{arith}
 use borrow.Author.Tests.{leb-true, eqb-true}
 use lib.Dec.{leb, eqb}
@@ -11,16 +11,16 @@ use lib.Seq.{sets}
 use Rattle.digits.specs.Text.{oneOf}
 use Rattle.digits.specs.Digits.{digits}
 use Rattle.digits.proofs.Writing.{sets-append, length-digits}
+use Rattle.frames.specs.declared.refusals.ReadVerdict.{ReadVerdict}
+use Rattle.frames.specs.declared.refusals.ReadVerdict.the-variants.{Read}
 use Rattle.frames.specs.declared.request.StaticRequest.{StaticRequest}
 use Rattle.frames.specs.Rules.{between, upTo, isRequester, isOutput}
-use Rattle.frames.specs.Layout.{Sound, end-sound, values, write}
+use Rattle.frames.specs.Layout.{Sound, end-sound, values, recordWrong, write}
 use Rattle.digits.specs.Told.{Told, gives, tried}
-use Rattle.frames.specs.Refusals.{FIELD}
+use Rattle.frames.specs.Refusals.{FIELD, verdictTold}
 use Rattle.frames.specs.Kind.{headTold, read, wrongIn, frameOf}
 use Rattle.frames.specs.Demand2.{Faithful}
-use Rattle.frames.specs.declared.core.Head.{Head}
-use Rattle.frames.specs.declared.core.Head.the-variants.{Good}
-use Rattle.frames.specs.Inside.{held, headSays}
+use Rattle.frames.specs.Inside.{held}
 use Rattle.frames.specs.Request.{isInformation, isChannel, requestFields, request}
 use Rattle.frames.proofs.RuleLaws.{up-to, or-cases}
 use Rattle.frames.proofs.LayoutLaws.{NoneRefused, none-field, none-end, byte-sound, number-sound}
@@ -80,9 +80,9 @@ request-sound = record {
   sound = sound;
   size = refl;
   some = omega arith;
-  back = λ r w. refl;
+  back = λ r w e. refl;
   whole = λ s. tt;
-  again = values-again;
+  again = λ s e. values-again s;
 }
 
 -- what is demanded of reading and writing holds of the static request
@@ -94,9 +94,11 @@ length-request = length-frame request-sound
 
 -- ---- what the code's steps come to
 
-pub read-fields : (s : List ℕ) (h : Head) (r : StaticRequest) (t : Told StaticRequest) → h ≡ Good → headSays h ≡ headTold 17 24 s → r ≡ request .ofValues (held requestFields 3 s)
+pub read-fields : (s : List ℕ) (r : StaticRequest) → r ≡ request .ofValues (held requestFields 3 s) → (h : ReadVerdict) (t : Told StaticRequest) → h ≡ Read → verdictTold h ≡ headTold 17 24 s
     → t ≡ tried (eqb (wrongIn request r) 0) FIELD (wrongIn request r) (gives r) → t ≡ read request s
-read-fields s = K.read-fields request-sound none-refused s held-again
+unfolding wrongIn
+read-fields s r is =
+    K.read-fields request-sound none-refused s (wrongIn request r) r (ap (recordWrong requestFields) (ap (request .valuesOf) is ∙ held-again s)) (λ z. is)
 
 -- the stores of a frame, one after the other, are one run
 pub stores-frame : (r : StaticRequest) (l : List ℕ) →

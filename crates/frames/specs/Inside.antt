@@ -4,10 +4,6 @@ use mathlib.Core.List.{List, _∷_}
 use lib.ListN.{replicate}
 use Rattle.digits.specs.declared.Number.{Number}
 use Rattle.digits.specs.declared.Number.the-variants.{Is, Wrong}
-use Rattle.digits.specs.Told.{Told, gives}
-use Rattle.frames.specs.declared.core.Head.{Head}
-use Rattle.frames.specs.declared.core.Head.the-variants.{Good, Bad}
-use Rattle.frames.specs.Refusals.{readRefused}
 use Rattle.frames.specs.Layout.{Layout, field, end}
 
 -- the code holds 4,294,967,295 where no number stands: a value that no rule takes
@@ -19,7 +15,3 @@ orNone Wrong = 4294967295
 unfoldable pub held : Layout → ℕ → List ℕ → List ℕ
 held (field at form rule next) p s = orNone (form .got s p) ∷ held (next (orNone (form .got s p))) (p + form .width) s
 held (end cr unused) p s = replicate unused 0
-
-abbrev pub headSays : Head → Told (Unit {0})
-headSays Good = gives tt
-headSays (Bad f) = readRefused f

@@ -5,3 +5,4 @@ pub mod Kind
 pub mod Demand2
 pub mod Inside
 pub mod Request
+pub mod Dynamic

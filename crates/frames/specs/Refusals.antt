@@ -3,9 +3,11 @@ use Prim.Native.Nat.{ℕ}
 use Rattle.digits.specs.Told.{Told, gives, refuses}
 use Rattle.frames.specs.declared.refusals.ReadRefusal.{ReadRefusal}
 use Rattle.frames.specs.declared.refusals.ReadRefusal.the-variants.{Kind, Length, End, Address, Field}
+use Rattle.frames.specs.declared.refusals.ReadVerdict.{ReadVerdict}
+use Rattle.frames.specs.declared.refusals.ReadVerdict.the-variants.{Read, Refused}
 use Rattle.frames.specs.declared.refusals.WriteRefusal.the-variants.{Record, Room}
 use Rattle.frames.specs.declared.refusals.WriteAnswer.{WriteAnswer}
-use Rattle.frames.specs.declared.refusals.WriteAnswer.the-variants.{Written, Refused}
+use Rattle.frames.specs.declared.refusals.WriteAnswer.the-variants.{Written, Refused as not-written}
 
 -- empty, or another lead byte
 abbrev pub KIND : ℕ
@@ -44,7 +46,11 @@ module _ {A : Type 0} where
   readRefused Address = refuses ADDRESS 0
   readRefused (Field p) = refuses FIELD (p .field)
 
+abbrev pub verdictTold : ReadVerdict → Told (Unit {0})
+verdictTold Read = gives tt
+verdictTold (Refused f) = readRefused f
+
 abbrev pub writeTold : WriteAnswer → Told (Unit {0})
 writeTold Written = gives tt
-writeTold (Refused (Record at)) = refuses RECORD at
-writeTold (Refused Room) = refuses ROOM 0
+writeTold (not-written (Record at)) = refuses RECORD at
+writeTold (not-written Room) = refuses ROOM 0

@@ -1,5 +1,6 @@
 // What every kind of frame is read and written with.
 use crate::refusals::ReadRefusal;
+use crate::refusals::ReadVerdict;
 use crate::refusals::WriteAnswer;
 use crate::refusals::WriteRefusal;
 use digits::Number;
@@ -7,43 +8,40 @@ use digits::byte_at;
 use digits::number_at;
 use digits::one_of;
 use digits::put_byte;
+use times::clock::clock_at;
 ghost use mathlib.Core.Path.{_≡_};
 ghost use Prim.Native.Nat.{_≤_, _<_};
 ghost use lib.Seq.{sets};
 ghost use mathlib.Core.List.{[], _∷_};
 ghost use Rattle.digits.specs.Digits.{numberAt};
+ghost use Rattle.times.specs.Clock.{clock};
 ghost use Rattle.frames.specs.Rules as R;
 ghost use Rattle.frames.specs.Layout as L;
-ghost use Rattle.frames.specs.Refusals.{writeTold};
+ghost use Rattle.frames.specs.Refusals.{verdictTold, writeTold};
 ghost use Rattle.frames.specs.Kind.{headTold, writeTried};
-ghost use Rattle.frames.specs.Inside.{orNone, headSays};
+ghost use Rattle.frames.specs.Inside.{orNone};
 
 // The first bytes, the length and the last byte, before any field.
-pub enum Head {
-    Good,
-    Bad(ReadRefusal),
-}
-
-pub fn head_of(s: &[u8], lead: u8, size: usize) -> Head
+pub fn head_of(s: &[u8], lead: u8, size: usize) -> ReadVerdict
     requires { ⌜ (0 < lead) × (0 < size) ⌝ }
-    ensures { λ r. ⌜ headSays r ≡ headTold lead size (now (s .entry)) ⌝ }
+    ensures { λ r. ⌜ verdictTold r ≡ headTold lead size (now (s .entry)) ⌝ }
 {
     if byte_at(s, 0) != lead {
-        return Head::Bad(ReadRefusal::Kind);
+        return ReadVerdict::Refused(ReadRefusal::Kind);
     }
     if s.len() != size {
-        return Head::Bad(ReadRefusal::Length);
+        return ReadVerdict::Refused(ReadRefusal::Length);
     }
     if byte_at(s, size - 1) != 13 {
-        return Head::Bad(ReadRefusal::End);
+        return ReadVerdict::Refused(ReadRefusal::End);
     }
     if byte_at(s, 1) != 82 {
-        return Head::Bad(ReadRefusal::Address);
+        return ReadVerdict::Refused(ReadRefusal::Address);
     }
     if byte_at(s, 2) != 32 {
-        return Head::Bad(ReadRefusal::Address);
+        return ReadVerdict::Refused(ReadRefusal::Address);
     }
-    Head::Good
+    ReadVerdict::Read
 }
 
 // The number at a place, and u32::MAX, which no rule takes, where there is none.
@@ -55,6 +53,22 @@ pub fn number_or_none(s: &[u8], at: usize, width: usize) -> u32
         Number::Is(v) => v as u32,
         Number::Wrong => 4_294_967_295,
     }
+}
+
+// The same for a time of day.
+pub fn clock_or_none(s: &[u8], at: usize) -> u32
+    ensures { λ r. ⌜ r ≡ orNone (clock .got (now (s .entry)) at) ⌝ }
+{
+    match clock_at(s, at) {
+        Number::Is(v) => v as u32,
+        Number::Wrong => 4_294_967_295,
+    }
+}
+
+pub fn within(lo: u32, hi: u32, v: u32) -> bool
+    ensures { λ r. ⌜ r ≡ R.between lo hi v ⌝ }
+{
+    (lo <= v) & (v <= hi)
 }
 
 // A field's offset where it is wrong, and otherwise what the fields after it say.

@@ -1,4 +1,5 @@
 // Frames: each kind read and written, a module a kind.
 mod core;
+pub mod dynamic;
 pub mod refusals;
 pub mod request;

@@ -14,6 +14,11 @@ pub enum ReadRefusal {
     Field(Place),
 }
 
+pub enum ReadVerdict {
+    Read,
+    Refused(ReadRefusal),
+}
+
 // Record holds the offset of the record's first wrong part.
 pub enum WriteRefusal {
     Record(u8),

@@ -1,5 +1,4 @@
 // The static request: 24 bytes, lead byte DC1.
-use crate::core::Head;
 use crate::core::head_of;
 use crate::core::is_output;
 use crate::core::is_requester;
@@ -9,6 +8,7 @@ use crate::core::unless;
 use crate::core::write_tries;
 use crate::refusals::Place;
 use crate::refusals::ReadRefusal;
+use crate::refusals::ReadVerdict;
 use crate::refusals::WriteAnswer;
 use digits::byte_at;
 use digits::one_of;
@@ -48,8 +48,8 @@ pub fn read_request(s: &[u8]) -> RequestRead
     ensures { λ r. ⌜ requestTold r ≡ read request (now (s .entry)) ⌝ }
 {
     match head_of(s, REQUEST_LEAD, REQUEST_SIZE) {
-        Head::Good => judged(request_at(s)),
-        Head::Bad(refusal) => RequestRead::Refused(refusal),
+        ReadVerdict::Read => judged(request_at(s)),
+        ReadVerdict::Refused(refusal) => RequestRead::Refused(refusal),
     }
 }
 

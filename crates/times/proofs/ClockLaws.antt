@@ -1,10 +1,12 @@
 -- A time of day is a lawful form: each reads as one number of ticks, and each number of ticks of a day is written once. Assumes nothing.
 use Prim.Native.Nat.{ℕ, _+_, _*_, _/_, _%_, _^_, _≤_, _<_}
+use mathlib.Core.List.{List}
 use mathlib.Core.Bool.{Bool, true, false, cond, _&&_, and-eq-true-iff}
 use mathlib.Core.Path.{_≡_, refl, sym, ap, _∙_}
 use native.Mathlib.Omega.{arith}
 use lib.Dec.{leb}
 use borrow.Author.Tests.{leb-true, le-leb}
+use Rattle.digits.specs.declared.Number.{Number}
 use Rattle.digits.specs.declared.Number.the-variants.{Is, Wrong}
 use Rattle.digits.specs.Form.{Lawful, Inverse, number, named}
 use Rattle.digits.proofs.Forms.{number-lawful, number-back, renamed-lawful}
@@ -82,3 +84,11 @@ clock-back v h = ap (named ticksOf) (number-back 10 (clockNumber v) (omega arith
 -- a time of day and its ticks, both ways
 pub clock-inverse : Inverse clock isTime
 clock-inverse = record { lawful = clock-lawful; back = λ v e. let h = leb-true v lastTick e in clock-back v (omega arith) }
+
+-- what is read as a time is one
+pub time-below : (s : List ℕ) (p v : ℕ) → clock .got s p ≡ Is v → v < aDay
+time-below s p v e = go (number 10 .got s p) e
+  where
+    go : (x : Number) → named ticksOf x ≡ Is v → v < aDay
+    go (Is n) q = let t = time-is n v q in omega arith
+    go Wrong q = absurd (let z : _≡_ {A = ℕ} 0 1 = cc in omega arith)

@@ -8,8 +8,6 @@ use Rattle.times.specs.declared.signed.SignAndRest.{SignAndRest}
 use Rattle.times.specs.declared.net.NetParts.{NetParts}
 use Rattle.times.specs.declared.net.NetValue.{NetValue}
 use Rattle.times.specs.declared.net.NetValue.the-variants.{Is, Wrong as no-value}
-use Rattle.times.specs.declared.net.NetShown.{NetShown}
-use Rattle.times.specs.declared.net.NetShown.the-variants.{As, Wrong as not-shown}
 use Rattle.times.specs.Clock.{aDay, lastTick}
 
 -- n with a sign
@@ -29,17 +27,14 @@ unfoldable pub netValue : NetParts → NetValue
 netValue p = cond (isNet p) (Is (netSum p)) no-value
 
 -- the parts whose sum a value is: whole days rounded down, and the time past them
-abbrev pub netApart : ℤ → NetParts
-netApart (pos n) = record { minus = false; days = n / aDay; time = n % aDay }
-netApart (negsuc n) = record { minus = true; days = n / aDay + 1; time = lastTick - n % aDay }
+abbrev pub netParts : ℤ → NetParts
+netParts (pos n) = record { minus = false; days = n / aDay; time = n % aDay }
+netParts (negsuc n) = record { minus = true; days = n / aDay + 1; time = lastTick - n % aDay }
 
-unfoldable pub netShown : ℤ → NetShown
-netShown v = cond (isNet (netApart v)) (As (netApart v)) not-shown
-
--- both ways: parts that a net reply can show are those that their value shows, and a value that can be shown is that of what shows it
+-- both ways: parts that a net reply can show are those of their value, and a value whose parts can be shown is theirs
 pub record NetInverse : Type 0 where
-  pub back : (p : NetParts) → isNet p ≡ true → netShown (netSum p) ≡ As p
-  pub again : (v : ℤ) (p : NetParts) → netShown v ≡ As p → netValue p ≡ Is v
+  pub back : (p : NetParts) → isNet p ≡ true → netParts (netSum p) ≡ p
+  pub again : (v : ℤ) → netSum (netParts v) ≡ v
 
 -- a signed number as the code takes it apart
 abbrev pub apartOf : ℤ → SignAndRest

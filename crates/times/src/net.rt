@@ -2,12 +2,12 @@
 use crate::signed::apart;
 use crate::signed::diff;
 ghost use mathlib.Core.Path.{_≡_};
-ghost use Rattle.times.specs.Net.{isNet, netValue, netShown};
+ghost use Rattle.times.specs.Net.{isNet, netValue, netParts};
 
-// What a net reply shows: the sign, the days and the ticks of the time.
+// A sign, days and the ticks of a time. A net reply shows those that is_net takes.
 pub struct NetParts {
     pub minus: bool,
-    pub days: u32,
+    pub days: u64,
     pub time: u32,
 }
 
@@ -16,9 +16,11 @@ pub enum NetValue {
     Wrong,
 }
 
-pub enum NetShown {
-    As(NetParts),
-    Wrong,
+// Whether a net reply can show these parts.
+pub fn is_net(parts: NetParts) -> bool
+    ensures { λ r. ⌜ r ≡ isNet parts ⌝ }
+{
+    (parts.days <= 9_999_999) & (parts.time <= 863_999_999) & !(parts.minus & (parts.days == 0))
 }
 
 // The value of what a net reply shows; Wrong where none shows these parts.
@@ -28,7 +30,7 @@ pub fn net_value(parts: NetParts) -> NetValue
     if !is_net(parts) {
         return NetValue::Wrong;
     }
-    let days = parts.days as u64 * 864_000_000;
+    let days = parts.days * 864_000_000;
     let time = parts.time as u64;
     if parts.minus {
         NetValue::Is(diff(time, days))
@@ -37,36 +39,24 @@ pub fn net_value(parts: NetParts) -> NetValue
     }
 }
 
-// The parts that show a value; Wrong where no net reply has it.
-pub fn net_parts(value: i64) -> NetShown
-    ensures { λ r. ⌜ r ≡ netShown value ⌝ }
+// The parts of a value: whole days rounded down, and the time past them.
+pub fn net_parts(value: i64) -> NetParts
+    ensures { λ r. ⌜ r ≡ netParts value ⌝ }
 {
     let v = apart(value);
     let days = v.rest / 864_000_000;
     let time = v.rest % 864_000_000;
     if v.negative {
-        if 9_999_998 < days {
-            return NetShown::Wrong;
-        }
-        NetShown::As(NetParts {
+        NetParts {
             minus: true,
-            days: days as u32 + 1,
+            days: days + 1,
             time: 863_999_999 - time as u32,
-        })
-    } else {
-        if 9_999_999 < days {
-            return NetShown::Wrong;
         }
-        NetShown::As(NetParts {
+    } else {
+        NetParts {
             minus: false,
-            days: days as u32,
+            days,
             time: time as u32,
-        })
+        }
     }
-}
-
-fn is_net(parts: NetParts) -> bool
-    ensures { λ r. ⌜ r ≡ isNet parts ⌝ }
-{
-    (parts.days <= 9_999_999) & (parts.time <= 863_999_999) & !(parts.minus & (parts.days == 0))
 }

@@ -1,9 +1,17 @@
 //! Cases of the static request: `read-request`, `damage-request` and `write-request`.
 
+use super::frames::{
+    any_number, befall_at_random, faults_of, with_faults, Number, WrongField, OUTPUTS, REQUESTERS,
+    REQUESTER_EDGES,
+};
 use super::{replaced, Cases};
+use crate::frame::Kind;
 use crate::random::Random;
-use crate::request::{at, Request, INFORMATION, LENGTH};
+use crate::records::Spelled;
+use crate::request::{at, Request, INFORMATION};
 use crate::spelling::bytes_text;
+
+const LENGTH: usize = Request::LENGTH;
 
 /// The two requests of document 01's example, and one at the upper limits. No field is the same in
 /// all three.
@@ -12,14 +20,6 @@ const SECOND: &[u8; LENGTH] = b"\x11R A012000411255001000S\r";
 const UPPER: &[u8; LENGTH] = b"\x11R z99959999q240250199T\r";
 
 const LAST: usize = LENGTH - 1;
-
-const REQUESTERS: &[u8; 62] = b"0123456789ABCDEFGHIJKLMNOPQRSTUVWXYZabcdefghijklmnopqrstuvwxyz";
-const OUTPUTS: &[u8; 4] = b"SABT";
-
-/// Each end of the three ranges of requesters, from both sides.
-const REQUESTER_EDGES: [u8; 12] = [
-    0x2f, 0x30, 0x39, 0x3a, 0x40, 0x41, 0x5a, 0x5b, 0x60, 0x61, 0x7a, 0x7b,
-];
 
 /// Both sides of every limit of the numbers, in the order of their offsets.
 const NUMBER_EDGES: &[u64] = &[0, 1, 99, 100, 255, 256, 998, 999];
@@ -45,8 +45,7 @@ const FAR_BEYOND: [u64; 8] = [
     4_294_967_295,
 ];
 
-/// A number's offset, its width and its edges.
-const NUMBERS: [(usize, usize, &[u64]); 5] = [
+const NUMBERS: [Number; 5] = [
     (at::NUMBER, 3, NUMBER_EDGES),
     (at::BIB, 5, BIB_EDGES),
     (at::CHANNEL, 3, CHANNEL_EDGES),
@@ -55,7 +54,7 @@ const NUMBERS: [(usize, usize, &[u64]); 5] = [
 ];
 
 /// One wrong text for each field, by rising offset.
-const WRONG_FIELDS: [(usize, &[u8]); 8] = [
+const WRONG_FIELDS: [WrongField; 8] = [
     (at::REQUESTER, b"["),
     (at::NUMBER, b"0 0"),
     (at::BIB, b"60000"),
@@ -143,48 +142,15 @@ fn add_surround_faults(cases: &mut Cases) {
     add_read(cases, &replaced(FIRST, LAST - 1, b"\r\r"));
 }
 
-/// Something wrong with a frame.
-#[derive(Clone, Copy)]
-enum Fault {
-    /// These bytes stand at this place.
-    Put(usize, &'static [u8]),
-    /// The last byte stands there twice.
-    OneByteMore,
-}
-
-impl Fault {
-    fn befall(self, frame: &mut Vec<u8>) {
-        match self {
-            Fault::Put(place, wrong) => *frame = replaced(frame, place, wrong),
-            Fault::OneByteMore => frame.extend(frame.last().copied()),
-        }
-    }
-}
-
 /// Every two faults together, and all from each one on, to show which refusal goes first.
 fn add_several_faults(cases: &mut Cases) {
-    let mut faults = vec![
-        Fault::Put(0, b"\x13"),
-        Fault::Put(LAST, b"\n"),
-        Fault::OneByteMore,
-        Fault::Put(1, b"S"),
-        Fault::Put(2, b"R"),
-    ];
-    faults.extend(WRONG_FIELDS.map(|(offset, wrong)| Fault::Put(offset, wrong)));
+    let faults = faults_of::<Request>(b"\x13", &WRONG_FIELDS);
     for (low, &first) in faults.iter().enumerate() {
         for &other in &faults[low + 1..] {
-            add_with_faults(cases, &[first, other]);
+            add_read(cases, &with_faults(FIRST, &[first, other]));
         }
-        add_with_faults(cases, &faults[low..]);
+        add_read(cases, &with_faults(FIRST, &faults[low..]));
     }
-}
-
-fn add_with_faults(cases: &mut Cases, faults: &[Fault]) {
-    let mut frame = FIRST.to_vec();
-    for fault in faults {
-        fault.befall(&mut frame);
-    }
-    add_read(cases, &frame);
 }
 
 fn add_number_edges(cases: &mut Cases) {
@@ -232,29 +198,9 @@ fn add_random_frames(cases: &mut Cases, random: &mut Random) {
     for _ in 0..300 {
         let mut frame = frame_of(&random_record(random));
         for _ in 0..random.below(3) {
-            add_random_fault(&mut frame, random);
+            befall_at_random(&mut frame, &NUMBERS, random);
         }
         add_read(cases, &frame);
-    }
-}
-
-fn add_random_fault(frame: &mut Vec<u8>, random: &mut Random) {
-    let place = random.place(frame.len());
-    match random.below(8) {
-        0 => {
-            frame.remove(place);
-        }
-        1 => frame.insert(place, random.byte()),
-        2 | 3 => frame[place] = random.byte(),
-        4 => frame[place] = random.pick(REQUESTERS),
-        _ => {
-            let (offset, width, _) = random.pick(&NUMBERS);
-            let limit = 10_u64.pow(width as u32);
-            let text = format!("{:0width$}", random.below(limit));
-            if let Some(field) = frame.get_mut(offset..offset + width) {
-                field.copy_from_slice(text.as_bytes());
-            }
-        }
     }
 }
 
@@ -292,19 +238,7 @@ fn frame_of(record: &Request) -> Vec<u8> {
 const ROOMS: [u64; 4] = [0, 23, 24, 30];
 
 fn add_write(cases: &mut Cases, room: u64, record: &Request) {
-    let Request {
-        requester,
-        number,
-        bib,
-        information,
-        channel,
-        run,
-        group,
-        output,
-    } = record;
-    cases.add(format!(
-        "write-request {room} {requester} {number} {bib} {information} {channel} {run} {group} {output}"
-    ));
+    cases.add(format!("write-request {room} {}", record.text()));
 }
 
 fn add_write_to_all_rooms(cases: &mut Cases, record: &Request) {
@@ -456,8 +390,7 @@ fn spoil_at_random(record: &mut Request, random: &mut Random) {
             set_letter(record, offset, code);
         }
         _ => {
-            let limit = random.pick(&[256, 1_000, 65_536, 100_000, 1 << 32]);
-            let value = random.below(limit);
+            let value = any_number(random);
             set_number(record, offset, value);
         }
     }
@@ -466,12 +399,11 @@ fn spoil_at_random(record: &mut Request, random: &mut Random) {
 #[cfg(test)]
 mod tests {
     use super::*;
-    use crate::request;
 
     #[test]
     fn the_records_to_write_are_those_of_the_frames() {
-        assert_eq!(request::read(SECOND), Ok(middle_record()));
-        assert_eq!(request::read(UPPER), Ok(upper_record()));
+        assert_eq!(Request::read(SECOND), Ok(middle_record()));
+        assert_eq!(Request::read(UPPER), Ok(upper_record()));
     }
 
     #[test]
@@ -479,7 +411,7 @@ mod tests {
         let mut random = Random::new(1, "test");
         for _ in 0..1000 {
             let record = random_record(&mut random);
-            assert_eq!(request::read(&frame_of(&record)), Ok(record));
+            assert_eq!(Request::read(&frame_of(&record)), Ok(record));
         }
     }
 }

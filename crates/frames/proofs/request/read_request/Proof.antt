@@ -23,7 +23,7 @@ enum-known-refusal c = search needs
 
 returns : tie.Need-returns
 returns c =
-    read-fields _ _ _ _ (c .before .before .enum-told .given .1) (c .before .before .before .before .head-of .ensures) (c .before .request-at .ensures) (c .judged .ensures)
+    read-fields _ _ (c .before .request-at .ensures) _ _ (c .before .before .enum-told .given .1) (c .before .before .before .before .head-of .ensures) (c .judged .ensures)
 
 returns-2 : tie.Need-returns-2
 returns-2 c = read-head request _ _ _ (c .before .refusal .given .1) (c .before .before .before .head-of .ensures)

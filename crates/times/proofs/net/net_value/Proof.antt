@@ -1,12 +1,12 @@
--- `times::net::net_value` meets its contract. Assumes nothing.
+-- `times::net::net_value` meets its contract: what a net reply shows fits 63 bits. Assumes nothing.
 use mathlib.Core.Path.{_≡_, sym, _∙_}
 use borrow.Author.Needs.{needs}
 use Rattle.times.proofs.net.net_value.Statement.{statement}
 use Rattle.times.proofs.net.net_value.Tie as tie
-use borrow.Author.Tests.{not-true, not-false}
-use Rattle.times.proofs.NetLaws.{value-wrong, value-minus, value-plus}
 use mir.Syntax.{w64}
 use mir.Val.{toZ, ofZ}
+use borrow.Author.Tests.{not-true, not-false}
+use Rattle.times.proofs.NetLaws.{net-days, value-wrong, value-minus, value-plus}
 
 is-net-requires : tie.Need-is-net-requires
 is-net-requires c κs = search needs
@@ -14,23 +14,24 @@ is-net-requires c κs = search needs
 returns : tie.Need-returns
 returns c = value-wrong _ (sym (c .before .is-net .ensures) ∙ not-true _ (c .if1 .taken))
 
-cast-days : tie.Need-cast-days
-cast-days c = search needs
-
 mul-days : tie.Need-mul-days
-mul-days c = search needs
+mul-days c =
+    let h = net-days (c .before .before .before .args .parts) (sym (c .before .before .is-net .ensures) ∙ not-false _ (c .before .if1 .left)) in search needs
 
 cast-time : tie.Need-cast-time
 cast-time c = search needs
 
 diff-requires : tie.Need-diff-requires
-diff-requires c κs = search needs
+diff-requires c κs =
+    let h = net-days (c .before .before .before .before .before .args .parts) (sym (c .before .before .before .before .is-net .ensures) ∙ not-false _ (c .before .before .before .if1 .left)) in search needs
 
 add-diff : tie.Need-add-diff
-add-diff c = search needs
+add-diff c =
+    let h = net-days (c .before .before .before .before .before .args .parts) (sym (c .before .before .before .before .is-net .ensures) ∙ not-false _ (c .before .before .before .if1 .left)) in search needs
 
 diff-requires-2 : tie.Need-diff-requires-2
-diff-requires-2 c κs = search needs
+diff-requires-2 c κs =
+    let h = net-days (c .before .before .before .before .before .args .parts) (sym (c .before .before .before .before .is-net .ensures) ∙ not-false _ (c .before .before .before .if1 .left)) in search needs
 
 returns-2 : tie.Need-returns-2
 returns-2 c =
@@ -48,7 +49,6 @@ net-value-spec =
     (tie.spec
     is-net-requires
     returns
-    cast-days
     mul-days
     cast-time
     diff-requires
