@@ -298,6 +298,61 @@ mod tests {
         check("write-request 0 49 7 0 80 250 251 0 83", "6 13 -");
     }
 
+    /// The example's second reply and its record.
+    const REPLY: &[u8] = b"\x12R SOEA000120004100000101525510001125400+0000000  \r";
+    const REPLY_RECORD: &str = "83 79 69 65 12 41 0 1 15 255 49 net 725400 \
+                                00000000000000000000 0000000000000000 2020";
+
+    #[test]
+    fn replies() {
+        let reply = bytes_text(REPLY);
+        let (done, zeros) = (format!("0 0 {REPLY_RECORD}"), "00".repeat(51));
+        check(&format!("read-reply {reply}"), &done);
+        check(&format!("read-reply-value {reply}"), &done);
+        check("read-reply 12", "2 0");
+        check(&format!("read-reply-value {zeros}"), "1 0");
+        let written = format!("0 0 {reply}");
+        check(&format!("write-reply-value {REPLY_RECORD}"), &written);
+        check(
+            &format!("write-reply 52 {REPLY_RECORD}"),
+            &format!("{written}ee"),
+        );
+        check(&format!("write-reply 1 {REPLY_RECORD}"), "7 0 ee");
+        let wrong = REPLY_RECORD.replace("net 725400", "raw");
+        check(&format!("write-reply 0 {wrong}"), "6 30 -");
+        check(
+            &format!("write-reply-value {wrong}"),
+            &format!("6 30 {zeros}"),
+        );
+    }
+
+    #[test]
+    fn dynamic_requests() {
+        let frame = bytes_text(b"\x13R zA600002502506000024000010000000000000001T\r");
+        let record = "122 65 60000 250 250 60000 240 0 1 0 0 1 84";
+        check(&format!("read-dynamic {frame}"), &format!("0 0 {record}"));
+        check(
+            &format!("write-dynamic 47 {record}"),
+            &format!("0 0 {frame}ee"),
+        );
+        check(
+            "write-dynamic 1 122 65 60001 250 250 60000 240 0 1 0 0 1 84",
+            "6 5 ee",
+        );
+    }
+
+    #[test]
+    fn damage_of_the_other_kinds() {
+        let reply = bytes_text(REPLY);
+        let answers = file(format!("damage-reply {reply}\n").as_bytes()).expect("a case");
+        let lines: Vec<&str> = answers.lines().collect();
+        assert_eq!(lines.len(), 51);
+        assert_eq!(lines[5], "5 69*5.5 1*0.0 12*5.5 1*0.0 7*5.5 1*0.0 165*5.5");
+        // Days of minus zero are turned away.
+        assert_eq!(lines[40], "40 43*5.40 1*0.0 212*5.40");
+        assert_eq!(lines[49], "49 32*5.48 95*0.0 129*5.48");
+    }
+
     #[test]
     fn damage_counts_runs_of_values() {
         let case = format!("damage-request {FIRST}\n");
@@ -346,6 +401,13 @@ mod tests {
             "write-request 101 49 7 0 80 0 2 0 83",
             "write-request 24 256 7 0 80 0 2 0 83",
             "write-request 24 49 7 0 80 0 2 0",
+            "read-reply-value 12",
+            "read-reply-value -",
+            "write-reply 51",
+            "write-reply-value",
+            "write-dynamic 101 122 65 60000 250 250 60000 240 0 1 0 0 1 84",
+            "write-dynamic 46 122 65 60000 250 250 60000 240 0 1 0 0 1",
+            "damage-reply",
             "read-request -\r",
         ] {
             assert!(file(format!("{case}\n").as_bytes()).is_err(), "{case:?}");

@@ -1,7 +1,9 @@
 //! Makes the file of cases. Each subject adds its own; the file is the same for the same seed.
 
 mod digits;
+mod dynamic;
 mod frames;
+mod reply;
 mod request;
 mod times;
 
@@ -31,6 +33,8 @@ pub fn file(seed: u64) -> String {
     digits::add_all(&mut cases, seed);
     times::add_all(&mut cases, seed);
     request::add_all(&mut cases, seed);
+    reply::add_all(&mut cases, seed);
+    dynamic::add_all(&mut cases, seed);
     cases.text
 }
 
@@ -46,7 +50,7 @@ mod tests {
     use super::*;
     use crate::answers;
 
-    const MOST_BYTES_OF_FILE: usize = 200_000;
+    const MOST_BYTES_OF_FILE: usize = 450_000;
     const MOST_BYTES_OF_LINE: usize = 250;
 
     #[test]

@@ -120,8 +120,7 @@ impl Spelled for Reply {
             spare,
         } = self;
         let timing = timing_text(*timing);
-        let [raw_time, raw_date, spare] =
-            [&raw_time[..], raw_date, spare].map(|bytes| bytes_text(bytes));
+        let [raw_time, raw_date, spare] = [&raw_time[..], raw_date, spare].map(bytes_text);
         format!(
             "{program} {mode} {status} {requester} {number} {bib} {group} {run} {physical} \
              {channel} {information} {timing} {raw_time} {raw_date} {spare}"

@@ -172,15 +172,20 @@ read-head k s h f is e = rw (← e, is) (sym (refused-then f _))
 
 module _ {R : Type 0} (k : Kind R) (r : R) (out : List ℕ) (long : wrongIn k r ≡ 0 → length (frameOf k r) ≡ k .size)
     (a : WriteAnswer) (is : writeTold a ≡ writeTried (wrongIn k r) (k .size) (length out)) where
-  pub wrote-frame : (out′ : List ℕ) → a ≡ Written → out′ ≡ sets out 0 (frameOf k r) → Wrote k r out Written out′
+  -- the text that was stored is the frame of a well formed record
+  pub wrote-text : (text out′ : List ℕ) → (wrongIn k r ≡ 0 → text ≡ frameOf k r) → a ≡ Written → out′ ≡ sets out 0 text → Wrote k r out Written out′
   unfolding writeTried
-  wrote-frame out′ w e =
+  wrote-text text out′ own w e =
       let q : writeTried (wrongIn k r) (k .size) (length out) ≡ gives tt = sym is ∙ ap writeTold w in
       let b = tried-gives (eqb (wrongIn k r) 0) _ _ _ _ q in
       let c = tried-gives (leb (k .size) (length out)) _ _ _ _ (b .1) in
-      let l = long (eqb-true _ _ (b .0)) in
+      let z = eqb-true _ _ (b .0) in
+      let l = long z in
       let h : 0 + length (frameOf k r) ≤ length out = omega (arith, leb-true (k .size) (length out) (c .0)) in
-      record { told = sym q; bytes = rw q (e ∙ sets-eq (frameOf k r) out 0 h ∙ rw (l, zero-add)) }
+      record { told = sym q; bytes = rw q (e ∙ ap (sets out 0) (own z) ∙ sets-eq (frameOf k r) out 0 h ∙ rw (l, zero-add)) }
+
+  pub wrote-frame : (out′ : List ℕ) → a ≡ Written → out′ ≡ sets out 0 (frameOf k r) → Wrote k r out Written out′
+  wrote-frame out′ w e = wrote-text (frameOf k r) out′ (λ z. refl) w e
 
   pub wrote-nothing : (f : WriteRefusal) → a ≡ Refused f → Wrote k r out (Refused f) out
   wrote-nothing (Record at) w = let q = sym is ∙ ap writeTold w in record { told = sym q; bytes = rw q }

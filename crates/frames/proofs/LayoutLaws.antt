@@ -19,7 +19,7 @@ use Rattle.frames.specs.Inside.{held}
 
 -- ---- tests that came out well
 
-unless-none : (t : Bool) (at rest : ℕ) → 0 < at → unless t at rest ≡ 0 → (t ≡ true) × (rest ≡ 0)
+pub unless-none : (t : Bool) (at rest : ℕ) → 0 < at → unless t at rest ≡ 0 → (t ≡ true) × (rest ≡ 0)
 unless-none true at rest h e = (refl, e)
 unless-none false at rest h e = absurd (omega arith)
 
@@ -37,7 +37,7 @@ both false b t = absurd t
 
 -- ---- the parts that are not used
 
-zeros-replicate : (n : ℕ) → zeros n (replicate n 0) ≡ true
+pub zeros-replicate : (n : ℕ) → zeros n (replicate n 0) ≡ true
 zeros-replicate zero = refl
 zeros-replicate (suc n) = zeros-replicate n
 
@@ -100,6 +100,15 @@ reads-write (field-sound {at} {n} {form} {rule} {next} some fits inverse rest) p
       text = join n (form .width) p s _ _ fits (inverse .lawful .again s p v (omega arith) (g .is)) (sym (r .text));
     }
 reads-write (end-sound {cr} {unused} some) p s h e = record { fine = rw (zeros-replicate unused); text = refl }
+
+-- the values of a good frame are a good record's
+pub values-fine : {L : Layout} {n : ℕ} → Sound L n → (p : ℕ) (s : List ℕ) → firstWrong L p s ≡ 0 → recordWrong L (values L p s) ≡ 0
+unfolding firstWrong values recordWrong
+values-fine (field-sound {at} {n} {form} {rule} {next} some fits inverse rest) p s e =
+    let q = unless-none (holds rule (form .got s p)) at (firstWrong (next (valueOf (form .got s p))) (p + form .width) s) some e in
+    let g = kept rule (form .got s p) (q .0) in
+    rw (g .good) (values-fine (rest (valueOf (form .got s p)) (g .good)) (p + form .width) s (q .1))
+values-fine (end-sound {cr} {unused} some) p s e = rw (zeros-replicate unused)
 
 -- ---- the values that the code holds: it checks a frame as it checks a record
 

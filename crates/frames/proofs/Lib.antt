@@ -2,6 +2,8 @@ pub mod HeadLaws
 pub mod RuleLaws
 pub mod LayoutLaws
 pub mod KindLaws
+pub mod TimingLaws
 pub mod RequestLaws
+pub mod ReplyLaws
 pub mod DynamicLaws
 pub mod Unique

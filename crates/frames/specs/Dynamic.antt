@@ -57,7 +57,7 @@ dynamic = record {
   valuesOf = λ r.
       r .requester ∷ r .order ∷ r .bib ∷ r .channel ∷ r .run ∷ r .«stop_bib» ∷ r .«stop_channel» ∷ r .«stop_run» ∷ r .sign ∷ r .time ∷ r .days ∷ r .period ∷ r .output ∷ [];
   ofValues = λ v.
-      record { requester = getD v 0 0; order = getD v 1 0; bib = getD v 2 0; channel = getD v 3 0; run = getD v 4 0; «stop_bib» = getD v 5 0; «stop_channel» = getD v 6 0; «stop_run» = getD v 7 0; sign = getD v 8 0; time = getD v 9 0; days = getD v 10 0; period = getD v 11 0; output = getD v 12 0 }
+      record { requester = getD v 0 0; order = getD v 1 0; bib = getD v 2 0; channel = getD v 3 0; run = getD v 4 0; «stop_bib» = getD v 5 0; «stop_channel» = getD v 6 0; «stop_run» = getD v 7 0; sign = getD v 8 0; time = getD v 9 0; days = getD v 10 0; period = getD v 11 0; output = getD v 12 0 };
 }
 
 -- what the reader's answer says on paper

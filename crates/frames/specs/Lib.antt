@@ -5,4 +5,6 @@ pub mod Kind
 pub mod Demand2
 pub mod Inside
 pub mod Request
+pub mod Timing
+pub mod Reply
 pub mod Dynamic

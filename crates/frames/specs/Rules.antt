@@ -17,6 +17,10 @@ isRequester b = between 48 57 b || between 65 90 b || between 97 122 b
 unfoldable pub isOutput : ℕ → Bool
 isOutput = oneOf (codes "SABT")
 
+-- a byte that is kept as it is, 20h to 7Eh
+unfoldable pub isRaw : ℕ → Bool
+isRaw = between 32 126
+
 -- a space
 abbrev pub isAddress : ℕ → Bool
 isAddress b = eqb b 32

@@ -27,6 +27,7 @@ ghost use Rattle.frames.specs.Inside.{held};
 ghost use Rattle.frames.specs.Dynamic.{isOrder, isChannel, leastPeriod, dynamic, dynamicFields, dynamicTold};
 
 pub const DYNAMIC_LEAD: u8 = 19;
+
 pub const DYNAMIC_SIZE: usize = 46;
 
 // Letters by their code. Sign, time in ticks and days are those of Taux; the sign is kept where time and days are zero.

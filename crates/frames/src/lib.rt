@@ -2,4 +2,6 @@
 mod core;
 pub mod dynamic;
 pub mod refusals;
+pub mod reply;
 pub mod request;
+pub mod timing;

@@ -4,10 +4,10 @@ use mathlib.Core.Path.{_≡_, refl, ap, _∙_}
 use mathlib.Core.Bool.{Bool, true, false, cond, _&&_, _||_, and-eq-true-iff}
 use mathlib.Core.List.{List, [], _∷_}
 use native.Mathlib.Omega.{arith}
-use lib.Dec.{eqb}
+use lib.Dec.{eqb, leb}
 use lib.ListN.{length, getD}
-use borrow.Author.Tests.{eqb-true, eq-eqb, ne-eqb}
-use Rattle.times.specs.Day.{leap, monthLength}
+use borrow.Author.Tests.{eqb-true, eq-eqb, ne-eqb, leb-true}
+use Rattle.times.specs.Day.{leap, monthLength, realDay}
 
 abbrev lengths : List ℕ
 lengths = 0 ∷ 31 ∷ 0 ∷ 31 ∷ 30 ∷ 31 ∷ 30 ∷ 31 ∷ 31 ∷ 30 ∷ 31 ∷ 30 ∷ 31 ∷ []
@@ -49,3 +49,13 @@ module _ (m y : ℕ) (second : m ≡ 2) where
   pub plain-february : leap y ≡ false → 28 ≡ monthLength m y
   unfolding monthLength
   plain-february l = rw (eq-eqb m 2 second, l)
+
+-- a real day's year
+pub day-year : (d m y : ℕ) → realDay d m y ≡ true → y ≤ 2099
+unfolding realDay
+day-year d m y e =
+    let a = and-eq-true-iff _ (leb d (monthLength m y)) .0 e in
+    let b = and-eq-true-iff _ (leb 1 d) .0 (a .0) in
+    let c = and-eq-true-iff _ (leb m 12) .0 (b .0) in
+    let f = and-eq-true-iff (leb 2000 y && leb y 2099) (leb 1 m) .0 (c .0) in
+    leb-true y 2099 (and-eq-true-iff (leb 2000 y) (leb y 2099) .0 (f .0) .1)

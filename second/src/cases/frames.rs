@@ -16,7 +16,7 @@ pub const REQUESTER_EDGES: [u8; 12] = [
 pub const NOT_PRINTABLE: [u8; 7] = [0x00, 0x0d, 0x1f, 0x7f, 0x80, 0xb0, 0xff];
 
 /// Times at both sides of every limit, and some that are no times.
-pub const TIMES: [&[u8; 10]; 16] = [
+pub const TIMES: [&[u8]; 16] = [
     b"0000000000",
     b"0000000001",
     b"0000009999",
@@ -139,17 +139,12 @@ pub fn with_number_edges(frame: &[u8], numbers: &[Number]) -> Vec<Vec<u8>> {
     frames
 }
 
-/// The frame with the first, then the last digit of each number no digit, and with each number
-/// blank.
-pub fn with_digit_faults(frame: &[u8], numbers: &[Number]) -> Vec<Vec<u8>> {
-    let mut frames = Vec::new();
-    for &(offset, width, _) in numbers {
-        for (place, wrong) in [(offset, b"/"), (offset + width - 1, b":")] {
-            frames.push(replaced(frame, place, wrong));
-        }
-        frames.push(replaced(frame, offset, &vec![b' '; width]));
-    }
-    frames
+/// The frame with each number blank in turn.
+pub fn with_blank_numbers(frame: &[u8], numbers: &[Number]) -> Vec<Vec<u8>> {
+    numbers
+        .iter()
+        .map(|&(offset, width, _)| replaced(frame, offset, &vec![b' '; width]))
+        .collect()
 }
 
 /// A byte lost, a byte too many, another byte, or another number, which may be a good one.

@@ -21,7 +21,7 @@ const ABSENT: &[u8; LENGTH] = b"\x12R ~ Za5432130000100000999249s--:--.----no da
 
 const STATUSES: &[u8; 3] = b"REZ";
 
-/// Both sides of every limit, by rising offset. The runs are those that go with every status.
+/// Both sides of every limit, by rising offset. Run 000 is asked with each status, apart from these.
 const NUMBERS: [Number; 6] = [
     (
         at::NUMBER,
@@ -121,12 +121,7 @@ fn random_net(random: &mut Random) -> Timing {
 /// The frame of a good record, spelled out here and not by the writer under comparison.
 fn frame_of(record: &Reply) -> Vec<u8> {
     let mut frame = b"\x12R ".to_vec();
-    frame.extend([
-        record.program,
-        record.mode,
-        record.status,
-        record.requester,
-    ]);
+    frame.extend([record.program, record.mode, record.status, record.requester]);
     let numbers = format!(
         "{:05}{:05}{:03}{:03}{:03}{:03}",
         record.number, record.bib, record.group, record.run, record.physical, record.channel

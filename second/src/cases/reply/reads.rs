@@ -3,16 +3,16 @@
 use super::{frame_of, random_record, ABSENT, CLOCK, LENGTH, NET, NUMBERS, RAW, STATUSES};
 use crate::cases::frames::{
     at_lengths, befall_at_random, faults_of, neighbours_and_tails, number_of_faults, put,
-    with_digit_faults, with_faults, with_number_edges, with_surround_faults, WrongField,
+    with_blank_numbers, with_faults, with_number_edges, with_surround_faults, WrongField,
     NOT_PRINTABLE, REQUESTER_EDGES, TIMES,
 };
 use crate::cases::{replaced, Cases};
 use crate::random::Random;
-use crate::reply::{at, Reply, INFORMATION};
+use crate::reply::{at, Reply, CLOCK_LETTERS, INFORMATION, NET_LETTERS};
 use crate::spelling::bytes_text;
 
 /// Time and date that suit a clock letter, a net letter and neither. Raw letters take them all.
-const TIMINGS: [&[u8; 18]; 3] = [
+const TIMINGS: [&[u8]; 3] = [
     b"123456789823122001",
     b"0001125400-0000001",
     b"123.456kmh       -",
@@ -76,7 +76,7 @@ fn add_damages(cases: &mut Cases) {
 }
 
 /// `NET` with this status, letter, and time and date.
-fn with_letter(status: u8, letter: u8, timing: &[u8; 18]) -> Vec<u8> {
+fn with_letter(status: u8, letter: u8, timing: &[u8]) -> Vec<u8> {
     let frame = replaced(NET, at::STATUS, &[status]);
     let frame = replaced(&frame, at::INFORMATION, &[letter]);
     replaced(&frame, at::TIME, timing)
@@ -96,11 +96,23 @@ fn add_surroundings(cases: &mut Cases) {
     for faults in neighbours_and_tails(&faults) {
         add_read(cases, &with_faults(CLOCK, faults));
     }
+    let two_faults: [(&[u8], WrongField, WrongField); 6] = [
+        (NET, (at::TIME, b"2400000000"), (at::DATE, b"-0000000")),
+        (NET, (at::DATE, b"-0000000"), (at::SPARE, b"\x7f")),
+        (RAW, (at::TIME, b"\x1f"), (at::DATE, b"\x7f")),
+        (RAW, (at::DATE, b"\x7f"), (at::SPARE, b"\x1f")),
+        (ABSENT, (at::RUN, b"251"), (at::INFORMATION, b"L")),
+        (ABSENT, (at::INFORMATION, b"L"), (at::TIME, b"\x1f")),
+    ];
+    for (frame, (low, first), (high, second)) in two_faults {
+        let frame = replaced(frame, low, first);
+        add_read(cases, &replaced(&frame, high, second));
+    }
 }
 
 fn add_fields(cases: &mut Cases) {
     add_reads(cases, &with_number_edges(NET, &NUMBERS));
-    add_reads(cases, &with_digit_faults(CLOCK, &NUMBERS));
+    add_reads(cases, &with_blank_numbers(CLOCK, &NUMBERS));
     for code in *b"REZDFQSY[rez 0\x00\xd2" {
         add_read(cases, &replaced(RAW, at::STATUS, &[code]));
     }
@@ -118,14 +130,22 @@ fn add_runs(cases: &mut Cases) {
     }
 }
 
-/// The letters of the list with every status and every timing. Every other byte meets each status
-/// and each timing too, but not each with each.
+/// The letters that are not always raw with every status and every timing. The other letters of the
+/// list meet each status and each timing too, though not each with each, and all other bytes meet
+/// one of each. Every byte with all of them is what the damaged replies ask.
 fn add_letters(cases: &mut Cases) {
     for letter in (0x20..=0x7e).chain(NOT_PRINTABLE) {
         for (row, &status) in STATUSES.iter().enumerate() {
             for (column, timing) in TIMINGS.into_iter().enumerate() {
-                let in_turn = (row + column + usize::from(letter)).is_multiple_of(3);
-                if in_turn || INFORMATION.contains(&letter) {
+                let turn = usize::from(letter);
+                let asked = if CLOCK_LETTERS.contains(&letter) || NET_LETTERS.contains(&letter) {
+                    true
+                } else if INFORMATION.contains(&letter) {
+                    (row + column) % 3 == turn % 3
+                } else {
+                    3 * row + column == turn % 9
+                };
+                if asked {
                     add_read(cases, &with_letter(status, letter, timing));
                 }
             }
@@ -156,9 +176,12 @@ fn add_dates(cases: &mut Cases) {
             add_date(cases, day, 2, year);
         }
     }
-    for year in [0, 24, 1900, 1999, 2000, 2099, 2100, 9999] {
+    for year in [1999, 2000, 2099, 2100] {
         add_date(cases, 1, 1, year);
         add_date(cases, 31, 12, year);
+    }
+    for year in [0, 24, 1924, 9999] {
+        add_date(cases, 15, 6, year);
     }
     for (day, month) in [(0, 1), (1, 0), (0, 0), (1, 13), (32, 12), (99, 1), (1, 99)] {
         add_date(cases, day, month, 2024);
@@ -196,10 +219,8 @@ fn add_net_dates(cases: &mut Cases) {
         let frame = replaced(NET, at::DATE, b"+0000012");
         add_read(cases, &replaced(&frame, at::DATE, &[sign]));
     }
-    for place in at::DATE + 1..at::SPARE {
-        for wrong in [b"/", b":", b" "] {
-            add_read(cases, &replaced(NET, place, wrong));
-        }
+    for (place, wrong) in (at::DATE + 1..at::SPARE).zip(b"/: +-.\xb0") {
+        add_read(cases, &replaced(NET, place, &[*wrong]));
     }
     for text in [
         b"        ",
@@ -213,15 +234,21 @@ fn add_net_dates(cases: &mut Cases) {
     }
 }
 
-/// Every place of a raw byte.
-fn raw_places() -> impl Iterator<Item = usize> {
-    [at::PROGRAM, at::MODE].into_iter().chain(at::TIME..at::CR)
-}
-
+/// The outermost good bytes at all raw places together, and their neighbours at each; bytes above
+/// 7Fh at the first place of each field. All bytes at each place are what the damaged `RAW` asks.
 fn add_raw_bytes(cases: &mut Cases) {
-    for place in raw_places() {
-        for code in *b"\x1f\x20\x7e\x7f\x80\xff" {
-            add_read(cases, &replaced(RAW, place, &[code]));
+    for good in *b"\x20\x7e" {
+        let frame = replaced(RAW, at::PROGRAM, &[good; 2]);
+        add_read(cases, &replaced(&frame, at::TIME, &[good; 20]));
+    }
+    for place in [at::PROGRAM, at::MODE].into_iter().chain(at::TIME..at::CR) {
+        for wrong in *b"\x1f\x7f" {
+            add_read(cases, &replaced(RAW, place, &[wrong]));
+        }
+    }
+    for place in [at::PROGRAM, at::MODE, at::TIME, at::DATE, at::SPARE] {
+        for wrong in *b"\x80\xff" {
+            add_read(cases, &replaced(RAW, place, &[wrong]));
         }
     }
 }
@@ -247,7 +274,9 @@ fn random_frame(random: &mut Random) -> Vec<u8> {
 }
 
 fn add_values(cases: &mut Cases, random: &mut Random) {
-    let mut frames = [CLOCK, NET, RAW, ABSENT].map(|frame| frame.to_vec()).to_vec();
+    let mut frames = [CLOCK, NET, RAW, ABSENT]
+        .map(|frame| frame.to_vec())
+        .to_vec();
     for (place, wrong) in [
         (0, b"\x11"),
         (0, b"\x00"),
@@ -266,5 +295,32 @@ fn add_values(cases: &mut Cases, random: &mut Random) {
     }
     for frame in frames.iter().filter(|frame| frame.len() == LENGTH) {
         cases.add(format!("read-reply-value {}", bytes_text(frame)));
+    }
+}
+
+#[cfg(test)]
+mod tests {
+    use super::*;
+    use crate::frame::Kind;
+    use crate::refusal::Refusal;
+
+    #[test]
+    fn each_wrong_field_is_refused_at_its_offset() {
+        for (offset, wrong) in WRONG_FIELDS {
+            let frame = replaced(CLOCK, offset, wrong);
+            assert_eq!(Reply::read(&frame), Err(Refusal::Field(offset)));
+        }
+    }
+
+    #[test]
+    fn the_replies_to_damage_are_good() {
+        let mut cases = Cases::default();
+        add_damages(&mut cases);
+        assert_eq!(cases.text.lines().count(), 9);
+        for line in cases.text.lines() {
+            let case = line.replace("damage-reply", "read-reply") + "\n";
+            let answer = crate::answers::file(case.as_bytes()).expect("a case");
+            assert!(answer.starts_with("0 0 "), "{line}");
+        }
     }
 }

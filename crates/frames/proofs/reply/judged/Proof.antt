@@ -1,0 +1,20 @@
+-- `frames::reply::judged` meets its contract. Assumes nothing.
+use borrow.Author.Needs.{needs}
+use Rattle.frames.proofs.reply.judged.Statement.{statement}
+use Rattle.frames.proofs.reply.judged.Tie as tie
+use borrow.Author.Tests.{eq-eqb, ne-eqb}
+use Rattle.frames.specs.Inside.{judgedAs}
+
+returns : tie.Need-returns
+unfolding judgedAs
+returns c = rw (eq-eqb _ _ (c .if1 .taken))
+
+refused-requires : tie.Need-refused-requires
+refused-requires c κs = search needs
+
+returns-2 : tie.Need-returns-2
+unfolding judgedAs
+returns-2 c = rw (ne-eqb _ _ (c .before .if1 .left)) (c .refused .ensures)
+
+pub judged-spec : {M : Type 1} → statement M
+judged-spec = tie.close (tie.spec returns refused-requires returns-2)

@@ -1,0 +1,264 @@
+// The static reply: 51 bytes, lead byte DC2.
+use crate::core::head_of;
+use crate::core::is_requester;
+use crate::core::number_or_none;
+use crate::core::put_head;
+use crate::core::unless;
+use crate::core::within;
+use crate::core::write_tries;
+use crate::refusals::Place;
+use crate::refusals::ReadRefusal;
+use crate::refusals::ReadVerdict;
+use crate::refusals::WriteAnswer;
+use crate::timing::Seen;
+use crate::timing::Timing;
+use crate::timing::is_raw;
+use crate::timing::kind_of;
+use crate::timing::put_run;
+use crate::timing::put_timing;
+use crate::timing::seen_at;
+use crate::timing::spare_at;
+use crate::timing::timing_wrong;
+use digits::byte_at;
+use digits::one_of;
+use digits::put_byte;
+use digits::put_number;
+ghost use mathlib.Core.Path.{_≡_};
+ghost use lib.Seq.{sets};
+ghost use lib.ListN.{replicate};
+ghost use Rattle.frames.specs.Kind.{wrongIn, Wrote};
+ghost use Rattle.frames.specs.Inside as I;
+ghost use Rattle.frames.specs.Reply.{isStatus, isLetter, isChannel, leastRun, reply, zeroReply, ReadAs};
+
+pub const REPLY_LEAD: u8 = 18;
+
+pub const REPLY_SIZE: usize = 51;
+
+// Letters, program and mode by their code. Raw time and date are zero where the timing is not raw.
+pub struct StaticReply {
+    pub program: u8,
+    pub mode: u8,
+    pub status: u8,
+    pub requester: u8,
+    pub number: u32,
+    pub bib: u32,
+    pub group: u32,
+    pub run: u32,
+    pub physical: u32,
+    pub channel: u32,
+    pub information: u8,
+    pub timing: Timing,
+    pub raw_time: [u8; 10],
+    pub raw_date: [u8; 8],
+    pub spare: [u8; 2],
+}
+
+// The record is all zero where the frame was refused.
+pub struct ReplyRead {
+    pub verdict: ReadVerdict,
+    pub reply: StaticReply,
+}
+
+// The frame is all zero where the record was refused.
+pub struct ReplyFrame {
+    pub answer: WriteAnswer,
+    pub frame: [u8; 51],
+}
+
+pub fn read_reply(s: &[u8]) -> ReplyRead
+    ensures { λ r. ⌜ ReadAs (now (s .entry)) r ⌝ }
+{
+    match head_of(s, REPLY_LEAD, REPLY_SIZE) {
+        ReadVerdict::Read => fields_read(s),
+        ReadVerdict::Refused(refusal) => refused(refusal),
+    }
+}
+
+// Writes the frame to the first 51 bytes of out, or changes nothing.
+pub fn write_reply(r: StaticReply, out: &mut [u8]) -> WriteAnswer
+    ensures { λ a. ⌜ Wrote reply r (now (out .entry)) a (now (out .exit)) ⌝ }
+{
+    match write_tries(reply_wrong(r), REPLY_SIZE, out.len()) {
+        WriteAnswer::Written => {
+            put_reply(r, out);
+            WriteAnswer::Written
+        }
+        WriteAnswer::Refused(refusal) => WriteAnswer::Refused(refusal),
+    }
+}
+
+// A reply held as a value.
+pub fn read_reply_value(frame: [u8; 51]) -> ReplyRead
+    ensures { λ r. ⌜ ReadAs frame r ⌝ }
+{
+    read_reply(&frame)
+}
+
+pub fn write_reply_value(r: StaticReply) -> ReplyFrame
+    ensures { λ a. ⌜ Wrote reply r (replicate 51 0) (a .answer) (a .frame) ⌝ }
+{
+    let mut frame = [0u8; 51];
+    let answer = write_reply(r, &mut frame);
+    ReplyFrame { answer, frame }
+}
+
+fn refused(refusal: ReadRefusal) -> ReplyRead
+    ensures { λ r. ⌜ r ≡ I.refusedBy refusal ⌝ }
+{
+    ReplyRead {
+        verdict: ReadVerdict::Refused(refusal),
+        reply: zero_reply(),
+    }
+}
+
+fn zero_reply() -> StaticReply
+    ensures { λ r. ⌜ r ≡ zeroReply ⌝ }
+{
+    StaticReply {
+        program: 0,
+        mode: 0,
+        status: 0,
+        requester: 0,
+        number: 0,
+        bib: 0,
+        group: 0,
+        run: 0,
+        physical: 0,
+        channel: 0,
+        information: 0,
+        timing: Timing::Raw,
+        raw_time: [0; 10],
+        raw_date: [0; 8],
+        spare: [0; 2],
+    }
+}
+
+fn fields_read(s: &[u8]) -> ReplyRead
+    ensures { λ r. ⌜ r ≡ I.fieldsRead (now (s .entry)) ⌝ }
+{
+    let seen = seen_at(s, kind_of(byte_at(s, 5), byte_at(s, 29)));
+    let wrong = seen.wrong;
+    let r = reply_at(s, seen);
+    judged(r, head_wrong(r, wrong))
+}
+
+fn judged(r: StaticReply, wrong: u8) -> ReplyRead
+    ensures { λ a. ⌜ a ≡ I.judgedAs r wrong ⌝ }
+{
+    if wrong == 0 {
+        return ReplyRead {
+            verdict: ReadVerdict::Read,
+            reply: r,
+        };
+    }
+    refused(ReadRefusal::Field(Place { field: wrong }))
+}
+
+// The values of the fields, wrong or not.
+fn reply_at(s: &[u8], seen: Seen) -> StaticReply
+    ensures { λ r. ⌜ r ≡ I.replyAt (now (s .entry)) seen ⌝ }
+{
+    let timing = seen.timing;
+    let raw_time = seen.raw_time;
+    let raw_date = seen.raw_date;
+    StaticReply {
+        program: byte_at(s, 3),
+        mode: byte_at(s, 4),
+        status: byte_at(s, 5),
+        requester: byte_at(s, 6),
+        number: number_or_none(s, 7, 5),
+        bib: number_or_none(s, 12, 5),
+        group: number_or_none(s, 17, 3),
+        run: number_or_none(s, 20, 3),
+        physical: number_or_none(s, 23, 3),
+        channel: number_or_none(s, 26, 3),
+        information: byte_at(s, 29),
+        timing,
+        raw_time,
+        raw_date,
+        spare: spare_at(s),
+    }
+}
+
+// The offset of the first wrong part, or 0.
+fn reply_wrong(r: StaticReply) -> u8
+    ensures { λ w. ⌜ w ≡ wrongIn reply r ⌝ }
+{
+    let kind = kind_of(r.status, r.information);
+    let timing = r.timing;
+    let raw_time = r.raw_time;
+    let raw_date = r.raw_date;
+    let spare = r.spare;
+    head_wrong(r, timing_wrong(kind, timing, raw_time, raw_date, spare))
+}
+
+// The parts before time and date, and then the rest.
+fn head_wrong(r: StaticReply, rest: u8) -> u8
+    ensures { λ w. ⌜ w ≡ I.headWrong r rest ⌝ }
+{
+    let wrong = unless(is_letter(r.information), 29, rest);
+    let wrong = unless(is_channel(r.channel), 26, wrong);
+    let wrong = unless(r.physical <= 999, 23, wrong);
+    let wrong = unless(within(least_run(r.status), 250, r.run), 20, wrong);
+    let wrong = unless(r.group <= 199, 17, wrong);
+    let wrong = unless(r.bib <= 59999, 12, wrong);
+    let wrong = unless(r.number <= 99999, 7, wrong);
+    let wrong = unless(is_requester(r.requester), 6, wrong);
+    let wrong = unless(is_status(r.status), 5, wrong);
+    let wrong = unless(is_raw(r.mode), 4, wrong);
+    unless(is_raw(r.program), 3, wrong)
+}
+
+fn is_status(b: u8) -> bool
+    ensures { λ r. ⌜ r ≡ isStatus b ⌝ }
+{
+    one_of(b"REZ", b)
+}
+
+fn is_letter(b: u8) -> bool
+    ensures { λ r. ⌜ r ≡ isLetter b ⌝ }
+{
+    one_of(b"0123456789AQPaSsTKRGHhIiJjpkugWwX", b)
+}
+
+fn is_channel(v: u32) -> bool
+    ensures { λ r. ⌜ r ≡ isChannel v ⌝ }
+{
+    (v <= 240) | (v == 245) | (v == 248) | (v == 249) | (v == 250) | (v == 255)
+}
+
+fn least_run(status: u8) -> u32
+    ensures { λ r. ⌜ r ≡ leastRun status ⌝ }
+{
+    if status == 90 { 0 } else { 1 }
+}
+
+fn put_reply(r: StaticReply, out: &mut [u8])
+    ensures { λ _. ⌜ now (out .exit) ≡ sets (now (out .entry)) 0 (I.replyText r) ⌝ }
+{
+    put_reply_head(r, out);
+    let timing = r.timing;
+    let raw_time = r.raw_time;
+    let raw_date = r.raw_date;
+    let spare = r.spare;
+    put_timing(timing, raw_time, raw_date, out);
+    put_run(out, 48, &spare, 2);
+    put_byte(out, 50, 13);
+}
+
+fn put_reply_head(r: StaticReply, out: &mut [u8])
+    ensures { λ _. ⌜ now (out .exit) ≡ sets (now (out .entry)) 0 (I.headText r) ⌝ }
+{
+    put_head(out, REPLY_LEAD);
+    put_byte(out, 3, r.program);
+    put_byte(out, 4, r.mode);
+    put_byte(out, 5, r.status);
+    put_byte(out, 6, r.requester);
+    put_number(out, 7, 5, r.number as u64);
+    put_number(out, 12, 5, r.bib as u64);
+    put_number(out, 17, 3, r.group as u64);
+    put_number(out, 20, 3, r.run as u64);
+    put_number(out, 23, 3, r.physical as u64);
+    put_number(out, 26, 3, r.channel as u64);
+    put_byte(out, 29, r.information);
+}

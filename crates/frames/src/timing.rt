@@ -1,0 +1,384 @@
+// Time and date of a reply, by its kind.
+use crate::core::clock_or_none;
+use crate::core::number_or_none;
+use crate::core::unless;
+use digits::byte_at;
+use digits::one_of;
+use digits::put_byte;
+use digits::put_number;
+use times::clock::put_clock;
+use times::day::is_day;
+use times::net::NetParts;
+use times::net::NetValue;
+use times::net::is_net;
+use times::net::net_parts;
+use times::net::net_value;
+ghost use mathlib.Core.Path.{_≡_};
+ghost use Prim.Native.Nat.{_+_, _<_};
+ghost use lib.Seq.{sets};
+ghost use Rattle.frames.specs.Rules.{isRaw};
+ghost use Rattle.frames.specs.Timing as T;
+ghost use Rattle.frames.specs.Inside as I;
+
+pub enum TimingKind {
+    Clock,
+    Net,
+    Raw,
+}
+
+// A time of day in ticks with a day; a net value in ticks; or raw, held beside it.
+pub enum Timing {
+    Clock {
+        ticks: u32,
+        day: u32,
+        month: u32,
+        year: u32,
+    },
+    Net(i64),
+    Raw,
+}
+
+pub(crate) fn kind_of(status: u8, letter: u8) -> TimingKind
+    ensures { λ r. ⌜ r ≡ T.timingKind status letter ⌝ }
+{
+    if status == 90 {
+        return TimingKind::Raw;
+    }
+    if one_of(b"0KSsa", letter) {
+        return TimingKind::Clock;
+    }
+    if one_of(b"123", letter) {
+        return TimingKind::Net;
+    }
+    TimingKind::Raw
+}
+
+pub(crate) fn is_raw(b: u8) -> bool
+    ensures { λ r. ⌜ r ≡ isRaw b ⌝ }
+{
+    (32 <= b) & (b <= 126)
+}
+
+// Whether the first n bytes are raw.
+fn raw_run(s: &[u8], n: usize) -> bool
+    ensures { λ r. ⌜ r ≡ I.rawFrom (now (s .entry)) 0 n ⌝ }
+{
+    let mut i = 0;
+    while i < n {
+        if !is_raw(byte_at(s, i)) {
+            return false;
+        }
+        i += 1;
+    }
+    true
+}
+
+// Whether the first n bytes are zero.
+fn zero_run(s: &[u8], n: usize) -> bool
+    ensures { λ r. ⌜ r ≡ I.zeroFrom (now (s .entry)) 0 n ⌝ }
+{
+    let mut i = 0;
+    while i < n {
+        if byte_at(s, i) != 0 {
+            return false;
+        }
+        i += 1;
+    }
+    true
+}
+
+// The two last bytes, and then the parts that the kind does not use.
+pub(crate) fn spare_wrong(spare: [u8; 2], rest: u8) -> u8
+    ensures { λ r. ⌜ r ≡ I.spareWrong spare rest ⌝ }
+{
+    unless(raw_run(&spare, 2), 48, rest)
+}
+
+pub(crate) fn unused_wrong(raw_time: [u8; 10], raw_date: [u8; 8]) -> u8
+    ensures { λ r. ⌜ r ≡ I.unusedWrong «raw_time» «raw_date» ⌝ }
+{
+    let time = zero_run(&raw_time, 10);
+    let date = zero_run(&raw_date, 8);
+    unless(time & date, 50, 0)
+}
+
+pub(crate) fn clock_wrong(ticks: u32, day: u32, month: u32, year: u32, rest: u8) -> u8
+    ensures { λ r. ⌜ r ≡ I.clockWrong ticks day month year rest ⌝ }
+{
+    let wrong = unless(is_day(day, month, year), 40, rest);
+    let wrong = unless(month <= 99, 40, wrong);
+    let wrong = unless(day <= 99, 40, wrong);
+    unless(ticks <= 863_999_999, 30, wrong)
+}
+
+pub(crate) fn net_wrong(time: u32, sign: u8, days: u64, rest: u8) -> u8
+    ensures { λ r. ⌜ r ≡ I.netWrong time sign days rest ⌝ }
+{
+    let parts = NetParts {
+        minus: sign == 45,
+        days,
+        time,
+    };
+    let wrong = unless(is_net(parts), 40, rest);
+    let wrong = unless(one_of(b"+-", sign), 40, wrong);
+    unless(time <= 863_999_999, 30, wrong)
+}
+
+pub(crate) fn raw_wrong(raw_time: [u8; 10], raw_date: [u8; 8], rest: u8) -> u8
+    ensures { λ r. ⌜ r ≡ I.rawWrong «raw_time» «raw_date» rest ⌝ }
+{
+    let wrong = unless(raw_run(&raw_date, 8), 40, rest);
+    unless(raw_run(&raw_time, 10), 30, wrong)
+}
+
+// ---- a record's timing, against the kind that is asked for: 30 where it is of another
+
+pub(crate) fn timing_wrong(
+    kind: TimingKind,
+    timing: Timing,
+    raw_time: [u8; 10],
+    raw_date: [u8; 8],
+    spare: [u8; 2],
+) -> u8
+    ensures { λ r. ⌜ r ≡ I.timingWrong kind timing «raw_time» «raw_date» spare ⌝ }
+{
+    match kind {
+        TimingKind::Clock => as_clock(timing, spare_wrong(spare, unused_wrong(raw_time, raw_date))),
+        TimingKind::Net => as_net(timing, spare_wrong(spare, unused_wrong(raw_time, raw_date))),
+        TimingKind::Raw => as_raw(timing, raw_wrong(raw_time, raw_date, spare_wrong(spare, 0))),
+    }
+}
+
+fn as_clock(timing: Timing, rest: u8) -> u8
+    ensures { λ r. ⌜ r ≡ I.asClock timing rest ⌝ }
+{
+    match timing {
+        Timing::Clock {
+            ticks,
+            day,
+            month,
+            year,
+        } => clock_wrong(ticks, day, month, year, rest),
+        Timing::Net(_) => 30,
+        Timing::Raw => 30,
+    }
+}
+
+fn as_net(timing: Timing, rest: u8) -> u8
+    ensures { λ r. ⌜ r ≡ I.asNet timing rest ⌝ }
+{
+    match timing {
+        Timing::Clock {
+            ticks: _,
+            day: _,
+            month: _,
+            year: _,
+        } => 30,
+        Timing::Net(value) => net_value_wrong(value, rest),
+        Timing::Raw => 30,
+    }
+}
+
+fn net_value_wrong(value: i64, rest: u8) -> u8
+    ensures { λ r. ⌜ r ≡ I.netValueWrong value rest ⌝ }
+{
+    let parts = net_parts(value);
+    net_wrong(parts.time, sign_of(parts.minus), parts.days, rest)
+}
+
+fn sign_of(minus: bool) -> u8
+    ensures { λ r. ⌜ r ≡ T.signOf minus ⌝ }
+{
+    if minus { 45 } else { 43 }
+}
+
+fn as_raw(timing: Timing, rest: u8) -> u8
+    ensures { λ r. ⌜ r ≡ I.asRaw timing rest ⌝ }
+{
+    match timing {
+        Timing::Clock {
+            ticks: _,
+            day: _,
+            month: _,
+            year: _,
+        } => 30,
+        Timing::Net(_) => 30,
+        Timing::Raw => rest,
+    }
+}
+
+// ---- a frame's time and date: what they hold, wrong or not, and the offset of what is wrong first
+
+pub(crate) struct Seen {
+    pub(crate) timing: Timing,
+    pub(crate) raw_time: [u8; 10],
+    pub(crate) raw_date: [u8; 8],
+    pub(crate) wrong: u8,
+}
+
+pub(crate) fn seen_at(s: &[u8], kind: TimingKind) -> Seen
+    ensures { λ r. ⌜ r ≡ I.seenOf kind (now (s .entry)) ⌝ }
+{
+    match kind {
+        TimingKind::Clock => seen_clock(s),
+        TimingKind::Net => seen_net(s),
+        TimingKind::Raw => seen_raw(s),
+    }
+}
+
+fn seen_clock(s: &[u8]) -> Seen
+    ensures { λ r. ⌜ r ≡ I.seenClock (now (s .entry)) ⌝ }
+{
+    let ticks = clock_or_none(s, 30);
+    let day = number_or_none(s, 40, 2);
+    let month = number_or_none(s, 42, 2);
+    let year = number_or_none(s, 44, 4);
+    let wrong = clock_wrong(ticks, day, month, year, spare_wrong(spare_at(s), 0));
+    Seen {
+        timing: Timing::Clock {
+            ticks,
+            day,
+            month,
+            year,
+        },
+        raw_time: [0; 10],
+        raw_date: [0; 8],
+        wrong,
+    }
+}
+
+fn seen_net(s: &[u8]) -> Seen
+    ensures { λ r. ⌜ r ≡ I.seenNet (now (s .entry)) ⌝ }
+{
+    let time = clock_or_none(s, 30);
+    let sign = byte_at(s, 40);
+    let days = number_or_none(s, 41, 7) as u64;
+    let wrong = net_wrong(time, sign, days, spare_wrong(spare_at(s), 0));
+    let parts = NetParts {
+        minus: sign == 45,
+        days,
+        time,
+    };
+    Seen {
+        timing: net_timing(parts),
+        raw_time: [0; 10],
+        raw_date: [0; 8],
+        wrong,
+    }
+}
+
+// What is no net time is refused, whatever it holds here.
+fn net_timing(parts: NetParts) -> Timing
+    ensures { λ r. ⌜ r ≡ I.netTiming parts ⌝ }
+{
+    match net_value(parts) {
+        NetValue::Is(value) => Timing::Net(value),
+        NetValue::Wrong => Timing::Raw,
+    }
+}
+
+fn seen_raw(s: &[u8]) -> Seen
+    ensures { λ r. ⌜ r ≡ I.seenRaw (now (s .entry)) ⌝ }
+{
+    let raw_time = raw_time_at(s);
+    let raw_date = raw_date_at(s);
+    let wrong = raw_wrong(raw_time, raw_date, spare_wrong(spare_at(s), 0));
+    Seen {
+        timing: Timing::Raw,
+        raw_time,
+        raw_date,
+        wrong,
+    }
+}
+
+fn raw_time_at(s: &[u8]) -> [u8; 10]
+    ensures { λ r. ⌜ r ≡ T.bytesOf (now (s .entry)) 30 10 ⌝ }
+{
+    [
+        byte_at(s, 30),
+        byte_at(s, 31),
+        byte_at(s, 32),
+        byte_at(s, 33),
+        byte_at(s, 34),
+        byte_at(s, 35),
+        byte_at(s, 36),
+        byte_at(s, 37),
+        byte_at(s, 38),
+        byte_at(s, 39),
+    ]
+}
+
+fn raw_date_at(s: &[u8]) -> [u8; 8]
+    ensures { λ r. ⌜ r ≡ T.bytesOf (now (s .entry)) 40 8 ⌝ }
+{
+    [
+        byte_at(s, 40),
+        byte_at(s, 41),
+        byte_at(s, 42),
+        byte_at(s, 43),
+        byte_at(s, 44),
+        byte_at(s, 45),
+        byte_at(s, 46),
+        byte_at(s, 47),
+    ]
+}
+
+pub(crate) fn spare_at(s: &[u8]) -> [u8; 2]
+    ensures { λ r. ⌜ r ≡ T.bytesOf (now (s .entry)) 48 2 ⌝ }
+{
+    [byte_at(s, 48), byte_at(s, 49)]
+}
+
+// ---- time and date stored
+
+pub(crate) fn put_timing(timing: Timing, raw_time: [u8; 10], raw_date: [u8; 8], out: &mut [u8])
+    ensures { λ _. ⌜ now (out .exit) ≡ sets (now (out .entry)) 30 (I.timingText timing «raw_time» «raw_date») ⌝ }
+{
+    match timing {
+        Timing::Clock {
+            ticks,
+            day,
+            month,
+            year,
+        } => put_clock_timing(ticks, day, month, year, out),
+        Timing::Net(value) => put_net(value, out),
+        Timing::Raw => put_raw(raw_time, raw_date, out),
+    }
+}
+
+fn put_clock_timing(ticks: u32, day: u32, month: u32, year: u32, out: &mut [u8])
+    ensures { λ _. ⌜ now (out .exit) ≡ sets (now (out .entry)) 30 (I.clockText ticks day month year) ⌝ }
+{
+    put_clock(out, 30, ticks);
+    put_number(out, 40, 2, day as u64);
+    put_number(out, 42, 2, month as u64);
+    put_number(out, 44, 4, year as u64);
+}
+
+fn put_net(value: i64, out: &mut [u8])
+    ensures { λ _. ⌜ now (out .exit) ≡ sets (now (out .entry)) 30 (I.netText value) ⌝ }
+{
+    let parts = net_parts(value);
+    put_clock(out, 30, parts.time);
+    put_byte(out, 40, sign_of(parts.minus));
+    put_number(out, 41, 7, parts.days);
+}
+
+fn put_raw(raw_time: [u8; 10], raw_date: [u8; 8], out: &mut [u8])
+    ensures { λ _. ⌜ now (out .exit) ≡ sets (now (out .entry)) 30 (I.rawText «raw_time» «raw_date») ⌝ }
+{
+    put_run(out, 30, &raw_time, 10);
+    put_run(out, 40, &raw_date, 8);
+}
+
+// The first n bytes of t, from a place on.
+pub(crate) fn put_run(out: &mut [u8], at: usize, t: &[u8], n: usize)
+    requires { ⌜ at + n < 1000 ⌝ }
+    ensures { λ _. ⌜ now (out .exit) ≡ sets (now (out .entry)) at (T.bytesOf (now (t .entry)) 0 n) ⌝ }
+{
+    let mut i = 0;
+    while i < n {
+        put_byte(out, at + i, byte_at(t, i));
+        i += 1;
+    }
+}
