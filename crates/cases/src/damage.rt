@@ -1,40 +1,57 @@
 // Every damage of one byte: each place of a frame, each of the 256 values.
-use crate::frames_asked::Told;
-use crate::frames_asked::read_told;
 use crate::line;
 use crate::print;
+use crate::told::Told;
+use crate::told::done;
+use crate::told::read_told;
+use crate::told::same_told;
 use digits::byte_at;
 use digits::put_byte;
+use frames::dynamic::DynamicRead;
+use frames::dynamic::DynamicRequest;
+use frames::dynamic::read_dynamic;
+use frames::dynamic::write_dynamic;
+use frames::refusals::ReadVerdict;
 use frames::refusals::WriteAnswer;
+use frames::reply::StaticReply;
+use frames::reply::read_reply;
+use frames::reply::write_reply;
 use frames::request::RequestRead;
 use frames::request::StaticRequest;
 use frames::request::read_request;
 use frames::request::write_request;
 
-pub fn damage_request(s: &[u8]) {
-    let mut frame = [0u8; 100];
-    let n = line::bytes(s, 1, &mut frame);
-    damage_places(&mut frame[0..n]);
+// Which reader and writer a case is for.
+pub enum Damaged {
+    Request,
+    Reply,
+    Dynamic,
 }
 
-fn damage_places(frame: &mut [u8]) {
+pub fn damage(s: &[u8], kind: Damaged) {
+    let mut frame = [0u8; 100];
+    let n = line::bytes(s, 1, &mut frame);
+    damage_places(kind, &mut frame[0..n]);
+}
+
+fn damage_places(kind: Damaged, frame: &mut [u8]) {
     let mut place = 0;
     while place < frame.len() {
-        damage_place(frame, place);
+        damage_place(kind, frame, place);
         place += 1;
     }
 }
 
 // The runs of equal answers at one place, which holds its own byte again afterwards.
-fn damage_place(frame: &mut [u8], place: usize) {
+fn damage_place(kind: Damaged, frame: &mut [u8], place: usize) {
     let own = byte_at(frame, place);
     print::decimal(place as u64);
-    let mut last = answer_with(frame, place, 0);
+    let mut last = answer_with(kind, frame, place, 0);
     let mut count: u64 = 1;
     let mut value: u8 = 0;
     while value < 255 {
         value += 1;
-        let next = answer_with(frame, place, value);
+        let next = answer_with(kind, frame, place, value);
         if same_told(last, next) {
             count = count % 256 + 1;
         } else {
@@ -48,46 +65,6 @@ fn damage_place(frame: &mut [u8], place: usize) {
     put_byte(frame, place, own);
 }
 
-fn answer_with(frame: &mut [u8], place: usize, value: u8) -> Told {
-    put_byte(frame, place, value);
-    match read_request(frame) {
-        RequestRead::Request(r) => written_again(r, frame),
-        RequestRead::Refused(f) => read_told(f),
-    }
-}
-
-fn written_again(r: StaticRequest, frame: &[u8]) -> Told {
-    let mut out = [0u8; 24];
-    match write_request(r, &mut out) {
-        WriteAnswer::Written => own_bytes(&out, frame),
-        WriteAnswer::Refused(_) => Told {
-            number: 0,
-            offset: 1,
-        },
-    }
-}
-
-fn own_bytes(out: &[u8], frame: &[u8]) -> Told {
-    let mut i = 0;
-    while i < out.len() {
-        if byte_at(out, i) != byte_at(frame, i) {
-            return Told {
-                number: 0,
-                offset: 1,
-            };
-        }
-        i += 1;
-    }
-    Told {
-        number: 0,
-        offset: 0,
-    }
-}
-
-fn same_told(a: Told, b: Told) -> bool {
-    (a.number == b.number) & (a.offset == b.offset)
-}
-
 fn print_run(count: u64, t: Told) {
     print::space();
     print::decimal(count);
@@ -95,4 +72,78 @@ fn print_run(count: u64, t: Told) {
     print::decimal(t.number);
     print::text(b".");
     print::decimal(t.offset);
+}
+
+fn answer_with(kind: Damaged, frame: &mut [u8], place: usize, value: u8) -> Told {
+    put_byte(frame, place, value);
+    answer_to(kind, frame)
+}
+
+fn answer_to(kind: Damaged, frame: &[u8]) -> Told {
+    match kind {
+        Damaged::Request => request_answer(frame),
+        Damaged::Reply => reply_answer(frame),
+        Damaged::Dynamic => dynamic_answer(frame),
+    }
+}
+
+fn request_answer(frame: &[u8]) -> Told {
+    match read_request(frame) {
+        RequestRead::Request(r) => request_again(r, frame),
+        RequestRead::Refused(f) => read_told(f),
+    }
+}
+
+fn request_again(r: StaticRequest, frame: &[u8]) -> Told {
+    let mut out = [0u8; 24];
+    let a = write_request(r, &mut out);
+    own_bytes(a, &out, frame)
+}
+
+fn reply_answer(frame: &[u8]) -> Told {
+    let a = read_reply(frame);
+    let verdict = a.verdict;
+    let r = a.reply;
+    match verdict {
+        ReadVerdict::Read => reply_again(r, frame),
+        ReadVerdict::Refused(f) => read_told(f),
+    }
+}
+
+fn reply_again(r: StaticReply, frame: &[u8]) -> Told {
+    let mut out = [0u8; 51];
+    let a = write_reply(r, &mut out);
+    own_bytes(a, &out, frame)
+}
+
+fn dynamic_answer(frame: &[u8]) -> Told {
+    match read_dynamic(frame) {
+        DynamicRead::Request(r) => dynamic_again(r, frame),
+        DynamicRead::Refused(f) => read_told(f),
+    }
+}
+
+fn dynamic_again(r: DynamicRequest, frame: &[u8]) -> Told {
+    let mut out = [0u8; 46];
+    let a = write_dynamic(r, &mut out);
+    own_bytes(a, &out, frame)
+}
+
+// Done where the frame was written again with its own bytes; an offset of 1 where not.
+fn own_bytes(a: WriteAnswer, out: &[u8], frame: &[u8]) -> Told {
+    match a {
+        WriteAnswer::Written => same_bytes(out, frame),
+        WriteAnswer::Refused(_) => Told { number: 0, offset: 1 },
+    }
+}
+
+fn same_bytes(out: &[u8], frame: &[u8]) -> Told {
+    let mut i = 0;
+    while i < out.len() {
+        if byte_at(out, i) != byte_at(frame, i) {
+            return Told { number: 0, offset: 1 };
+        }
+        i += 1;
+    }
+    done()
 }

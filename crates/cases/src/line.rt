@@ -54,18 +54,26 @@ pub fn nth_word(s: &[u8], k: usize) -> Word {
 
 // Whether the line's first word is this one.
 pub fn asks(s: &[u8], name: &[u8]) -> bool {
-    let first = nth_word(s, 0);
-    if first.end != name.len() {
-        return false;
-    }
+    is_word(s, 0, name)
+}
+
+// Whether the k-th word is this one.
+pub fn is_word(s: &[u8], k: usize, name: &[u8]) -> bool {
+    let w = nth_word(s, k);
+    let end = w.end;
+    let mut p = w.at;
     let mut i = 0;
     while i < name.len() {
-        if byte_at(s, i) != name[i] {
+        if end <= p {
             return false;
         }
+        if byte_at(s, p) != name[i] {
+            return false;
+        }
+        p += 1;
         i += 1;
     }
-    true
+    p == end
 }
 
 // The number that the k-th word spells, of up to 19 digits.
@@ -98,6 +106,19 @@ fn digits_of(s: &[u8], at: usize, width: usize) -> u64 {
 // The same for a number that fits 32 bits, or a byte.
 pub fn small(s: &[u8], k: usize) -> u32 {
     (number(s, k) % 4_294_967_296) as u32
+}
+
+// The same for a number with its sign.
+pub fn signed(s: &[u8], k: usize) -> i64 {
+    let w = nth_word(s, k);
+    let at = w.at;
+    let end = w.end;
+    if byte_at(s, at) == 45 {
+        if at < end {
+            return 0 - (decimal(s, at + 1, end) % 9_223_372_036_854_775_808) as i64;
+        }
+    }
+    (decimal(s, at, end) % 9_223_372_036_854_775_808) as i64
 }
 
 pub fn code(s: &[u8], k: usize) -> u8 {

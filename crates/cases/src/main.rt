@@ -1,9 +1,14 @@
 // Reads cases from standard input, a line each, and prints the answer to each: docs/CASES.md has both texts.
 mod damage;
-mod frames_asked;
+mod dynamic_asked;
 mod line;
 mod print;
+mod reply_asked;
+mod request_asked;
 mod times_asked;
+mod told;
+
+use damage::Damaged;
 
 fn main() {
     let mut buffer = [0u8; 256];
@@ -42,17 +47,45 @@ fn answer_time(s: &[u8]) {
     } else if line::asks(s, b"running") {
         times_asked::running(s);
     } else {
-        answer_frame(s);
+        answer_reading(s);
     }
 }
 
-fn answer_frame(s: &[u8]) {
+fn answer_reading(s: &[u8]) {
     if line::asks(s, b"read-request") {
-        frames_asked::reading(s);
-    } else if line::asks(s, b"write-request") {
-        frames_asked::writing(s);
-    } else if line::asks(s, b"damage-request") {
-        damage::damage_request(s);
+        request_asked::reading(s);
+    } else if line::asks(s, b"read-reply") {
+        reply_asked::reading(s);
+    } else if line::asks(s, b"read-reply-value") {
+        reply_asked::reading_value(s);
+    } else if line::asks(s, b"read-dynamic") {
+        dynamic_asked::reading(s);
+    } else {
+        answer_writing(s);
+    }
+}
+
+fn answer_writing(s: &[u8]) {
+    if line::asks(s, b"write-request") {
+        request_asked::writing(s);
+    } else if line::asks(s, b"write-reply") {
+        reply_asked::writing(s);
+    } else if line::asks(s, b"write-reply-value") {
+        reply_asked::writing_value(s);
+    } else if line::asks(s, b"write-dynamic") {
+        dynamic_asked::writing(s);
+    } else {
+        answer_damage(s);
+    }
+}
+
+fn answer_damage(s: &[u8]) {
+    if line::asks(s, b"damage-request") {
+        damage::damage(s, Damaged::Request);
+    } else if line::asks(s, b"damage-reply") {
+        damage::damage(s, Damaged::Reply);
+    } else if line::asks(s, b"damage-dynamic") {
+        damage::damage(s, Damaged::Dynamic);
     } else {
         print::text(b"no such case\n");
     }

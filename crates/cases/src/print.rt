@@ -23,6 +23,22 @@ pub fn pair(a: u64, b: u64) {
     decimal(b);
 }
 
+// A space, and then a number, a letter's code, or bytes.
+pub fn also(n: u32) {
+    space();
+    decimal(n as u64);
+}
+
+pub fn also_code(b: u8) {
+    space();
+    decimal(b as u64);
+}
+
+pub fn also_bytes(s: &[u8]) {
+    space();
+    bytes(s);
+}
+
 pub fn signed(v: i64) {
     if v < 0 {
         text(b"-");

@@ -78,16 +78,7 @@ pub fn net(s: &[u8]) {
 }
 
 pub fn net_parts_of(s: &[u8]) {
-    let w = line::nth_word(s, 1);
-    let at = w.at;
-    let end = w.end;
-    if digits::byte_at(s, at) == 45 {
-        if at < end {
-            shown(0 - (line::decimal(s, at + 1, end) % 9_223_372_036_854_775_808) as i64);
-        }
-    } else {
-        shown((line::decimal(s, at, end) % 9_223_372_036_854_775_808) as i64);
-    }
+    shown(line::signed(s, 1));
     print::end_line();
 }
 

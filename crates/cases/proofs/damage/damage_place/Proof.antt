@@ -7,10 +7,10 @@ use Rattle.cases.proofs.damage.damage_place.Tie as tie
 use lib.ListN.{length}
 
 abbrev Inv-loop : tie.InvT-loop
-Inv-loop frame₀ place own last₀ count₀ value₀ frame last count value = (value ≤ 255) × (length frame ≡ length frame₀)
+Inv-loop kind frame₀ place own last₀ count₀ value₀ frame last count value = (value ≤ 255) × (length frame ≡ length frame₀)
 
 abbrev μ-loop : tie.MeasureT-loop
-μ-loop frame₀ place own last₀ count₀ value₀ frame last count value = 255 - value
+μ-loop kind frame₀ place own last₀ count₀ value₀ frame last count value = 255 - value
 
 byte-at-requires : tie.Need-byte-at-requires Inv-loop μ-loop
 byte-at-requires c κs = search needs

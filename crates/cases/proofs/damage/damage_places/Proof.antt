@@ -7,10 +7,10 @@ use Rattle.cases.proofs.damage.damage_places.Tie as tie
 use lib.ListN.{length}
 
 abbrev Inv-loop : tie.InvT-loop
-Inv-loop frame₀ place₀ frame place = (place ≤ length frame) × (length frame ≡ length frame₀)
+Inv-loop kind frame₀ place₀ frame place = (place ≤ length frame) × (length frame ≡ length frame₀)
 
 abbrev μ-loop : tie.MeasureT-loop
-μ-loop frame₀ place₀ frame place = length frame - place
+μ-loop kind frame₀ place₀ frame place = length frame - place
 
 loop-holds : tie.Need-loop-holds Inv-loop μ-loop
 loop-holds c = search needs

@@ -1,8 +1,8 @@
--- `cases::damage::own_bytes` is safe and ends. Assumes nothing.
+-- `cases::damage::same_bytes` is safe and ends. Assumes nothing.
 use Prim.Native.Nat.{_-_, _≤_}
 use borrow.Author.Needs.{needs}
-use Rattle.cases.proofs.damage.own_bytes.Statement.{statement}
-use Rattle.cases.proofs.damage.own_bytes.Tie as tie
+use Rattle.cases.proofs.damage.same_bytes.Statement.{statement}
+use Rattle.cases.proofs.damage.same_bytes.Tie as tie
 use lib.ListN.{length}
 
 abbrev Inv-loop : tie.InvT-loop
@@ -32,11 +32,14 @@ loop-less c = search needs
 loop-again : tie.Need-loop-again Inv-loop μ-loop
 loop-again c = search needs
 
+done-requires : tie.Need-done-requires Inv-loop μ-loop
+done-requires c κs = search needs
+
 returns-2 : tie.Need-returns-2 Inv-loop μ-loop
 returns-2 c = search needs
 
-pub own-bytes-spec : {M : Type 1} → statement M
-own-bytes-spec =
+pub same-bytes-spec : {M : Type 1} → statement M
+same-bytes-spec =
     tie.close
     (tie.spec
     Inv-loop
@@ -48,4 +51,5 @@ own-bytes-spec =
     add-i
     loop-less
     loop-again
+    done-requires
     returns-2)

@@ -1,0 +1,66 @@
+// Cases on the dynamic request.
+use crate::line;
+use crate::print;
+use crate::told::print_told;
+use crate::told::print_written;
+use crate::told::read_told;
+use frames::dynamic::DynamicRead;
+use frames::dynamic::DynamicRequest;
+use frames::dynamic::read_dynamic;
+use frames::dynamic::write_dynamic;
+
+pub fn reading(s: &[u8]) {
+    let mut b = [0u8; 100];
+    let n = line::bytes(s, 1, &mut b);
+    match read_dynamic(&b[0..n]) {
+        DynamicRead::Request(r) => print_dynamic(r),
+        DynamicRead::Refused(f) => print_told(read_told(f)),
+    }
+    print::end_line();
+}
+
+fn print_dynamic(r: DynamicRequest) {
+    print::text(b"0 0");
+    print::also_code(r.requester);
+    print::also_code(r.order);
+    print::also(r.bib);
+    print::also(r.channel);
+    print::also(r.run);
+    print::also(r.stop_bib);
+    print::also(r.stop_channel);
+    print::also(r.stop_run);
+    print::also(r.sign);
+    print::also(r.time);
+    print::also(r.days);
+    print::also(r.period);
+    print::also_code(r.output);
+}
+
+pub fn writing(s: &[u8]) {
+    let mut out = [238u8; 100];
+    let room = (line::small(s, 1) % 101) as usize;
+    writing_to(dynamic_asked(s), &mut out[0..room]);
+}
+
+fn writing_to(r: DynamicRequest, out: &mut [u8]) {
+    let a = write_dynamic(r, out);
+    print_written(a, out);
+}
+
+fn dynamic_asked(s: &[u8]) -> DynamicRequest {
+    DynamicRequest {
+        requester: line::code(s, 2),
+        order: line::code(s, 3),
+        bib: line::small(s, 4),
+        channel: line::small(s, 5),
+        run: line::small(s, 6),
+        stop_bib: line::small(s, 7),
+        stop_channel: line::small(s, 8),
+        stop_run: line::small(s, 9),
+        sign: line::small(s, 10),
+        time: line::small(s, 11),
+        days: line::small(s, 12),
+        period: line::small(s, 13),
+        output: line::code(s, 14),
+    }
+}

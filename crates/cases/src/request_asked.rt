@@ -1,0 +1,56 @@
+// Cases on the static request.
+use crate::line;
+use crate::print;
+use crate::told::print_told;
+use crate::told::print_written;
+use crate::told::read_told;
+use frames::request::RequestRead;
+use frames::request::StaticRequest;
+use frames::request::read_request;
+use frames::request::write_request;
+
+pub fn reading(s: &[u8]) {
+    let mut b = [0u8; 100];
+    let n = line::bytes(s, 1, &mut b);
+    match read_request(&b[0..n]) {
+        RequestRead::Request(r) => print_request(r),
+        RequestRead::Refused(f) => print_told(read_told(f)),
+    }
+    print::end_line();
+}
+
+fn print_request(r: StaticRequest) {
+    print::text(b"0 0");
+    print::also_code(r.requester);
+    print::also(r.number);
+    print::also(r.bib);
+    print::also_code(r.information);
+    print::also(r.channel);
+    print::also(r.run);
+    print::also(r.group);
+    print::also_code(r.output);
+}
+
+pub fn writing(s: &[u8]) {
+    let mut out = [238u8; 100];
+    let room = (line::small(s, 1) % 101) as usize;
+    writing_to(request_asked(s), &mut out[0..room]);
+}
+
+fn writing_to(r: StaticRequest, out: &mut [u8]) {
+    let a = write_request(r, out);
+    print_written(a, out);
+}
+
+fn request_asked(s: &[u8]) -> StaticRequest {
+    StaticRequest {
+        requester: line::code(s, 2),
+        number: line::small(s, 3),
+        bib: line::small(s, 4),
+        information: line::code(s, 5),
+        channel: line::small(s, 6),
+        run: line::small(s, 7),
+        group: line::small(s, 8),
+        output: line::code(s, 9),
+    }
+}

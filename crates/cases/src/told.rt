@@ -1,0 +1,57 @@
+// Answers by the numbers of the table of refusals.
+use crate::print;
+use frames::refusals::ReadRefusal;
+use frames::refusals::WriteAnswer;
+use frames::refusals::WriteRefusal;
+
+// A refusal's number and offset; 0 and 0 where there is none.
+pub struct Told {
+    pub number: u64,
+    pub offset: u64,
+}
+
+pub fn done() -> Told {
+    Told { number: 0, offset: 0 }
+}
+
+pub fn read_told(f: ReadRefusal) -> Told {
+    match f {
+        ReadRefusal::Kind => Told { number: 1, offset: 0 },
+        ReadRefusal::Length => Told { number: 2, offset: 0 },
+        ReadRefusal::End => Told { number: 3, offset: 0 },
+        ReadRefusal::Address => Told { number: 4, offset: 0 },
+        ReadRefusal::Field(p) => Told {
+            number: 5,
+            offset: p.field as u64,
+        },
+    }
+}
+
+pub fn write_told(a: WriteAnswer) -> Told {
+    match a {
+        WriteAnswer::Written => done(),
+        WriteAnswer::Refused(f) => match f {
+            WriteRefusal::Record(at) => Told {
+                number: 6,
+                offset: at as u64,
+            },
+            WriteRefusal::Room => Told { number: 7, offset: 0 },
+        },
+    }
+}
+
+pub fn same_told(a: Told, b: Told) -> bool {
+    (a.number == b.number) & (a.offset == b.offset)
+}
+
+pub fn print_told(t: Told) {
+    print::pair(t.number, t.offset);
+}
+
+// The line of a writing: the answer, and the output after it.
+pub fn print_written(a: WriteAnswer, out: &[u8]) {
+    print_told(write_told(a));
+    print::space();
+    print::bytes(out);
+    print::end_line();
+}
