@@ -133,7 +133,10 @@ fn dynamic_again(r: DynamicRequest, frame: &[u8]) -> Told {
 fn own_bytes(a: WriteAnswer, out: &[u8], frame: &[u8]) -> Told {
     match a {
         WriteAnswer::Written => same_bytes(out, frame),
-        WriteAnswer::Refused(_) => Told { number: 0, offset: 1 },
+        WriteAnswer::Refused(_) => Told {
+            number: 0,
+            offset: 1,
+        },
     }
 }
 
@@ -141,7 +144,10 @@ fn same_bytes(out: &[u8], frame: &[u8]) -> Told {
     let mut i = 0;
     while i < out.len() {
         if byte_at(out, i) != byte_at(frame, i) {
-            return Told { number: 0, offset: 1 };
+            return Told {
+                number: 0,
+                offset: 1,
+            };
         }
         i += 1;
     }

@@ -11,15 +11,30 @@ pub struct Told {
 }
 
 pub fn done() -> Told {
-    Told { number: 0, offset: 0 }
+    Told {
+        number: 0,
+        offset: 0,
+    }
 }
 
 pub fn read_told(f: ReadRefusal) -> Told {
     match f {
-        ReadRefusal::Kind => Told { number: 1, offset: 0 },
-        ReadRefusal::Length => Told { number: 2, offset: 0 },
-        ReadRefusal::End => Told { number: 3, offset: 0 },
-        ReadRefusal::Address => Told { number: 4, offset: 0 },
+        ReadRefusal::Kind => Told {
+            number: 1,
+            offset: 0,
+        },
+        ReadRefusal::Length => Told {
+            number: 2,
+            offset: 0,
+        },
+        ReadRefusal::End => Told {
+            number: 3,
+            offset: 0,
+        },
+        ReadRefusal::Address => Told {
+            number: 4,
+            offset: 0,
+        },
         ReadRefusal::Field(p) => Told {
             number: 5,
             offset: p.field as u64,
@@ -35,7 +50,10 @@ pub fn write_told(a: WriteAnswer) -> Told {
                 number: 6,
                 offset: at as u64,
             },
-            WriteRefusal::Room => Told { number: 7, offset: 0 },
+            WriteRefusal::Room => Told {
+                number: 7,
+                offset: 0,
+            },
         },
     }
 }

@@ -7,3 +7,4 @@ pub mod RequestLaws
 pub mod ReplyLaws
 pub mod DynamicLaws
 pub mod Unique
+pub mod Cases

@@ -1,23 +1,21 @@
 -- The static reply: its layout is sound, and so what is demanded of it holds. Assumes nothing.
 use Prim.Native.Nat.{ℕ, zero, suc, _+_, _-_, _≤_, _<_}
-use mathlib.Core.List.{List, [], _∷_, _++_, append-assoc, append-nil}
-use mathlib.Core.Bool.{Bool, true, false, cond, _&&_, _||_, and-eq-true-iff}
+use mathlib.Core.List.{List, [], _∷_, _++_, append-assoc}
+use mathlib.Core.Bool.{Bool, true, false, cond, _||_}
 use mathlib.Core.Path.{_≡_, refl, sym, ap, _∙_}
 use native.Mathlib.Omega.{arith}
 use native.Mathlib.Nat.{zero-add}
 use borrow.Author.Tests.{leb-true, eqb-true}
 use lib.Dec.{leb, eqb}
-use lib.IntN.{ℤ}
 use lib.ListN.{length, getD, drop, set, length-append}
 use lib.Seq.{sets, getD-at}
 use Rattle.digits.specs.declared.Number.the-variants.{Is}
 use Rattle.digits.specs.Text.{oneOf}
 use Rattle.digits.specs.Digits.{digits, numberAt}
 use Rattle.digits.specs.Form.{Inverse, byte}
-use Rattle.digits.specs.Told.{Told, gives, refuses, tried}
+use Rattle.digits.specs.Told.{gives, tried}
 use Rattle.digits.proofs.Writing.{sets-append, length-digits}
 use Rattle.digits.proofs.Forms.{byte-lawful}
-use Rattle.times.specs.declared.net.NetParts.{NetParts}
 use Rattle.times.specs.Clock.{clock, isTime}
 use Rattle.times.specs.Day.{realDay}
 use Rattle.times.specs.Net.{isNet, netSum, netParts}
@@ -31,21 +29,20 @@ use Rattle.frames.specs.declared.timing.TimingKind.{TimingKind}
 use Rattle.frames.specs.declared.timing.TimingKind.the-variants.{Clock as clockKind, Net as netKind, Raw as rawKind}
 use Rattle.frames.specs.declared.timing.Timing.{Timing}
 use Rattle.frames.specs.declared.timing.Timing.the-variants.{Clock, Net, Raw}
-use Rattle.frames.specs.declared.timing.Seen.{Seen}
 use Rattle.frames.specs.declared.reply.StaticReply.{StaticReply}
 use Rattle.frames.specs.declared.reply.ReplyRead.{ReplyRead}
 use Rattle.frames.specs.Refusals.{FIELD, readRefused, verdictTold}
 use Rattle.frames.specs.Rules.{between, upTo, isRaw, isRequester}
-use Rattle.frames.specs.Layout.{Layout, field, end, unless, valueOf, Sound, field-sound, end-sound, firstWrong, values, recordWrong, write}
+use Rattle.frames.specs.Layout.{Layout, field, unless, valueOf, Sound, field-sound, end-sound, firstWrong, values, recordWrong, write}
 use Rattle.frames.specs.Kind.{headTold, read, wrongIn, frameOf}
 use Rattle.frames.specs.Demand2.{Faithful}
-use Rattle.frames.specs.Timing.{isZ, timingKind, raw, isSign, netOf, spareAnd, timeAndDate, codeOf, kindOf, timingIs, timed, bytesOf, Tail, signOf, timedValues, ofTimed}
-use Rattle.frames.specs.Reply.{isStatus, isLetter, isChannel, leastRun, fromBib, replyFields, tailOf, withTail, reply, Whole, zeroReply, toldBy, orZero, ReadAs}
-use Rattle.frames.specs.Inside.{orNone, held, seenOf, timingWrong, refusedBy, judgedAs, replyAt, headWrong, fieldsRead, headText, timingText, replyText}
+use Rattle.frames.specs.Timing.{timingKind, raw, isSign, netOf, spareAnd, timeAndDate, codeOf, kindOf, timingIs, timed, bytesOf, Tail, signOf, timedValues, ofTimed}
+use Rattle.frames.specs.Reply.{isStatus, isLetter, isChannel, leastRun, replyFields, tailOf, withTail, reply, Whole, zeroReply, toldBy, orZero, ReadAs}
+use Rattle.frames.specs.Inside.{held, seenOf, timingWrong, refusedBy, judgedAs, replyAt, headWrong, fieldsRead, headText, timingText, replyText}
 use Rattle.frames.proofs.RuleLaws.{up-to, in-range, none-in-range, or-cases}
 use Rattle.frames.proofs.LayoutLaws.{unless-none, values-fine, NoneRefused, none-field, none-end, byte-sound, number-sound, clock-sound}
 use Rattle.frames.proofs.KindLaws as K
-use Rattle.frames.proofs.KindLaws.{SoundKind, faithful, length-frame, refused-then}
+use Rattle.frames.proofs.KindLaws.{SoundKind, faithful, length-frame}
 use Rattle.frames.proofs.TimingLaws.{timing-wrong-is, seen-wrong-is, seen-tail-is}
 
 -- ---- the layout is sound

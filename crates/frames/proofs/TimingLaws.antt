@@ -1,7 +1,7 @@
 -- Runs of bytes, and the checks of a reply's time and date. Assumes nothing.
 use Prim.Native.Nat.{ℕ, zero, suc, _+_, _-_, _≤_, _<_}
 use mathlib.Core.List.{List, [], _∷_, _++_}
-use mathlib.Core.Bool.{Bool, true, false, cond, _&&_}
+use mathlib.Core.Bool.{Bool, true, false, _&&_}
 use mathlib.Core.Path.{_≡_, refl, sym, ap, _∙_}
 use native.Mathlib.Omega.{arith}
 use native.Mathlib.Nat.{zero-add}
@@ -18,8 +18,8 @@ use Rattle.frames.specs.declared.timing.TimingKind.the-variants.{Clock a
 use Rattle.frames.specs.declared.timing.Timing.{Timing}
 use Rattle.frames.specs.declared.timing.Timing.the-variants.{Clock, Net, Raw}
 use Rattle.frames.specs.declared.timing.Seen.{Seen}
-use Rattle.frames.specs.Rules.{upTo, isRaw}
-use Rattle.frames.specs.Layout.{Layout, field, end, unless, zeros, recordWrong}
+use Rattle.frames.specs.Rules.{isRaw}
+use Rattle.frames.specs.Layout.{Layout, end, unless, zeros, recordWrong}
 use Rattle.frames.specs.Timing.{raw, isSign, netOf, spareAnd, timeAndDate, timed, Tail, timedValues, ofTimed, bytesOf, signOf}
 use Rattle.frames.specs.Inside.{orNone, held, allFrom, rawFrom, zeroFrom, spareWrong, unusedWrong, clockWrong, netWrong, rawWrong, netValueWrong, timingWrong, seenClock, netTiming, seenNet, seenRaw, seenOf, clockText, netText, rawText}
 use Rattle.frames.proofs.LayoutLaws.{unless-none, zeros-replicate}

@@ -2,40 +2,92 @@
 use Prim.Native.Nat.{ℕ}
 use mathlib.Core.List.{List}
 use mathlib.Core.Bool.{cond}
-use mathlib.Core.Path.{_≡_, refl, sym, ap, _∙_}
+use mathlib.Core.Path.{_≡_, refl, sym, ap, ap₂, _∙_}
+use native.Mathlib.Omega.{arith}
 use lib.Dec.{eqb}
 use Rattle.digits.specs.Told.{Told, gives, refuses}
 use Rattle.frames.specs.declared.refusals.ReadRefusal.{ReadRefusal}
 use Rattle.frames.specs.declared.refusals.ReadRefusal.the-variants.{Kind as kind, Length, End, Address, Field}
+use Rattle.frames.specs.declared.refusals.ReadVerdict.{ReadVerdict}
+use Rattle.frames.specs.declared.refusals.ReadVerdict.the-variants.{Read, Refused as turned}
 use Rattle.frames.specs.declared.refusals.WriteRefusal.the-variants.{Record, Room}
 use Rattle.frames.specs.declared.refusals.WriteAnswer.{WriteAnswer}
 use Rattle.frames.specs.declared.refusals.WriteAnswer.the-variants.{Written, Refused}
 use Rattle.frames.specs.declared.request.StaticRequest.{StaticRequest}
 use Rattle.frames.specs.declared.request.RequestRead.{RequestRead}
-use Rattle.frames.specs.declared.request.RequestRead.the-variants.{Request, Refused as refused}
-use Rattle.frames.specs.Refusals.{KIND, LENGTH, END, ADDRESS, RECORD, writeTold}
+use Rattle.frames.specs.declared.request.RequestRead.the-variants.{Request, Refused as not-request}
+use Rattle.frames.specs.declared.dynamic.DynamicRequest.{DynamicRequest}
+use Rattle.frames.specs.declared.dynamic.DynamicRead.{DynamicRead}
+use Rattle.frames.specs.declared.dynamic.DynamicRead.the-variants.{Request as Running, Refused as not-running}
+use Rattle.frames.specs.declared.reply.StaticReply.{StaticReply}
+use Rattle.frames.specs.declared.reply.ReplyRead.{ReplyRead}
+use Rattle.frames.specs.Refusals.{KIND, LENGTH, END, ADDRESS, RECORD, readRefused, writeTold}
 use Rattle.frames.specs.Kind.{Kind, read, Wrote}
 use Rattle.frames.specs.Request.{request, requestTold}
+use Rattle.frames.specs.Dynamic.{dynamic, dynamicTold}
+use Rattle.frames.specs.Reply.{reply, toldBy, ReadAs}
 
--- ---- what was told leads back to the answer: each refusal has a number and an offset of its own
+-- ---- what was told leads back to the refusal: each has a number and an offset of its own
 
-refusalOf : ℕ → ℕ → ReadRefusal
-refusalOf number offset =
-    cond (eqb number KIND) kind (cond (eqb number LENGTH) Length (cond (eqb number END) End
-    (cond (eqb number ADDRESS) Address (Field (record { field = offset })))))
+module _ (A : Type 0) where
+  refusalIn : Told A → ReadRefusal
+  refusalIn (gives a) = kind
+  refusalIn (refuses number offset) =
+      cond (eqb number KIND) kind (cond (eqb number LENGTH) Length (cond (eqb number END) End
+      (cond (eqb number ADDRESS) Address (Field (record { field = offset })))))
 
-abbrev requestOf : Told StaticRequest → RequestRead
-requestOf (gives r) = Request r
-requestOf (refuses number offset) = refused (refusalOf number offset)
+  refusal-in : (f : ReadRefusal) → refusalIn (readRefused f) ≡ f
+  unfolding refusalIn
+  refusal-in kind = refl
+  refusal-in Length = refl
+  refusal-in End = refl
+  refusal-in Address = refl
+  refusal-in (Field p) = refl
 
-request-of : (a : RequestRead) → requestOf (requestTold a) ≡ a
-unfolding refusalOf
-request-of (Request r) = refl
-request-of (refused kind) = refl
-request-of (refused Length) = refl
-request-of (refused End) = refl
-request-of (refused Address) = refl
-request-of (refused (Field p)) = refl
+  same-refusal : (f g : ReadRefusal) → readRefused {A = A} f ≡ readRefused g → f ≡ g
+  same-refusal f g e = sym (refusal-in f) ∙ ap refusalIn e ∙ refusal-in g
+
+  not-given : (a : A) (f : ReadRefusal) → gives a ≡ readRefused f → ⊥
+  not-given a kind e = let z : _≡_ {A = ℕ} 0 1 = cc in omega arith
+  not-given a Length e = let z : _≡_ {A = ℕ} 0 1 = cc in omega arith
+  not-given a End e = let z : _≡_ {A = ℕ} 0 1 = cc in omega arith
+  not-given a Address e = let z : _≡_ {A = ℕ} 0 1 = cc in omega arith
+  not-given a (Field p) e = let z : _≡_ {A = ℕ} 0 1 = cc in omega arith
+
+-- ---- readers
+
+same-request : (a b : RequestRead) → requestTold a ≡ requestTold b → a ≡ b
+same-request (Request r) (Request q) e = cc
+same-request (Request r) (not-request g) e = absurd (not-given StaticRequest r g e)
+same-request (not-request f) (Request q) e = absurd (not-given StaticRequest q f (sym e))
+same-request (not-request f) (not-request g) e = ap not-request (same-refusal StaticRequest f g e)
+
+pub one-request : (s : List ℕ) (a b : RequestRead) → requestTold a ≡ read request s → requestTold b ≡ read request s → a ≡ b
+one-request s a b p q = same-request a b (p ∙ sym q)
+
+same-dynamic : (a b : DynamicRead) → dynamicTold a ≡ dynamicTold b → a ≡ b
+same-dynamic (Running r) (Running q) e = cc
+same-dynamic (Running r) (not-running g) e = absurd (not-given DynamicRequest r g e)
+same-dynamic (not-running f) (Running q) e = absurd (not-given DynamicRequest q f (sym e))
+same-dynamic (not-running f) (not-running g) e = ap not-running (same-refusal DynamicRequest f g e)
+
+pub one-dynamic : (s : List ℕ) (a b : DynamicRead) → dynamicTold a ≡ read dynamic s → dynamicTold b ≡ read dynamic s → a ≡ b
+one-dynamic s a b p q = same-dynamic a b (p ∙ sym q)
+
+same-verdict : (v w : ReadVerdict) (r q : StaticReply) → toldBy v r ≡ toldBy w q → v ≡ w
+same-verdict Read Read r q e = refl
+same-verdict Read (turned g) r q e = absurd (not-given StaticReply r g e)
+same-verdict (turned f) Read r q e = absurd (not-given StaticReply q f (sym e))
+same-verdict (turned f) (turned g) r q e = ap turned (same-refusal StaticReply f g e)
+
+-- the verdict, and the record beside a refusal too
+pub one-reply : (s : List ℕ) (a b : ReplyRead) → ReadAs s a → ReadAs s b → a ≡ b
+one-reply s a b p q =
+    ap₂ (λ (v : ReadVerdict) (r : StaticReply). record { verdict = v; reply = r })
+    (same-verdict (a .verdict) (b .verdict) (a .reply) (b .reply) (p .told ∙ sym (q .told)))
+    (p .beside ∙ sym (q .beside))
+
+-- ---- writers: one answer and one output
 
 abbrev writeOf : Told (Unit {0}) → WriteAnswer
 writeOf (gives _) = Written
@@ -45,11 +97,6 @@ write-of : (a : WriteAnswer) → writeOf (writeTold a) ≡ a
 write-of Written = refl
 write-of (Refused (Record at)) = refl
 write-of (Refused Room) = refl
-
--- ---- one answer of a reader, one answer and one output of a writer
-
-pub one-request : (s : List ℕ) (a b : RequestRead) → requestTold a ≡ read request s → requestTold b ≡ read request s → a ≡ b
-one-request s a b p q = sym (request-of a) ∙ ap requestOf (p ∙ sym q) ∙ request-of b
 
 pub one-writing : {R : Type 0} (k : Kind R) (r : R) (out : List ℕ) (a b : WriteAnswer) (x y : List ℕ)
     → Wrote k r out a x → Wrote k r out b y → (a ≡ b) × (x ≡ y)

@@ -8,3 +8,4 @@ pub mod Request
 pub mod Timing
 pub mod Reply
 pub mod Dynamic
+pub mod Cases

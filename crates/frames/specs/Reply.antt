@@ -1,6 +1,6 @@
 -- The static reply: 51 bytes, lead byte DC2.
 use Prim.Native.Nat.{ℕ}
-use mathlib.Core.List.{List, [], _∷_}
+use mathlib.Core.List.{List, _∷_}
 use mathlib.Core.Path.{_≡_}
 use mathlib.Core.Bool.{Bool, cond, _||_}
 use lib.ListN.{length, getD, drop, replicate}
@@ -16,7 +16,7 @@ use Rattle.frames.specs.declared.reply.StaticReply.{StaticReply}
 use Rattle.frames.specs.declared.reply.ReplyRead.{ReplyRead}
 use Rattle.frames.specs.Refusals.{readRefused}
 use Rattle.frames.specs.Rules.{between, upTo, isRaw, isRequester}
-use Rattle.frames.specs.Layout.{Layout, field, end}
+use Rattle.frames.specs.Layout.{Layout, field}
 use Rattle.frames.specs.Kind.{Kind, read}
 use Rattle.frames.specs.Timing.{Tail, isZ, timingKind, timed, timedValues, ofTimed}
 

@@ -1,10 +1,9 @@
 -- Time and date of a reply, by its kind: of the clock, net or raw.
-use Prim.Native.Nat.{ℕ, zero, suc, _+_}
+use Prim.Native.Nat.{ℕ, zero, suc}
 use mathlib.Core.List.{List, [], _∷_, _++_}
 use mathlib.Core.Bool.{Bool, cond}
-use lib.ListN.{getD, take, drop}
+use lib.ListN.{getD}
 use lib.Dec.{eqb}
-use lib.IntN.{ℤ}
 use Rattle.digits.specs.declared.Number.the-variants.{Is}
 use Rattle.digits.specs.Text.{codes, oneOf}
 use Rattle.digits.specs.Form.{Form, byte, number}

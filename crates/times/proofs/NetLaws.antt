@@ -1,11 +1,11 @@
 -- Net times: the sum and the parts are inverse, both ways. Assumes nothing.
 use mathlib.Core.Path.{_≡_, refl, sym, ap, ap₂, _∙_, subst}
-use mathlib.Core.Bool.{Bool, true, false, not, cond, _&&_, and-eq-true-iff}
+use mathlib.Core.Bool.{Bool, true, false, not, _&&_, and-eq-true-iff}
 use Prim.Native.Nat.{ℕ, _+_, _-_, _*_, _/_, _%_, _≤_, _<_}
 use native.Mathlib.Omega.{arith}
 use lib.Dec.{T, eqb, leb}
 use lib.IntN.{ℤ, pos, negsuc, subℕ, _+ℤ_, _*ℤ_}
-use borrow.Author.Tests.{le-leb, lt-leb, leb-true, ne-eqb, eqb-false, not-true}
+use borrow.Author.Tests.{leb-true, eqb-false, not-true}
 use Rattle.times.specs.declared.signed.SignAndRest.{SignAndRest}
 use Rattle.times.specs.declared.net.NetParts.{NetParts}
 use Rattle.times.specs.declared.net.NetValue.the-variants.{Is, Wrong as no-value}

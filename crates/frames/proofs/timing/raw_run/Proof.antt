@@ -8,10 +8,9 @@ use Rattle.frames.proofs.timing.raw_run.Tie as tie
 use Rattle.frames.specs.Inside.{rawFrom}
 use native.Mathlib.Nat.{sub-zero}
 use denote.Ref.{now}
-use borrow.Author.Tests.{not-true, not-false, eq-eqb, ne-eqb}
+use borrow.Author.Tests.{not-true, not-false}
 use Rattle.frames.proofs.TimingLaws.{run-stops, run-goes, run-done}
 use Rattle.frames.specs.Rules.{isRaw}
-use lib.Dec.{eqb}
 
 abbrev Inv-loop : tie.InvT-loop
 Inv-loop s n i₀ i = (rawFrom s 0 n ≡ rawFrom s i (n - i)) × (i ≤ n)

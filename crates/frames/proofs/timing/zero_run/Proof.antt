@@ -1,16 +1,15 @@
 -- `frames::timing::zero_run` meets its contract: the bytes passed are zero. Assumes nothing.
 use native.Mathlib.Omega.{arith}
 use mathlib.Core.Path.{_≡_, sym, _∙_}
-use Prim.Native.Nat.{zero, _-_, _≤_}
+use Prim.Native.Nat.{_-_, _≤_}
 use borrow.Author.Needs.{needs}
 use Rattle.frames.proofs.timing.zero_run.Statement.{statement}
 use Rattle.frames.proofs.timing.zero_run.Tie as tie
 use Rattle.frames.specs.Inside.{zeroFrom}
 use native.Mathlib.Nat.{sub-zero}
 use denote.Ref.{now}
-use borrow.Author.Tests.{not-true, not-false, eq-eqb, ne-eqb}
+use borrow.Author.Tests.{eq-eqb, ne-eqb}
 use Rattle.frames.proofs.TimingLaws.{run-stops, run-goes, run-done}
-use Rattle.frames.specs.Rules.{isRaw}
 use lib.Dec.{eqb}
 
 abbrev Inv-loop : tie.InvT-loop
