@@ -2,38 +2,28 @@
 use Prim.Native.Nat.{ℕ, _≤_}
 use mathlib.Core.List.{List, [], _∷_, append-assoc}
 use mathlib.Core.Bool.{true}
-use mathlib.Core.Path.{_≡_, refl, ap, _∙_}
+use mathlib.Core.Path.{_≡_, refl}
 use native.Mathlib.Omega.{arith}
-use borrow.Author.Tests.{leb-true, eqb-true}
-use lib.Dec.{leb, eqb}
-use lib.ListN.{length, set}
+use lib.ListN.{set}
 use lib.Seq.{sets}
 use Rattle.digits.specs.Text.{oneOf}
 use Rattle.digits.specs.Digits.{digits}
-use Rattle.digits.specs.Told.{Told, gives, tried}
 use Rattle.digits.proofs.Writing.{sets-append, length-digits}
 use Rattle.times.specs.Clock.{clock}
-use Rattle.frames.specs.declared.refusals.ReadVerdict.{ReadVerdict}
-use Rattle.frames.specs.declared.refusals.ReadVerdict.the-variants.{Read}
 use Rattle.frames.specs.declared.dynamic.DynamicRequest.{DynamicRequest}
-use Rattle.frames.specs.Refusals.{FIELD, verdictTold}
 use Rattle.frames.specs.Rules.{between, upTo, isRequester, isOutput}
-use Rattle.frames.specs.Layout.{Sound, end-sound, values, recordWrong, write}
-use Rattle.frames.specs.Kind.{headTold, read, wrongIn, frameOf}
+use Rattle.frames.specs.Layout.{Sound, end-sound, values, write}
+use Rattle.frames.specs.Kind.{frameOf}
 use Rattle.frames.specs.Demand2.{Faithful}
 use Rattle.frames.specs.Inside.{held}
 use Rattle.frames.specs.Dynamic.{isOrder, isChannel, leastPeriod, dynamicFields, dynamic}
-use Rattle.frames.proofs.RuleLaws.{up-to, in-range, none-in-range, or-cases}
+use Rattle.frames.proofs.RuleLaws.{up-to, in-range, none-in-range, or-one, to-240}
 use Rattle.frames.proofs.LayoutLaws.{NoneRefused, none-field, none-end, byte-sound, number-sound, clock-sound}
-use Rattle.frames.proofs.KindLaws as K
-use Rattle.frames.proofs.KindLaws.{SoundKind, faithful, length-frame}
+use Rattle.frames.proofs.KindLaws.{Plain, plain-faithful}
 
 channel-bound : (v : ℕ) → isChannel v ≡ true → v ≤ 255
 unfolding isChannel
-channel-bound v e =
-    or-cases _ (eqb v 255) (v ≤ 255)
-    (or-cases (leb v 240) (eqb v 250) (v ≤ 255) (λ p. omega (arith, leb-true v 240 p)) (λ p. omega (arith, eqb-true v 250 p)))
-    (λ p. omega (arith, eqb-true v 255 p)) e
+channel-bound v = or-one v 255 255 tt (or-one v 250 255 tt (to-240 v))
 
 sound : Sound dynamicFields 42
 unfolding dynamicFields
@@ -71,43 +61,22 @@ none-refused =
     none-field refl λ _ _.
     none-end
 
--- a record without arrays is whole
-abbrev Whole : DynamicRequest → Type 0
-Whole r = Unit {0}
-
-values-again : (s : List ℕ) → dynamic .valuesOf (dynamic .ofValues (values dynamicFields 3 s)) ≡ values dynamicFields 3 s
-unfolding dynamicFields values
-values-again s = refl
-
-held-again : (s : List ℕ) → dynamic .valuesOf (dynamic .ofValues (held dynamicFields 3 s)) ≡ held dynamicFields 3 s
-unfolding dynamicFields held
-held-again s = refl
-
-dynamic-sound : SoundKind dynamic Whole
-dynamic-sound = record {
+pub dynamic-plain : Plain dynamic
+unfolding dynamicFields values held
+dynamic-plain = record {
   bytes = 42;
   sound = sound;
   size = refl;
   some = omega arith;
-  back = λ r w e. refl;
-  whole = λ s. tt;
-  again = λ s e. values-again s;
+  none = none-refused;
+  back = λ r. refl;
+  again = λ s. refl;
+  holding = λ s. refl;
 }
 
 -- what is demanded of reading and writing holds of the dynamic request
-pub dynamic-faithful : Faithful dynamic Whole
-dynamic-faithful = faithful dynamic-sound
-
-pub length-dynamic : (r : DynamicRequest) → wrongIn dynamic r ≡ 0 → length (frameOf dynamic r) ≡ 46
-length-dynamic = length-frame dynamic-sound
-
--- ---- what the code's steps come to
-
-pub read-fields : (s : List ℕ) (r : DynamicRequest) → r ≡ dynamic .ofValues (held dynamicFields 3 s) → (h : ReadVerdict) (t : Told DynamicRequest) → h ≡ Read → verdictTold h ≡ headTold 19 46 s
-    → t ≡ tried (eqb (wrongIn dynamic r) 0) FIELD (wrongIn dynamic r) (gives r) → t ≡ read dynamic s
-unfolding wrongIn
-read-fields s r is =
-    K.read-fields dynamic-sound none-refused s (wrongIn dynamic r) r (ap (recordWrong dynamicFields) (ap (dynamic .valuesOf) is ∙ held-again s)) (λ z. is)
+pub dynamic-faithful : Faithful dynamic (λ _. Unit {0})
+dynamic-faithful = plain-faithful dynamic-plain
 
 -- the stores of a frame, one after the other, are one run
 pub stores-frame : (r : DynamicRequest) (l : List ℕ) →

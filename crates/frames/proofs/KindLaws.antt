@@ -156,6 +156,34 @@ module _ {R : Type 0} {k : Kind R} {Whole : R → Type 0} (g : SoundKind k Whole
     unfolding read
     read-fields h t q e f = rw (← e, q) (f ∙ fields-told)
 
+-- ---- a kind whose records hold no array: the values of its fields, held or read, are one record's
+
+pub record Plain {R : Type 0} (k : Kind R) : Type 0 where
+  pub bytes : ℕ
+  pub sound : Sound (k .fields) bytes
+  pub size : k .size ≡ bytes + 4
+  pub some : 0 < k .lead
+  pub none : NoneRefused (k .fields)
+  pub back : (r : R) → k .ofValues (k .valuesOf r) ≡ r
+  pub again : (s : List ℕ) → k .valuesOf (k .ofValues (values (k .fields) 3 s)) ≡ values (k .fields) 3 s
+  pub holding : (s : List ℕ) → k .valuesOf (k .ofValues (held (k .fields) 3 s)) ≡ held (k .fields) 3 s
+
+module _ {R : Type 0} {k : Kind R} (g : Plain k) where
+  plain-sound : SoundKind k (λ _. Unit {0})
+  plain-sound = record { bytes = g .bytes; sound = g .sound; size = g .size; some = g .some; back = λ r w e. g .back r; whole = λ s. tt; again = λ s e. g .again s }
+
+  -- what is demanded of reading and writing, of such a kind
+  pub plain-faithful : Faithful k (λ _. Unit {0})
+  plain-faithful = faithful plain-sound
+
+  pub plain-length : (r : R) → wrongIn k r ≡ 0 → length (frameOf k r) ≡ k .size
+  plain-length = length-frame plain-sound
+
+  pub plain-read : (s : List ℕ) (r : R) → r ≡ k .ofValues (held (k .fields) 3 s) → (h : ReadVerdict) (t : Told R) → h ≡ Read → verdictTold h ≡ headTold (k .lead) (k .size) s
+      → t ≡ tried (eqb (wrongIn k r) 0) FIELD (wrongIn k r) (gives r) → t ≡ read k s
+  unfolding wrongIn
+  plain-read s r is = read-fields plain-sound (g .none) s (wrongIn k r) r (ap (recordWrong (k .fields)) (ap (k .valuesOf) is ∙ g .holding s)) (λ z. is)
+
 module _ {A : Type 0} where
   pub refused-then : (f : ReadRefusal) (rest : Told A) → andThen (readRefused f) rest ≡ readRefused f
   refused-then kind rest = refl

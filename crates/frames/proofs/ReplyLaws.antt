@@ -5,8 +5,8 @@ use mathlib.Core.Bool.{Bool, true, false, cond, _||_}
 use mathlib.Core.Path.{_≡_, refl, sym, ap, _∙_}
 use native.Mathlib.Omega.{arith}
 use native.Mathlib.Nat.{zero-add}
-use borrow.Author.Tests.{leb-true, eqb-true}
-use lib.Dec.{leb, eqb}
+use borrow.Author.Tests.{eqb-true}
+use lib.Dec.{eqb}
 use lib.ListN.{length, getD, drop, set, length-append}
 use lib.Seq.{sets, getD-at}
 use Rattle.digits.specs.declared.Number.the-variants.{Is}
@@ -39,7 +39,7 @@ use Rattle.frames.specs.Demand2.{Faithful}
 use Rattle.frames.specs.Timing.{timingKind, raw, isSign, netOf, spareAnd, timeAndDate, codeOf, kindOf, timingIs, timed, bytesOf, Tail, signOf, timedValues, ofTimed}
 use Rattle.frames.specs.Reply.{isStatus, isLetter, isChannel, leastRun, replyFields, tailOf, withTail, reply, Whole, zeroReply, toldBy, orZero, ReadAs}
 use Rattle.frames.specs.Inside.{held, seenOf, timingWrong, refusedBy, judgedAs, replyAt, headWrong, fieldsRead, headText, timingText, replyText}
-use Rattle.frames.proofs.RuleLaws.{up-to, in-range, none-in-range, or-cases}
+use Rattle.frames.proofs.RuleLaws.{up-to, in-range, none-in-range, or-cases, or-one, to-240}
 use Rattle.frames.proofs.LayoutLaws.{unless-none, values-fine, NoneRefused, none-field, none-end, byte-sound, number-sound, clock-sound}
 use Rattle.frames.proofs.KindLaws as K
 use Rattle.frames.proofs.KindLaws.{SoundKind, faithful, length-frame}
@@ -49,13 +49,7 @@ use Rattle.frames.proofs.TimingLaws.{timing-wrong-is, seen-wrong-is, se
 
 channel-bound : (v : ℕ) → isChannel v ≡ true → v ≤ 255
 unfolding isChannel
-channel-bound v e =
-    or-cases _ (eqb v 255) (v ≤ 255)
-    (or-cases _ (eqb v 250) (v ≤ 255)
-    (or-cases _ (eqb v 249) (v ≤ 255)
-    (or-cases _ (eqb v 248) (v ≤ 255)
-    (or-cases (leb v 240) (eqb v 245) (v ≤ 255) (λ p. omega (arith, leb-true v 240 p)) (λ p. omega (arith, eqb-true v 245 p)))
-    (λ p. omega (arith, eqb-true v 248 p))) (λ p. omega (arith, eqb-true v 249 p))) (λ p. omega (arith, eqb-true v 250 p))) (λ p. omega (arith, eqb-true v 255 p)) e
+channel-bound v = or-one v 255 255 tt (or-one v 250 255 tt (or-one v 249 255 tt (or-one v 248 255 tt (or-one v 245 255 tt (to-240 v)))))
 
 raw-sound : {at m : ℕ} {L : Layout} → 0 < at → (n : ℕ) → Sound L m → Sound (raw at n L) (n + m)
 raw-sound {at} {m} {L} h zero s = rw (zero-add m) s
