@@ -21,7 +21,7 @@ use Rattle.frames.specs.declared.timing.Seen.{Seen}
 use Rattle.frames.specs.Rules.{isRaw}
 use Rattle.frames.specs.Layout.{Layout, end, unless, zeros, recordWrong}
 use Rattle.frames.specs.Timing.{raw, isSign, netOf, spareAnd, timeAndDate, timed, Tail, timedValues, ofTimed, bytesOf, signOf}
-use Rattle.frames.specs.Inside.{orNone, held, allFrom, rawFrom, zeroFrom, spareWrong, unusedWrong, clockWrong, netWrong, rawWrong, netValueWrong, timingWrong, seenClock, netTiming, seenNet, seenRaw, seenOf, clockText, netText, rawText}
+use Rattle.frames.specs.Inside.{orNone, held, allFrom, rawFrom, zeroFrom, spareWrong, unusedWrong, clockWrong, netWrong, rawWrong, netValueWrong, timingWrong, seenClock, netTiming, seenNet, seenRaw, seenOf, clockText, netText}
 use Rattle.frames.proofs.LayoutLaws.{unless-none, zeros-replicate}
 
 -- ---- a turn of a loop over bytes
@@ -63,9 +63,6 @@ clock-stores o ticks day month year = simp (sets-append, length-digits)
 pub net-stores : (o : List ℕ) (v : ℤ)
     → sets (set (sets o 30 (clock .put (netParts v .time))) 40 (signOf (netParts v .minus))) 41 (digits 7 (netParts v .days)) ≡ sets o 30 (netText v)
 net-stores o v = simp (sets-append, length-digits)
-
-pub raw-stores : (o rt rd : List ℕ) → sets (sets o 30 (bytesOf rt 0 10)) 40 (bytesOf rd 0 8) ≡ sets o 30 (rawText rt rd)
-raw-stores o rt rd = refl
 
 -- ---- raw fields and parts that are not used, byte by byte and as runs
 
