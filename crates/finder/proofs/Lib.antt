@@ -1,0 +1,4 @@
+mod Search
+mod Walk
+pub mod Step
+pub mod Demands

@@ -1,0 +1,96 @@
+-- What is demanded of cutting a capture into frames.
+use Prim.Native.Nat.{ℕ, zero, suc, _+_, _≤_}
+use mathlib.Core.List.{List, [], _∷_, _++_}
+use mathlib.Core.Bool.{Bool, true, false, cond, not, _&&_}
+use mathlib.Core.Path.{_≡_}
+use lib.Dec.{eqb}
+use lib.ListN.{length, take, drop}
+use lib.Seq.{slice}
+use Rattle.frames.specs.Kind.{CR}
+use Rattle.finder.specs.declared.Found.the-variants.{Whole, Cut, Nothing}
+use Rattle.finder.specs.declared.Cursor.{Cursor}
+use Rattle.finder.specs.Leads.{isLead}
+use Rattle.finder.specs.Pieces.{Piece, whole, cut, startOf, bytesOf, endOf, piecesFrom, pieces, foundFrom}
+
+-- ---- frames found are the lead bytes of the capture
+
+abbrev pub count : (ℕ → Bool) → List ℕ → ℕ
+count p [] = zero
+count p (x ∷ xs) = cond (p x) (suc (count p xs)) (count p xs)
+
+abbrev pub FramesAreLeads : Type 0
+FramesAreLeads = (s : List ℕ) → length (pieces s) ≡ count isLead s
+
+-- ---- a piece is what it says
+
+abbrev pub every : (ℕ → Bool) → List ℕ → Bool
+every p [] = true
+every p (x ∷ xs) = p x && every p xs
+
+-- neither a lead byte nor CR
+unfoldable pub isInner : ℕ → Bool
+isInner b = not (isLead b) && not (eqb b CR)
+
+-- a frame up to its CR: a lead byte, and inner bytes
+unfoldable pub isOpen : List ℕ → Bool
+isOpen [] = false
+isOpen (x ∷ xs) = isLead x && every isInner xs
+
+-- so a frame that is open holds no CR
+abbrev pub CRIsNoLead : Type 0
+CRIsNoLead = isLead CR ≡ false
+
+-- what cuts a frame: the end, or a lead byte
+abbrev pub cuts : List ℕ → Bool
+cuts [] = true
+cuts (x ∷ xs) = isLead x
+
+abbrev pub Right : List ℕ → Piece → Type 0
+Right s (whole start bytes) =
+    (take (length bytes) (drop start s) ≡ bytes)
+    × ((f : List ℕ) × (isOpen f ≡ true) × (bytes ≡ f ++ (CR ∷ [])))
+Right s (cut start bytes) =
+    (take (length bytes) (drop start s) ≡ bytes)
+    × (isOpen bytes ≡ true)
+    × (cuts (drop (start + length bytes) s) ≡ true)
+
+abbrev pub All : (Piece → Type 0) → List Piece → Type 0
+All P [] = Unit {0}
+All P (p ∷ ps) = P p × All P ps
+
+abbrev pub PiecesAreRight : Type 0
+PiecesAreRight = (s : List ℕ) → All (Right s) (pieces s)
+
+-- ---- the pieces are disjoint parts of the capture, in order
+
+-- each piece starts at lo or after it and ends where the next may start; the last ends by hi
+abbrev pub InOrder : ℕ → List Piece → ℕ → Type 0
+InOrder lo [] hi = lo ≤ hi
+InOrder lo (p ∷ ps) hi = (lo ≤ startOf p) × InOrder (endOf p) ps hi
+
+abbrev pub total : List Piece → ℕ
+total [] = zero
+total (p ∷ ps) = length (bytesOf p) + total ps
+
+pub record Disjoint : Type 0 where
+  pub in-order : (s : List ℕ) → InOrder 0 (pieces s) (length s)
+  pub no-longer : (s : List ℕ) → total (pieces s) ≤ length s
+
+-- ---- calls, one after the other
+
+-- the calls on s from a cursor on, each from the cursor that the one before gave, end with Nothing and tell these pieces
+pub data Run (s : List ℕ) : ℕ → List Piece → Type 0 where
+  over : {at : ℕ} → foundFrom s at ≡ Nothing → Run s at []
+  tells-whole : {at start end : ℕ} {next : Cursor} {ps : List Piece}
+      → foundFrom s at ≡ Whole start end next → Run s (next .at) ps → Run s at (whole start (slice start end s) ∷ ps)
+  tells-cut : {at start : ℕ} {next : Cursor} {ps : List Piece}
+      → foundFrom s at ≡ Cut start next → Run s (next .at) ps → Run s at (cut start (slice start (next .at) s) ∷ ps)
+
+abbrev pub CallsTellPieces : Type 0
+CallsTellPieces = (s : List ℕ) (at : ℕ) → Run s at (piecesFrom s at)
+
+-- ---- a frame that nothing cuts is found whole, whatever follows it
+
+abbrev pub FoundWhole : Type 0
+FoundWhole = (s f rest : List ℕ) (at : ℕ) → isOpen f ≡ true → drop at s ≡ f ++ (CR ∷ []) ++ rest
+    → piecesFrom s at ≡ whole at (f ++ (CR ∷ [])) ∷ piecesFrom s (at + length (f ++ (CR ∷ [])))

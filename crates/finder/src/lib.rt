@@ -1,0 +1,87 @@
+// Captured bytes cut into frames: the frame that a cursor comes to, one call after the other.
+use digits::one_of;
+use frames::dynamic::DYNAMIC_LEAD;
+use frames::reply::REPLY_LEAD;
+use frames::request::REQUEST_LEAD;
+ghost use mathlib.Core.Path.{_≡_};
+ghost use mathlib.Core.Bool.{true};
+ghost use Prim.Native.Nat.{_<_};
+ghost use lib.ListN.{length, getD};
+ghost use Rattle.finder.specs.Leads.{isLead};
+ghost use Rattle.finder.specs.Pieces.{foundFrom};
+
+// The bytes that begin a frame.
+const LEADS: [u8; 3] = [REQUEST_LEAD, REPLY_LEAD, DYNAMIC_LEAD];
+
+const CR: u8 = 13;
+
+// A place in the capture. The first call starts at 0.
+pub struct Cursor {
+    pub at: usize,
+}
+
+pub enum Found {
+    // The frame is the bytes from start up to end, its CR the last of them.
+    Whole {
+        start: usize,
+        end: usize,
+        next: Cursor,
+    },
+    // The frame is the bytes from start up to next.
+    Cut {
+        start: usize,
+        next: Cursor,
+    },
+    // No frame begins from the cursor on.
+    Nothing,
+}
+
+// The first frame that begins at the cursor or after it; a cursor past the end finds nothing.
+pub fn next(s: &[u8], from: Cursor) -> Found
+    ensures { λ r. ⌜ r ≡ foundFrom (now (s .entry)) (from .at) ⌝ }
+{
+    let mut i = from.at;
+    while i < s.len() {
+        if is_lead(s[i]) {
+            return frame_at(s, i);
+        }
+        i += 1;
+    }
+    Found::Nothing
+}
+
+// The frame whose lead byte stands at start.
+fn frame_at(s: &[u8], start: usize) -> Found
+    requires { ⌜ (start < length (now s)) × (isLead (getD (now s) start 0) ≡ true) ⌝ }
+    ensures { λ r. ⌜ r ≡ foundFrom (now (s .entry)) start ⌝ }
+{
+    let mut i = start + 1;
+    while i < s.len() {
+        let b = s[i];
+        let after = i + 1;
+        if is_lead(b) {
+            return Found::Cut {
+                start,
+                next: Cursor { at: i },
+            };
+        }
+        if b == CR {
+            return Found::Whole {
+                start,
+                end: after,
+                next: Cursor { at: after },
+            };
+        }
+        i = after;
+    }
+    Found::Cut {
+        start,
+        next: Cursor { at: s.len() },
+    }
+}
+
+fn is_lead(b: u8) -> bool
+    ensures { λ r. ⌜ r ≡ isLead b ⌝ }
+{
+    one_of(&LEADS, b)
+}
