@@ -1,0 +1,95 @@
+-- What a call leaves as it was. Assumes nothing.
+use Prim.Native.Nat.{ℕ, _+_, _*_, _-_, _<_, _≤_}
+use mathlib.Core.List.{List, _++_}
+use mathlib.Core.Path.{_≡_, refl, sym, ap, _∙_}
+use native.Mathlib.Omega.{arith}
+use lib.ListN.{length, getD, take, drop, length-set, length-append}
+use lib.Seq.{getD-append-add, getD-drop, getD-take, getD-set-other, take-at, length-take-le}
+use Rattle.digits.specs.Told.{Told, gives, refuses}
+use Rattle.desk.specs.declared.opening.Opening.{Opening}
+use Rattle.desk.specs.declared.reply.Taking.{Taking}
+use Rattle.desk.specs.Memory.{Memory, markAt}
+use Rattle.desk.specs.Calls.{openTried, opens, withCell, replyTried, replies}
+use Rattle.desk.specs.Keeps.{KeepsMemory}
+use Rattle.desk.proofs.StepLaws.{took, took-room}
+use Rattle.desk.proofs.DeskLaws.{length-with}
+use Rattle.desk.proofs.MixLaws.{after-taken, after-refused, after-opened, after-not-opened}
+
+getD-front : (a r : List ℕ) (j : ℕ) → j < length a → getD (a ++ r) j 0 ≡ getD a j 0
+getD-front a r j l = sym (getD-take (length a) (a ++ r) j 0 l) ∙ ap (λ (x : List ℕ). getD x j 0) (take-at a r (length a) refl)
+
+module _ (d : List ℕ) (at : ℕ) (f : List ℕ) (room : at + 51 ≤ length d) (full : length f ≡ 51) where
+  before : (j : ℕ) → j < at → getD (withCell d at f) j 0 ≡ getD d j 0
+  before j l =
+      let e = length-take-le at d (omega arith) in
+      let a : j < length (take at d ++ f) = simp length-append (omega arith) in
+      getD-front (take at d ++ f) (drop (at + 51) d) j a ∙ getD-front (take at d) f j (omega arith) ∙ getD-take at d j 0 l
+
+  behind : (j : ℕ) → at + 51 ≤ j → getD (withCell d at f) j 0 ≡ getD d j 0
+  behind j l =
+      let e = length-take-le at d (omega arith) in
+      let a = length-append (take at d) f in
+      let n : length (take at d ++ f) + (j - (at + 51)) ≡ j = omega arith in
+      let k : at + 51 + (j - (at + 51)) ≡ j = omega arith in
+      ap (λ (i : ℕ). getD (withCell d at f) i 0) (sym n)
+      ∙ getD-append-add (take at d ++ f) (drop (at + 51) d) (j - (at + 51)) 0
+      ∙ getD-drop (at + 51) d (j - (at + 51)) 0
+      ∙ ap (λ (i : ℕ). getD d i 0) k
+
+-- ---- openings
+
+module _ (m : Memory) (f : List ℕ) where
+  not-both : {A : Type 0} (s number offset : ℕ) → gives s ≡ refuses number offset → A
+  not-both s number offset h = let z : _≡_ {A = ℕ} 0 1 = cc in absurd (omega arith)
+
+  not-opened : (number offset : ℕ) → opens m f .answer ≡ refuses number offset → (a : Told Opening) → openTried m f ≡ a → opens m f .after ≡ m
+  not-opened number offset h (gives o) e = not-both (o .seat) number offset (rw (after-opened m f o e) at h)
+  not-opened number offset h (refuses n o) e = rw (after-not-opened m f n o e)
+
+  lends-cells : (a : Told Opening) → openTried m f ≡ a → opens m f .after .cells ≡ m .cells
+  lends-cells (gives o) e = rw (after-opened m f o e)
+  lends-cells (refuses n o) e = rw (after-not-opened m f n o e)
+
+  lends-marks : (a : Told Opening) → openTried m f ≡ a → opens m f .after .marks ≡ m .marks
+  lends-marks (gives o) e = rw (after-opened m f o e)
+  lends-marks (refuses n o) e = rw (after-not-opened m f n o e)
+
+  -- ---- replies
+
+  not-taken : (number offset : ℕ) → replies m f .answer ≡ refuses number offset → (a : Told Taking) → replyTried m f ≡ a → replies m f .after ≡ m
+  not-taken number offset h (gives t) e = not-both (t .seat) number offset (rw (after-taken m f t e) at h)
+  not-taken number offset h (refuses n o) e = rw (after-refused m f n o e)
+
+  sizes : (a : Told Taking) → replyTried m f ≡ a → (length (replies m f .after .cells) ≡ length (m .cells)) × (length (replies m f .after .marks) ≡ length (m .marks))
+  sizes (gives t) e =
+      let r = took-room m f t (took m f t e) in
+      rw (after-taken m f t e) (length-with (m .cells) (m .count * 51) f (r .cells) (r .frame), length-set (m .marks) (m .count) (t .seat))
+  sizes (refuses n o) e = rw (after-refused m f n o e) (refl, refl)
+
+  front-cells : (j : ℕ) → j < m .count * 51 → (a : Told Taking) → replyTried m f ≡ a → getD (replies m f .after .cells) j 0 ≡ getD (m .cells) j 0
+  front-cells j l (gives t) e =
+      let r = took-room m f t (took m f t e) in
+      rw (after-taken m f t e) (before (m .cells) (m .count * 51) f (r .cells) (r .frame) j l)
+  front-cells j l (refuses n o) e = rw (after-refused m f n o e)
+
+  back-cells : (j : ℕ) → m .count * 51 + 51 ≤ j → (a : Told Taking) → replyTried m f ≡ a → getD (replies m f .after .cells) j 0 ≡ getD (m .cells) j 0
+  back-cells j l (gives t) e =
+      let r = took-room m f t (took m f t e) in
+      rw (after-taken m f t e) (behind (m .cells) (m .count * 51) f (r .cells) (r .frame) j l)
+  back-cells j l (refuses n o) e = rw (after-refused m f n o e)
+
+  else-marks : (j : ℕ) → (j ≡ m .count → ⊥) → (a : Told Taking) → replyTried m f ≡ a → markAt (replies m f .after .marks) j ≡ markAt (m .marks) j
+  else-marks j n (gives t) e = rw (after-taken m f t e) (getD-set-other (m .marks) (m .count) j (t .seat) 0 n)
+  else-marks j n (refuses k o) e = rw (after-refused m f k o e)
+
+pub keeps-memory : KeepsMemory
+keeps-memory = record {
+  opening-refused = λ m f number offset h. not-opened m f number offset h (openTried m f) refl;
+  reply-refused = λ m f number offset h. not-taken m f number offset h (replyTried m f) refl;
+  opening-cells = λ m f. lends-cells m f (openTried m f) refl;
+  opening-marks = λ m f. lends-marks m f (openTried m f) refl;
+  reply-sizes = λ m f. sizes m f (replyTried m f) refl;
+  cells-before = λ m f j l. front-cells m f j l (replyTried m f) refl;
+  cells-behind = λ m f j l. back-cells m f j l (replyTried m f) refl;
+  other-marks = λ m f j n. else-marks m f j n (replyTried m f) refl;
+}

@@ -1,0 +1,11 @@
+pub mod Below
+pub mod Bits
+pub mod CallLaws
+pub mod TestLaws
+pub mod StepLaws
+pub mod OutcomeLaws
+pub mod HeldLaws
+pub mod DeskLaws
+pub mod MixLaws
+pub mod KeepsLaws
+pub mod Unique

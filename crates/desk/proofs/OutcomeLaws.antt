@@ -1,0 +1,115 @@
+-- How the steps of a call make up its outcome. Assumes nothing.
+use Prim.Native.Nat.{ℕ, _+_}
+use mathlib.Core.List.{List, _++_}
+use mathlib.Core.Bool.{Bool, true}
+use mathlib.Core.Path.{_≡_, refl, ap, _∙_}
+use native.Mathlib.Omega.{arith}
+use lib.ListN.{length, take, drop}
+use lib.Seq.{paste, take-all}
+use lib.Dec.{ltb}
+use Rattle.digits.specs.Told.{Told, gives, refuses, tried}
+use Rattle.frames.specs.Kind.{read}
+use Rattle.frames.specs.Request.{request, requestTold}
+use Rattle.frames.specs.Refusals.{readRefused}
+use Rattle.frames.specs.declared.refusals.ReadRefusal.{ReadRefusal}
+use Rattle.frames.specs.declared.refusals.ReadRefusal.the-variants.{Kind, Length, End, Address, Field}
+use Rattle.frames.specs.declared.request.StaticRequest.{StaticRequest}
+use Rattle.frames.specs.declared.request.RequestRead.{RequestRead}
+use Rattle.frames.specs.declared.request.RequestRead.the-variants.{Request, Refused as not-request}
+use Rattle.desk.specs.declared.call.Call.{Call}
+use Rattle.desk.specs.declared.call.Heard.{Heard}
+use Rattle.desk.specs.declared.call.Heard.the-variants.{Reply, Refused as not-reply}
+use Rattle.desk.specs.declared.opening.Opening.{Opening}
+use Rattle.desk.specs.declared.opening.OpenRefusal.{OpenRefusal}
+use Rattle.desk.specs.declared.opening.OpenRefusal.the-variants.{Desk as open-no-desk, Frame as open-frame, NoAnswerDue, InUse, NoSeat}
+use Rattle.desk.specs.declared.reply.Taking.{Taking}
+use Rattle.desk.specs.declared.reply.ReplyRefusal.{ReplyRefusal}
+use Rattle.desk.specs.declared.reply.ReplyRefusal.the-variants.{Desk as no-desk, Frame, Stray, Ended, OutOfPlace, Full}
+use Rattle.desk.specs.Call.{heard, heardTold}
+use Rattle.desk.specs.Memory.{Memory, capacity}
+use Rattle.desk.specs.Desk.{isDesk}
+use Rattle.desk.specs.Calls.{whatIsGiven, requestTried, openTried, callTried, replyTried, opens, opened, replies, taken, withCell, openRefused, replyRefused, Did}
+
+-- ---- a reader's refusal stands
+
+module _ {A B : Type 0} where
+  given-refused : (g : ReadRefusal) (further : A → Told B) → readRefused g ≡ whatIsGiven (readRefused g) further
+  given-refused Kind further = refl
+  given-refused Length further = refl
+  given-refused End further = refl
+  given-refused Address further = refl
+  given-refused (Field p) further = refl
+
+-- a desk: what was given is tried further
+module _ {A B : Type 0} (x : Told A) (further : A → Told B) (desk : Bool) (number : ℕ) (d : desk ≡ true) where
+  on-given : (a : A) → gives a ≡ x → further a ≡ tried desk number 0 (whatIsGiven x further)
+  on-given a e = rw (d, ← e)
+
+  on-refused : (g : ReadRefusal) → readRefused g ≡ x → readRefused g ≡ tried desk number 0 (whatIsGiven x further)
+  on-refused g e = rw d (given-refused g further ∙ ap (λ (y : Told A). whatIsGiven y further) e)
+
+module _ (m : Memory) (f : List ℕ) (d : isDesk m ≡ true) where
+  pub request-read : (a : RequestRead) (r : StaticRequest) → requestTold a ≡ read request f → a ≡ Request r → requestTried (m .row) (m .bits) r ≡ openTried m f
+  unfolding openTried
+  request-read a r e i = on-given (read request f) (requestTried (m .row) (m .bits)) (isDesk m) 9 d r (rw i at e)
+
+  pub request-refused : (a : RequestRead) (g : ReadRefusal) → requestTold a ≡ read request f → a ≡ not-request g → readRefused g ≡ openTried m f
+  unfolding openTried
+  request-refused a g e i = on-refused (read request f) (requestTried (m .row) (m .bits)) (isDesk m) 9 d g (rw i at e)
+
+  pub reply-heard : (a : Heard) (c : Call) → heardTold a ≡ heard f → a ≡ Reply c → callTried (m .row) (m .bits) (ltb (m .count) (capacity m)) c ≡ replyTried m f
+  unfolding replyTried
+  reply-heard a c e i = on-given (heard f) (callTried (m .row) (m .bits) (ltb (m .count) (capacity m))) (isDesk m) 9 d c (rw i at e)
+
+  pub reply-refused : (a : Heard) (g : ReadRefusal) → heardTold a ≡ heard f → a ≡ not-reply g → readRefused g ≡ replyTried m f
+  unfolding replyTried
+  reply-refused a g e i = on-refused (heard f) (callTried (m .row) (m .bits) (ltb (m .count) (capacity m))) (isDesk m) 9 d g (rw i at e)
+
+-- ---- the outcome of an opening
+
+module _ (m : Memory) (f : List ℕ) where
+  pub opening-done : (o : Opening) (after : Memory) → gives o ≡ openTried m f → after ≡ opened m o → Did (gives (o .seat)) after (opens m f)
+  unfolding opens
+  opening-done o after e q = rw (← e) (record { answer = refl; memory = q })
+
+  not-opened-by : (number offset : ℕ) → refuses number offset ≡ openTried m f → Did (refuses number offset) m (opens m f)
+  unfolding opens
+  not-opened-by number offset e = rw (← e) (record { answer = refl; memory = refl })
+
+  pub not-opened : (r : OpenRefusal) → openRefused r ≡ openTried m f → Did (openRefused r) m (opens m f)
+  not-opened open-no-desk e = not-opened-by _ _ e
+  not-opened (open-frame Kind) e = not-opened-by _ _ e
+  not-opened (open-frame Length) e = not-opened-by _ _ e
+  not-opened (open-frame End) e = not-opened-by _ _ e
+  not-opened (open-frame Address) e = not-opened-by _ _ e
+  not-opened (open-frame (Field p)) e = not-opened-by _ _ e
+  not-opened NoAnswerDue e = not-opened-by _ _ e
+  not-opened InUse e = not-opened-by _ _ e
+  not-opened NoSeat e = not-opened-by _ _ e
+
+-- ---- the outcome of a reply
+
+-- a copy of all of a frame
+pub with-cell : (cells : List ℕ) (at : ℕ) (f : List ℕ) → length f ≡ 51 → paste cells at f 51 ≡ withCell cells at f
+with-cell cells at f l = ap (λ (x : List ℕ). take at cells ++ x ++ drop (at + 51) cells) (take-all 51 f (omega arith))
+
+module _ (m : Memory) (f : List ℕ) where
+  pub reply-done : (t : Taking) (after : Memory) → gives t ≡ replyTried m f → after ≡ taken m f t → Did (gives (t .seat)) after (replies m f)
+  unfolding replies
+  reply-done t after e q = rw (← e) (record { answer = refl; memory = q })
+
+  not-taken-by : (number offset : ℕ) → refuses number offset ≡ replyTried m f → Did (refuses number offset) m (replies m f)
+  unfolding replies
+  not-taken-by number offset e = rw (← e) (record { answer = refl; memory = refl })
+
+  pub not-taken : (r : ReplyRefusal) → replyRefused r ≡ replyTried m f → Did (replyRefused r) m (replies m f)
+  not-taken no-desk e = not-taken-by _ _ e
+  not-taken (Frame Kind) e = not-taken-by _ _ e
+  not-taken (Frame Length) e = not-taken-by _ _ e
+  not-taken (Frame End) e = not-taken-by _ _ e
+  not-taken (Frame Address) e = not-taken-by _ _ e
+  not-taken (Frame (Field p)) e = not-taken-by _ _ e
+  not-taken Stray e = not-taken-by _ _ e
+  not-taken Ended e = not-taken-by _ _ e
+  not-taken OutOfPlace e = not-taken-by _ _ e
+  not-taken Full e = not-taken-by _ _ e

@@ -1,0 +1,163 @@
+-- What is known of an opening and of a reply that were taken. Assumes nothing.
+use Prim.Native.Nat.{ℕ, _+_, _*_, _≤_, _<_}
+use mathlib.Core.List.{List}
+use mathlib.Core.Bool.{true, false, not}
+use mathlib.Core.Path.{_≡_, refl, ap, _∙_}
+use native.Mathlib.Omega.{arith}
+use lib.ListN.{length}
+use lib.Dec.{eqb, leb, ltb}
+use borrow.Author.Tests.{eqb-true, ltb-true, leb-true, not-true, not-false}
+use Rattle.digits.specs.Told.{gives}
+use Rattle.frames.specs.Kind.{read}
+use Rattle.frames.specs.Request.{request}
+use Rattle.frames.specs.declared.request.StaticRequest.{StaticRequest}
+use Rattle.frames.proofs.HeadLaws.{tried-gives}
+use Rattle.desk.specs.declared.state.Seat.{Seat}
+use Rattle.desk.specs.declared.call.Key.{Key}
+use Rattle.desk.specs.declared.call.Call.{Call}
+use Rattle.desk.specs.declared.opening.Opening.{Opening}
+use Rattle.desk.specs.declared.reply.Taking.{Taking}
+use Rattle.desk.specs.Limits.{seatCount, mostCells}
+use Rattle.desk.specs.Key.{requestKey, seatKey, isKey}
+use Rattle.desk.specs.Call.{heard, inPlace}
+use Rattle.desk.specs.Seats.{seatAt, usedBit, keyed, keyedAt, seatWith, clearAt, lowestClear}
+use Rattle.desk.specs.Memory.{Memory, capacity, capacityOf}
+use Rattle.desk.specs.Desk.{isDesk}
+use Rattle.desk.specs.Calls.{over, keyTried, requestTried, openTried, seatTried, callTried, replyTried}
+use Rattle.desk.proofs.Below.{and-l, and-r, first-sound, first-before, count-most}
+use Rattle.desk.proofs.CallLaws.{given, heard-long, same-key, request-legal}
+use Rattle.desk.proofs.TestLaws.{Facts, desk-facts}
+
+-- the seat that is found is in use and has the key
+found-keyed : (row : List Seat) (bits : ℕ) (k : Key) → seatWith row bits k < seatCount → keyedAt row bits k (seatWith row bits k) ≡ true
+unfolding seatWith
+found-keyed row bits k l = first-sound seatCount (keyedAt row bits k) l
+
+pub keyed-used : (row : List Seat) (bits : ℕ) (k : Key) (s : ℕ) → keyedAt row bits k s ≡ true → usedBit bits s ≡ true
+unfolding keyed
+keyed-used row bits k s h = and-l (usedBit bits s) _ h
+
+pub keyed-key : (row : List Seat) (bits : ℕ) (k : Key) (s : ℕ) → keyedAt row bits k s ≡ true → seatKey (seatAt row s) ≡ k
+unfolding keyed
+keyed-key row bits k s h = same-key (seatKey (seatAt row s)) k (and-r (usedBit bits s) _ h)
+
+-- ---- a reply that is taken
+
+pub record Took (m : Memory) (f : List ℕ) (t : Taking) : Type 0 where
+  pub facts : Facts m
+  pub call : Call
+  pub hears : heard f ≡ gives call
+  pub status : call .status ≡ t .status
+  pub found : seatWith (m .row) (m .bits) (call .key) ≡ t .seat
+  pub below : t .seat < seatCount
+  pub going : seatAt (m .row) (t .seat) .ended ≡ 0
+  pub placed : inPlace (seatAt (m .row) (t .seat) .held) (t .status) ≡ true
+  pub room : m .count < capacity m
+
+took-seat : (m : Memory) (f : List ℕ) (t : Taking) (c : Call) (s : ℕ) → Facts m → heard f ≡ gives c → seatWith (m .row) (m .bits) (c .key) ≡ s → s < seatCount
+    → seatTried (seatAt (m .row) s) (ltb (m .count) (capacity m)) (record { seat = s; status = c .status }) ≡ gives t → Took m f t
+unfolding seatTried
+took-seat m f t c s facts h e l q =
+    let a = tried-gives (not (over (seatAt (m .row) s))) _ _ _ t q in
+    let b = tried-gives (inPlace (seatAt (m .row) s .held) (c .status)) _ _ _ t (a .1) in
+    let d = tried-gives (ltb (m .count) (capacity m)) _ _ _ t (b .1) in
+    let g = d .1 in
+    let is : record { seat = s; status = c .status } ≡ t = cc in
+    let p : s ≡ t .seat = ap (λ (x : Taking). x .seat) is in
+    let r : c .status ≡ t .status = ap (λ (x : Taking). x .status) is in
+    record {
+      facts = facts;
+      call = c;
+      hears = h;
+      status = r;
+      found = e ∙ p;
+      below = rw p at l;
+      going = rw p at (eqb-true (seatAt (m .row) s .ended) 0 (not-false _ (not-true _ (a .0))));
+      placed = rw (p, r) at (b .0);
+      room = ltb-true _ _ (d .0);
+    }
+
+pub took : (m : Memory) (f : List ℕ) (t : Taking) → replyTried m f ≡ gives t → Took m f t
+unfolding replyTried callTried
+took m f t q =
+    let d = tried-gives (isDesk m) _ _ _ t q in
+    let g = given (heard f) (callTried (m .row) (m .bits) (ltb (m .count) (capacity m))) t (d .1) in
+    let s = seatWith (m .row) (m .bits) (g .one .key) in
+    let l = tried-gives (ltb s seatCount) _ _ _ t (g .rest) in
+    took-seat m f t (g .one) s (desk-facts m (d .0)) (g .is) refl (ltb-true s seatCount (l .0)) (l .1)
+
+module _ (m : Memory) (f : List ℕ) (t : Taking) (k : Took m f t) where
+  took-keyed : keyedAt (m .row) (m .bits) (k .call .key) (t .seat) ≡ true
+  took-keyed = rw (k .found) at (found-keyed (m .row) (m .bits) (k .call .key) (rw (k .found) (k .below)))
+
+  pub took-used : usedBit (m .bits) (t .seat) ≡ true
+  took-used = keyed-used (m .row) (m .bits) (k .call .key) (t .seat) took-keyed
+
+  pub took-key : seatKey (seatAt (m .row) (t .seat)) ≡ k .call .key
+  took-key = keyed-key (m .row) (m .bits) (k .call .key) (t .seat) took-keyed
+
+-- what the stores of a taken reply need
+pub record Room (m : Memory) (f : List ℕ) (t : Taking) : Type 0 where
+  pub seat : t .seat < seatCount
+  pub count : m .count < mostCells
+  pub marks : m .count < length (m .marks)
+  pub cells : m .count * 51 + 51 ≤ length (m .cells)
+  pub frame : length f ≡ 51
+  pub held : seatAt (m .row) (t .seat) .held ≤ m .count
+
+pub took-room : (m : Memory) (f : List ℕ) (t : Taking) → Took m f t → Room m f t
+unfolding capacityOf
+took-room m f t k =
+    let r = k .room in
+    let n = count-most (m .count) (λ i. eqb (lib.ListN.getD (m .marks) i 0) (t .seat)) in
+    let h = k .facts .held (t .seat) (k .below) (took-used m f t k) in
+    record { seat = k .below; count = omega arith; marks = omega arith; cells = omega arith; frame = heard-long f (k .call) (k .hears); held = rw h n }
+
+-- ---- an opening that is taken
+
+pub record Opens (m : Memory) (f : List ℕ) (o : Opening) : Type 0 where
+  pub facts : Facts m
+  pub asked : StaticRequest
+  pub reads : read request f ≡ gives asked
+  pub key : requestKey asked ≡ o .key
+  pub legal : isKey (o .key) ≡ true
+  pub fresh : (i : ℕ) → i < seatCount → keyedAt (m .row) (m .bits) (o .key) i ≡ false
+  pub below : o .seat < seatCount
+  pub clear : usedBit (m .bits) (o .seat) ≡ false
+
+fresh-below : (row : List Seat) (bits : ℕ) (k : Key) → seatCount ≤ seatWith row bits k → (i : ℕ) → i < seatCount → keyedAt row bits k i ≡ false
+unfolding seatWith
+fresh-below row bits k l i h = first-before seatCount (keyedAt row bits k) i (omega arith)
+
+lowest-is-clear : (bits : ℕ) → lowestClear bits < seatCount → usedBit bits (lowestClear bits) ≡ false
+unfolding lowestClear
+lowest-is-clear bits l = not-true _ (first-sound 64 (clearAt bits) (omega arith))
+
+opens-key : (m : Memory) (f : List ℕ) (o : Opening) (r : StaticRequest) → Facts m → read request f ≡ gives r → keyTried (m .row) (m .bits) (requestKey r) ≡ gives o → Opens m f o
+unfolding keyTried
+opens-key m f o r facts e q =
+    let a = tried-gives (leb seatCount (seatWith (m .row) (m .bits) (requestKey r))) _ _ _ o q in
+    let b = tried-gives (ltb (lowestClear (m .bits)) seatCount) _ _ _ o (a .1) in
+    let g = b .1 in
+    let is : record { seat = lowestClear (m .bits); key = requestKey r } ≡ o = cc in
+    let p : lowestClear (m .bits) ≡ o .seat = ap (λ (x : Opening). x .seat) is in
+    let k : requestKey r ≡ o .key = ap (λ (x : Opening). x .key) is in
+    let l = ltb-true (lowestClear (m .bits)) seatCount (b .0) in
+    record {
+      facts = facts;
+      asked = r;
+      reads = e;
+      key = k;
+      legal = rw (← k) (request-legal f r e);
+      fresh = rw (← k) (fresh-below (m .row) (m .bits) (requestKey r) (leb-true seatCount _ (a .0)));
+      below = rw p at l;
+      clear = rw p at (lowest-is-clear (m .bits) l);
+    }
+
+pub opens-taken : (m : Memory) (f : List ℕ) (o : Opening) → openTried m f ≡ gives o → Opens m f o
+unfolding openTried requestTried
+opens-taken m f o q =
+    let d = tried-gives (isDesk m) _ _ _ o q in
+    let g = given (read request f) (requestTried (m .row) (m .bits)) o (d .1) in
+    let a = tried-gives (not (eqb (g .one .information) 113)) _ _ _ o (g .rest) in
+    opens-key m f o (g .one) (desk-facts m (d .0)) (g .is) (a .1)

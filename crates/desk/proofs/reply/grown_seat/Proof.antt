@@ -1,0 +1,16 @@
+-- `desk::reply::grown_seat` meets its contract. Assumes nothing.
+use borrow.Author.Needs.{needs}
+use Rattle.desk.proofs.reply.grown_seat.Statement.{statement}
+use Rattle.desk.proofs.reply.grown_seat.Tie as tie
+
+add-t3 : tie.Need-add-t3
+add-t3 c = search needs
+
+ended-by-requires : tie.Need-ended-by-requires
+ended-by-requires c κs = search needs
+
+returns : tie.Need-returns
+returns c = rw (c .ended-by .ensures)
+
+pub grown-seat-spec : {M : Type 1} → statement M
+grown-seat-spec = tie.close (tie.spec add-t3 ended-by-requires returns)

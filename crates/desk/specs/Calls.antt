@@ -1,0 +1,225 @@
+-- The calls of the desk: what each answers, and the state and memory that it leaves.
+use Prim.Native.Nat.{ℕ, _+_, _*_, _^_, min}
+use mathlib.Core.List.{List, _++_}
+use mathlib.Core.Bool.{Bool, cond, not, _&&_}
+use mathlib.Core.Path.{_≡_}
+use lib.ListN.{length, take, drop, set, replicate}
+use lib.Dec.{eqb, leb, ltb}
+use Rattle.digits.specs.Told.{Told, gives, refuses, tried}
+use Rattle.frames.specs.Kind.{read}
+use Rattle.frames.specs.Request.{request}
+use Rattle.frames.specs.Refusals.{readRefused}
+use Rattle.frames.specs.declared.request.StaticRequest.{StaticRequest}
+use Rattle.desk.specs.declared.state.Seat.{Seat}
+use Rattle.desk.specs.declared.state.Desk.{Desk}
+use Rattle.desk.specs.declared.call.Key.{Key}
+use Rattle.desk.specs.declared.call.Call.{Call}
+use Rattle.desk.specs.declared.held.Held.{Held}
+use Rattle.desk.specs.declared.held.Held.the-variants.{Cell, Nothing}
+use Rattle.desk.specs.declared.opening.Opening.{Opening}
+use Rattle.desk.specs.declared.opening.OpenRefusal.{OpenRefusal}
+use Rattle.desk.specs.declared.opening.OpenRefusal.the-variants.{Desk as open-no-desk, Frame as open-frame, NoAnswerDue, InUse, NoSeat}
+use Rattle.desk.specs.declared.opening.OpenAnswer.{OpenAnswer}
+use Rattle.desk.specs.declared.opening.OpenAnswer.the-variants.{Opened, Refused as not-opened}
+use Rattle.desk.specs.declared.reply.Taking.{Taking}
+use Rattle.desk.specs.declared.reply.ReplyRefusal.{ReplyRefusal}
+use Rattle.desk.specs.declared.reply.ReplyRefusal.the-variants.{Desk as no-desk, Frame, Stray, Ended, OutOfPlace, Full}
+use Rattle.desk.specs.declared.reply.ReplyAnswer.{ReplyAnswer}
+use Rattle.desk.specs.declared.reply.ReplyAnswer.the-variants.{Taken, Refused}
+use Rattle.desk.specs.Limits.{seatCount, cellSize}
+use Rattle.desk.specs.Below.{first, countBelow}
+use Rattle.desk.specs.Key.{requestKey}
+use Rattle.desk.specs.Call.{heard, inPlace, endedBy}
+use Rattle.desk.specs.Seats.{zeroSeat, seatAt, usedBit, seatWith, lowestClear}
+use Rattle.desk.specs.Memory.{Memory, capacity, capacityOf, markAt}
+use Rattle.desk.specs.Desk.{isDesk}
+
+-- ---- refusals, by number
+
+-- state and memory do not make a desk
+abbrev pub DESK : ℕ
+DESK = 9
+
+-- an opening with information q
+abbrev pub NO-ANSWER-DUE : ℕ
+NO-ANSWER-DUE = 10
+
+-- the key is already at a seat, ended or not
+abbrev pub IN-USE : ℕ
+IN-USE = 11
+
+-- all seats are in use
+abbrev pub NO-SEAT : ℕ
+NO-SEAT = 12
+
+-- no seat has the reply's key
+abbrev pub STRAY : ℕ
+STRAY = 13
+
+-- that seat had its E or Z
+abbrev pub ENDED : ℕ
+ENDED = 14
+
+-- a Z at a seat that holds records
+abbrev pub OUT-OF-PLACE : ℕ
+OUT-OF-PLACE = 15
+
+-- no free cell
+abbrev pub FULL : ℕ
+FULL = 16
+
+-- ---- what a call does
+
+-- the answer, a seat or a refusal, and the memory after the call
+pub record Outcome : Type 0 where
+  pub answer : Told ℕ
+  pub after : Memory
+
+module _ {A B : Type 0} where
+  -- a refusal stands, and what was given is tried further
+  abbrev pub whatIsGiven : Told A → (A → Told B) → Told B
+  whatIsGiven (gives a) further = further a
+  whatIsGiven (refuses number offset) further = refuses number offset
+
+-- ---- an opening
+
+-- the letter q asks for no answer
+abbrev pub letterQ : ℕ
+letterQ = 113
+
+unfoldable pub keyTried : List Seat → ℕ → Key → Told Opening
+keyTried row bits k =
+    tried (leb seatCount (seatWith row bits k)) IN-USE 0
+    (tried (ltb (lowestClear bits) seatCount) NO-SEAT 0
+    (gives (record { seat = lowestClear bits; key = k })))
+
+unfoldable pub requestTried : List Seat → ℕ → StaticRequest → Told Opening
+requestTried row bits r = tried (not (eqb (r .information) letterQ)) NO-ANSWER-DUE 0 (keyTried row bits (requestKey r))
+
+unfoldable pub openTried : Memory → List ℕ → Told Opening
+openTried m f = tried (isDesk m) DESK 0 (whatIsGiven (read request f) (requestTried (m .row) (m .bits)))
+
+abbrev pub newSeat : Key → Seat
+newSeat k = record { requester = k .requester; number = k .number; held = 0; ended = 0 }
+
+abbrev pub openedRow : List Seat → Opening → List Seat
+openedRow row o = set row (o .seat) (newSeat (o .key))
+
+-- the seat gets the key, and its bit is set; all else stays
+abbrev pub opened : Memory → Opening → Memory
+opened m o = record { row = openedRow (m .row) o; bits = m .bits + 2 ^ (o .seat); count = m .count; cells = m .cells; marks = m .marks }
+
+abbrev pub openOutcome : Memory → Told Opening → Outcome
+openOutcome m (gives o) = record { answer = gives (o .seat); after = opened m o }
+openOutcome m (refuses number offset) = record { answer = refuses number offset; after = m }
+
+unfoldable pub opens : Memory → List ℕ → Outcome
+opens m f = openOutcome m (openTried m f)
+
+-- ---- a reply
+
+-- a seat that had its ending record
+abbrev pub over : Seat → Bool
+over s = not (eqb (s .ended) 0)
+
+unfoldable pub seatTried : Seat → Bool → Taking → Told Taking
+seatTried s free t =
+    tried (not (over s)) ENDED 0
+    (tried (inPlace (s .held) (t .status)) OUT-OF-PLACE 0
+    (tried free FULL 0
+    (gives t)))
+
+unfoldable pub callTried : List Seat → ℕ → Bool → Call → Told Taking
+callTried row bits free c =
+    tried (ltb (seatWith row bits (c .key)) seatCount) STRAY 0
+    (seatTried (seatAt row (seatWith row bits (c .key))) free (record { seat = seatWith row bits (c .key); status = c .status }))
+
+unfoldable pub replyTried : Memory → List ℕ → Told Taking
+replyTried m f = tried (isDesk m) DESK 0 (whatIsGiven (heard f) (callTried (m .row) (m .bits) (ltb (m .count) (capacity m))))
+
+-- a seat with one record more
+abbrev pub grown : Seat → ℕ → Seat
+grown s status = record { requester = s .requester; number = s .number; held = s .held + 1; ended = endedBy status }
+
+-- the cells with a frame in place of the one that begins at a place
+abbrev pub withCell : List ℕ → ℕ → List ℕ → List ℕ
+withCell cells at f = take at cells ++ f ++ drop (at + cellSize) cells
+
+abbrev pub grownRow : List Seat → Taking → List Seat
+grownRow row t = set row (t .seat) (grown (seatAt row (t .seat)) (t .status))
+
+-- the frame goes to the next cell and its seat to the mark beside it; the seat has one record more; all else stays
+abbrev pub taken : Memory → List ℕ → Taking → Memory
+taken m f t =
+    record { row = grownRow (m .row) t; bits = m .bits; count = m .count + 1; cells = withCell (m .cells) (m .count * cellSize) f; marks = set (m .marks) (m .count) (t .seat) }
+
+abbrev pub replyOutcome : Memory → List ℕ → Told Taking → Outcome
+replyOutcome m f (gives t) = record { answer = gives (t .seat); after = taken m f t }
+replyOutcome m f (refuses number offset) = record { answer = refuses number offset; after = m }
+
+unfoldable pub replies : Memory → List ℕ → Outcome
+replies m f = replyOutcome m f (replyTried m f)
+
+-- ---- a reset, and the number of seats in use
+
+abbrev pub emptyRow : List Seat
+emptyRow = replicate seatCount zeroSeat
+
+abbrev pub emptyState : Desk
+emptyState = record { bits = 0; count = 0 }
+
+-- cells and marks stay
+abbrev pub emptied : Memory → Memory
+emptied m = record { row = emptyRow; bits = 0; count = 0; cells = m .cells; marks = m .marks }
+
+-- the ones of a number of 64 bits
+unfoldable pub seatsInUse : ℕ → ℕ
+seatsInUse bits = countBelow 64 (usedBit bits)
+
+-- ---- reading records back
+
+-- the cells that count: held, and there
+abbrev pub heldCells : ℕ → List ℕ → List ℕ → ℕ
+heldCells count cells marks = min count (capacityOf (length cells) (length marks))
+
+abbrev pub heldFrom : List ℕ → ℕ → ℕ → ℕ → Bool
+heldFrom marks seat from i = leb from i && eqb (markAt marks i) seat
+
+abbrev pub heldAnswer : ℕ → ℕ → Held
+heldAnswer limit i = cond (ltb i limit) (Cell i) Nothing
+
+-- the first of them from a place on whose mark names the seat
+unfoldable pub nextHeld : ℕ → List ℕ → List ℕ → ℕ → ℕ → Held
+nextHeld count cells marks seat from =
+    heldAnswer (heldCells count cells marks) (first (heldCells count cells marks) (heldFrom marks seat from))
+
+-- ---- what the answers of the code say on paper
+
+module _ {A : Type 0} where
+  abbrev pub openRefused : OpenRefusal → Told A
+  openRefused open-no-desk = refuses DESK 0
+  openRefused (open-frame f) = readRefused f
+  openRefused NoAnswerDue = refuses NO-ANSWER-DUE 0
+  openRefused InUse = refuses IN-USE 0
+  openRefused NoSeat = refuses NO-SEAT 0
+
+  abbrev pub replyRefused : ReplyRefusal → Told A
+  replyRefused no-desk = refuses DESK 0
+  replyRefused (Frame f) = readRefused f
+  replyRefused Stray = refuses STRAY 0
+  replyRefused Ended = refuses ENDED 0
+  replyRefused OutOfPlace = refuses OUT-OF-PLACE 0
+  replyRefused Full = refuses FULL 0
+
+abbrev pub openTold : OpenAnswer → Told ℕ
+openTold (Opened s) = gives s
+openTold (not-opened f) = openRefused f
+
+abbrev pub replyTold : ReplyAnswer → Told ℕ
+replyTold (Taken s) = gives s
+replyTold (Refused f) = replyRefused f
+
+-- what is promised of a call: its answer and all of the memory are the outcome's
+pub record Did (told : Told ℕ) (after : Memory) (o : Outcome) : Type 0 where
+  pub answer : told ≡ o .answer
+  pub memory : after ≡ o .after

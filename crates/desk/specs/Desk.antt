@@ -1,0 +1,117 @@
+-- What makes a desk: a definition for each clause, and all of them in the paper's order.
+use Prim.Native.Nat.{ℕ, zero, suc, _^_}
+use mathlib.Core.List.{List}
+use mathlib.Core.Bool.{Bool, true, cond, not, _&&_}
+use lib.ListN.{length}
+use lib.Dec.{eqb, leb, ltb}
+use Rattle.desk.specs.declared.state.Seat.{Seat}
+use Rattle.desk.specs.Limits.{seatCount}
+use Rattle.desk.specs.Below.{allBelow, countBelow}
+use Rattle.desk.specs.Key.{seatKey, isKey}
+use Rattle.desk.specs.Call.{heard, hasKey, isZ, statusIn, endedIn}
+use Rattle.desk.specs.Seats.{seatAt, usedBit, keyedAt}
+use Rattle.desk.specs.Memory.{Memory, capacity, cellAt, markAt}
+
+-- used seat i has a key that a static request can have
+abbrev pub keyLegal : List Seat → ℕ → ℕ → Bool
+keyLegal row bits i = cond (usedBit bits i) (isKey (seatKey (seatAt row i))) true
+
+-- used seats i and j do not share a key
+abbrev pub apartAt : List Seat → ℕ → ℕ → ℕ → Bool
+apartAt row bits i j = cond (usedBit bits i) (not (keyedAt row bits (seatKey (seatAt row i)) j)) true
+
+abbrev pub apartBelow : List Seat → ℕ → ℕ → Bool
+apartBelow row bits i = allBelow i (apartAt row bits i)
+
+unfoldable pub isZero : Seat → Bool
+isZero s = eqb (s .requester) 0 && eqb (s .number) 0 && eqb (s .held) 0 && eqb (s .ended) 0
+
+-- unused seat i is all zero
+abbrev pub unusedZero : List Seat → ℕ → ℕ → Bool
+unusedZero row bits i = cond (usedBit bits i) true (isZero (seatAt row i))
+
+-- a mark names a used seat
+unfoldable pub markNames : ℕ → ℕ → Bool
+markNames bits mark = ltb mark seatCount && usedBit bits mark
+
+abbrev pub markGood : ℕ → List ℕ → ℕ → Bool
+markGood bits marks i = markNames bits (markAt marks i)
+
+-- cell i is a well formed reply with its seat's key
+abbrev pub cellKeyed : List Seat → List ℕ → List ℕ → ℕ → Bool
+cellKeyed row cells marks i = hasKey (seatKey (seatAt row (markAt marks i))) (heard (cellAt cells i))
+
+-- how many of the first n marks name seat s
+abbrev pub named : List ℕ → ℕ → ℕ → ℕ
+named marks s n = countBelow n (λ i. eqb (markAt marks i) s)
+
+-- used seat s holds as many records as marks name it
+abbrev pub heldRight : List Seat → ℕ → ℕ → List ℕ → ℕ → Bool
+heldRight row bits count marks s = cond (usedBit bits s) (eqb (seatAt row s .held) (named marks s count)) true
+
+-- within a seat only the last may be E or Z, Z only alone: of two of its cells the earlier is neither, and the later no Z
+abbrev pub placedAfter : List ℕ → List ℕ → ℕ → ℕ → Bool
+placedAfter cells marks i j =
+    cond (eqb (markAt marks j) (markAt marks i))
+    (eqb (endedIn (heard (cellAt cells j))) 0 && not (isZ (statusIn (heard (cellAt cells i)))))
+    true
+
+abbrev pub placed : List ℕ → List ℕ → ℕ → Bool
+placed cells marks i = allBelow i (placedAfter cells marks i)
+
+-- 1 where the last of the first n cells that are seat s's is E or Z, otherwise 0
+unfoldable pub lastEnds : List ℕ → List ℕ → ℕ → ℕ → ℕ
+lastEnds cells marks s zero = 0
+lastEnds cells marks s (suc n) = cond (eqb (markAt marks n) s) (endedIn (heard (cellAt cells n))) (lastEnds cells marks s n)
+
+-- used seat s says whether its last is E or Z
+abbrev pub endedRight : List Seat → ℕ → ℕ → List ℕ → List ℕ → ℕ → Bool
+endedRight row bits count cells marks s = cond (usedBit bits s) (eqb (seatAt row s .ended) (lastEnds cells marks s count)) true
+
+module _ (m : Memory) where
+  abbrev pub sixteenSeats : Bool
+  sixteenSeats = eqb (length (m .row)) seatCount
+
+  abbrev pub noBitAbove : Bool
+  noBitAbove = ltb (m .bits) (2 ^ seatCount)
+
+  abbrev pub keysLegal : Bool
+  keysLegal = allBelow seatCount (keyLegal (m .row) (m .bits))
+
+  abbrev pub noKeyShared : Bool
+  noKeyShared = allBelow seatCount (apartBelow (m .row) (m .bits))
+
+  abbrev pub unusedAllZero : Bool
+  unusedAllZero = allBelow seatCount (unusedZero (m .row) (m .bits))
+
+  abbrev pub countFits : Bool
+  countFits = leb (m .count) (capacity m)
+
+  abbrev pub marksName : Bool
+  marksName = allBelow (m .count) (markGood (m .bits) (m .marks))
+
+  abbrev pub cellsAreReplies : Bool
+  cellsAreReplies = allBelow (m .count) (cellKeyed (m .row) (m .cells) (m .marks))
+
+  abbrev pub heldIsNamed : Bool
+  heldIsNamed = allBelow seatCount (heldRight (m .row) (m .bits) (m .count) (m .marks))
+
+  abbrev pub endsLast : Bool
+  endsLast = allBelow (m .count) (placed (m .cells) (m .marks))
+
+  abbrev pub endedIsLast : Bool
+  endedIsLast = allBelow seatCount (endedRight (m .row) (m .bits) (m .count) (m .cells) (m .marks))
+
+  unfoldable pub isDesk : Bool
+  isDesk =
+      sixteenSeats
+      && noBitAbove
+      && keysLegal
+      && noKeyShared
+      && unusedAllZero
+      && countFits
+      && marksName
+      && cellsAreReplies
+      && heldIsNamed
+      && endsLast
+      && endedIsLast

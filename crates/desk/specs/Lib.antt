@@ -1,0 +1,11 @@
+pub mod Limits
+pub mod Below
+pub mod Key
+pub mod Call
+pub mod Seats
+pub mod Memory
+pub mod Desk
+pub mod Calls
+pub mod Keeps
+pub mod Mix
+pub mod Inside

@@ -1,0 +1,147 @@
+-- Mixed replies: what each request holds after them, and what each of its replies was answered.
+use Prim.Native.Nat.{ℕ, _+_, _≤_, _<_}
+use mathlib.Core.List.{List, [], _∷_, _++_}
+use mathlib.Core.Bool.{Bool, true, false, cond, not, _||_}
+use mathlib.Core.Path.{_≡_}
+use lib.Dec.{eqb, ltb}
+use Rattle.digits.specs.Told.{Told, gives, refuses}
+use Rattle.frames.specs.Kind.{read}
+use Rattle.frames.specs.Request.{request}
+use Rattle.frames.specs.declared.request.StaticRequest.{StaticRequest}
+use Rattle.desk.specs.declared.call.Key.{Key}
+use Rattle.desk.specs.declared.call.Call.{Call}
+use Rattle.desk.specs.Limits.{seatCount}
+use Rattle.desk.specs.Key.{requestKey, seatKey}
+use Rattle.desk.specs.Call.{heard, hasKey, isZ, ends, statusIn}
+use Rattle.desk.specs.Seats.{seatAt, usedBit, seatWith}
+use Rattle.desk.specs.Memory.{Memory, capacity, heldBy}
+use Rattle.desk.specs.Desk.{isDesk}
+use Rattle.desk.specs.Calls.{Outcome, opens, replies, emptied, over, ENDED, OUT-OF-PLACE}
+
+abbrev pub Frame : Type 0
+Frame = List ℕ
+
+-- ---- calls one after the other
+
+-- a frame is given to the opening, or to the reply call
+pub data Event : Type 0 where
+  toOpen : Frame → Event
+  toReply : Frame → Event
+
+abbrev pub happens : Memory → Event → Outcome
+happens m (toOpen f) = opens m f
+happens m (toReply f) = replies m f
+
+-- each call is given state and lent memory as the last one left them
+unfoldable pub run : Memory → List Event → Memory
+run m [] = m
+run m (e ∷ es) = run (happens m e .after) es
+
+abbrev pub openings : List Frame → List Event
+openings [] = []
+openings (f ∷ fs) = toOpen f ∷ openings fs
+
+abbrev pub heardAll : List Frame → List Event
+heardAll [] = []
+heardAll (f ∷ fs) = toReply f ∷ heardAll fs
+
+-- a stretch without openings: replies, strays and damaged frames
+abbrev pub isReply : Event → Bool
+isReply (toOpen f) = false
+isReply (toReply f) = true
+
+abbrev pub Stretch : List Event → Type 0
+Stretch [] = Unit {0}
+Stretch (e ∷ es) = (isReply e ≡ true) × Stretch es
+
+-- ---- the replies of one request
+
+-- a well formed reply with this key
+unfoldable pub addressed : Key → Event → Bool
+addressed k (toOpen f) = false
+addressed k (toReply f) = hasKey k (heard f)
+
+abbrev pub frameOf : Event → Frame
+frameOf (toOpen f) = f
+frameOf (toReply f) = f
+
+-- the frames addressed to a key, in order
+unfoldable pub framesTo : Key → List Event → List Frame
+framesTo k [] = []
+framesTo k (e ∷ es) = cond (addressed k e) (frameOf e ∷ framesTo k es) (framesTo k es)
+
+-- the answers that these frames got
+unfoldable pub answersTo : Key → Memory → List Event → List (Told ℕ)
+answersTo k m [] = []
+answersTo k m (e ∷ es) =
+    cond (addressed k e) (happens m e .answer ∷ answersTo k (happens m e .after) es) (answersTo k (happens m e .after) es)
+
+-- a well formed reply with the key of an open request
+abbrev pub seated : Memory → Told Call → Bool
+seated m (gives c) = ltb (seatWith (m .row) (m .bits) (c .key)) seatCount
+seated m (refuses number offset) = false
+
+abbrev pub expected : Memory → Event → Bool
+expected m (toOpen f) = false
+expected m (toReply f) = seated m (heard f)
+
+-- how many of them there are
+unfoldable pub repliesTo : Memory → List Event → ℕ
+repliesTo m [] = 0
+repliesTo m (e ∷ es) = cond (expected m e) 1 0 + repliesTo m es
+
+-- ---- the rule, over the frames of one request alone
+
+-- a request that holds records takes no Z
+abbrev pub fits : Bool → Frame → Bool
+fits any f = not (isZ (statusIn (heard f))) || not any
+
+abbrev pub endsIt : Frame → Bool
+endsIt f = ends (statusIn (heard f))
+
+-- of its frames it keeps those up to the ending one, without a Z out of place: `any` says that it holds records, `ended` that it had its ending one
+unfoldable pub kept : Bool → Bool → List Frame → List Frame
+kept any ended [] = []
+kept any true (f ∷ fs) = kept any true fs
+kept any false (f ∷ fs) = cond (fits any f) (f ∷ kept true (endsIt f) fs) (kept any false fs)
+
+-- a kept frame is answered with the seat, a Z out of place is OUT OF PLACE, and any frame after the ending one ENDED
+unfoldable pub said : ℕ → Bool → Bool → List Frame → List (Told ℕ)
+said s any ended [] = []
+said s any true (f ∷ fs) = refuses ENDED 0 ∷ said s any true fs
+said s any false (f ∷ fs) =
+    cond (fits any f) (gives s ∷ said s true (endsIt f) fs) (refuses OUT-OF-PLACE 0 ∷ said s any false fs)
+
+-- ---- the statements
+
+-- the request with key k at seat s, where it holds `before`, over a stretch
+pub record Sorted (m : Memory) (es : List Event) (s : ℕ) (k : Key) (before : List Frame) (any ended : Bool) : Type 0 where
+  -- it holds what the rule keeps of the frames addressed to it, after what it held
+  pub held : heldBy (run m es) s ≡ before ++ kept any ended (framesTo k es)
+  -- each of these frames got the answer that the rule says
+  pub answers : answersTo k m es ≡ said s any ended (framesTo k es)
+  -- and both are as if these frames had come alone
+  pub held-alone : heldBy (run m es) s ≡ heldBy (run m (heardAll (framesTo k es))) s
+  pub answers-alone : answersTo k m es ≡ answersTo k m (heardAll (framesTo k es))
+
+-- from any desk with cells enough: each open request
+abbrev pub SortsFromAnyDesk : Type 0
+SortsFromAnyDesk =
+    (m : Memory) (es : List Event) (s : ℕ)
+    → isDesk m ≡ true → Stretch es → m .count + repliesTo m es ≤ capacity m
+    → s < seatCount → usedBit (m .bits) s ≡ true
+    → Sorted m es s (seatKey (seatAt (m .row) s)) (heldBy m s) (not (eqb (seatAt (m .row) s .held) 0)) (over (seatAt (m .row) s))
+
+-- on an emptied desk, with openings first: each request that was opened
+abbrev pub SortsOpenedRequests : Type 0
+SortsOpenedRequests =
+    (m : Memory) (before after : List Frame) (f : Frame) (r : StaticRequest) (es : List Event) (s : ℕ)
+    → read request f ≡ gives r → opens (run (emptied m) (openings before)) f .answer ≡ gives s
+    → Stretch es → repliesTo (run (emptied m) (openings (before ++ f ∷ after))) es ≤ capacity m
+    → Sorted (run (emptied m) (openings (before ++ f ∷ after))) es s (requestKey r) [] false false
+
+-- a desk stays a desk, and what is emptied is one
+pub record StaysDesk : Type 1 where
+  pub opening : (m : Memory) (f : Frame) → isDesk m ≡ true → isDesk (opens m f .after) ≡ true
+  pub reply : (m : Memory) (f : Frame) → isDesk m ≡ true → isDesk (replies m f .after) ≡ true
+  pub reset : (m : Memory) → isDesk (emptied m) ≡ true

@@ -1,0 +1,7 @@
+// The desk: seats for open requests, and replies sorted to them. A module for the state, one for each call.
+mod call;
+pub mod held;
+pub mod opening;
+pub mod reply;
+pub mod state;
+mod test;

@@ -1,0 +1,148 @@
+// An opening: a static request takes a seat.
+use crate::call::Key;
+use crate::call::find;
+use crate::state::Desk;
+use crate::state::SEATS;
+use crate::state::Seat;
+use crate::test::is_desk;
+use frames::refusals::ReadRefusal;
+use frames::request::RequestRead;
+use frames::request::StaticRequest;
+use frames::request::read_request;
+ghost use mathlib.Core.Path.{_≡_};
+ghost use Prim.Native.Nat.{_+_, _^_, _<_};
+ghost use Rattle.desk.specs.Limits.{seatCount};
+ghost use Rattle.desk.specs.Memory.{memory};
+ghost use Rattle.desk.specs.Key.{requestKey};
+ghost use Rattle.desk.specs.Seats.{lowestClear};
+ghost use Rattle.desk.specs.Calls.{openedRow, opens, openTold, openTried, requestTried, keyTried, Did};
+ghost use Rattle.desk.specs.Inside.{openJudged};
+
+// In the order in which they are tried.
+pub enum OpenRefusal {
+    Desk,
+    Frame(ReadRefusal),
+    NoAnswerDue,
+    InUse,
+    NoSeat,
+}
+
+// Opened with its seat.
+pub enum OpenAnswer {
+    Opened(usize),
+    Refused(OpenRefusal),
+}
+
+pub struct OpenDone {
+    pub answer: OpenAnswer,
+    pub desk: Desk,
+    pub row: [Seat; SEATS],
+}
+
+// The seat that a request gets, and its key.
+struct Opening {
+    pub seat: usize,
+    pub key: Key,
+}
+
+enum OpenJudged {
+    Opens(Opening),
+    Refuses(OpenRefusal),
+}
+
+pub fn open(desk: Desk, row: [Seat; SEATS], cells: &[u8], marks: &[u32], frame: &[u8]) -> OpenDone
+    ensures { λ r. ⌜ Did (openTold (r .answer)) (memory (r .desk) (r .row) (now (cells .entry)) (now (marks .entry))) (opens (memory desk row (now (cells .entry)) (now (marks .entry))) (now (frame .entry))) ⌝ }
+{
+    match judged(desk, row, cells, marks, frame) {
+        OpenJudged::Opens(opening) => {
+            let seat = opening.seat;
+            OpenDone {
+                answer: OpenAnswer::Opened(seat),
+                desk: opened_state(desk, seat),
+                row: opened_row(row, opening),
+            }
+        }
+        OpenJudged::Refuses(refusal) => OpenDone {
+            answer: OpenAnswer::Refused(refusal),
+            desk,
+            row,
+        },
+    }
+}
+
+fn judged(desk: Desk, row: [Seat; SEATS], cells: &[u8], marks: &[u32], frame: &[u8]) -> OpenJudged
+    ensures { λ r. ⌜ openJudged r ≡ openTried (memory desk row (now (cells .entry)) (now (marks .entry))) (now (frame .entry)) ⌝ }
+{
+    if !is_desk(desk, row, cells, marks) {
+        return OpenJudged::Refuses(OpenRefusal::Desk);
+    }
+    match read_request(frame) {
+        RequestRead::Request(r) => request_judged(row, desk.bits, r),
+        RequestRead::Refused(refusal) => OpenJudged::Refuses(OpenRefusal::Frame(refusal)),
+    }
+}
+
+fn request_judged(row: [Seat; SEATS], bits: u64, r: StaticRequest) -> OpenJudged
+    ensures { λ a. ⌜ openJudged a ≡ requestTried row bits r ⌝ }
+{
+    if r.information == 113 {
+        return OpenJudged::Refuses(OpenRefusal::NoAnswerDue);
+    }
+    key_judged(row, bits, key_asked(r))
+}
+
+fn key_asked(r: StaticRequest) -> Key
+    ensures { λ k. ⌜ k ≡ requestKey r ⌝ }
+{
+    Key {
+        requester: r.requester as u32,
+        number: r.number,
+    }
+}
+
+fn key_judged(row: [Seat; SEATS], bits: u64, key: Key) -> OpenJudged
+    ensures { λ r. ⌜ openJudged r ≡ keyTried row bits key ⌝ }
+{
+    if find(row, bits, key) < SEATS {
+        return OpenJudged::Refuses(OpenRefusal::InUse);
+    }
+    let seat = lowest_clear(bits);
+    if seat < SEATS {
+        OpenJudged::Opens(Opening { seat, key })
+    } else {
+        OpenJudged::Refuses(OpenRefusal::NoSeat)
+    }
+}
+
+// The lowest clear bit, 64 where there is none.
+fn lowest_clear(bits: u64) -> usize
+    ensures { λ r. ⌜ r ≡ lowestClear bits ⌝ }
+{
+    u64::trailing_zeros(!bits) as usize
+}
+
+fn opened_row(row: [Seat; SEATS], o: Opening) -> [Seat; SEATS]
+    requires { ⌜ o .seat < seatCount ⌝ }
+    ensures { λ r. ⌜ r ≡ openedRow row o ⌝ }
+{
+    let key = o.key;
+    let s = o.seat;
+    let mut after = row;
+    after[s] = Seat {
+        requester: key.requester,
+        number: key.number,
+        held: 0,
+        ended: 0,
+    };
+    after
+}
+
+fn opened_state(desk: Desk, seat: usize) -> Desk
+    requires { ⌜ (seat < seatCount) × (desk .bits < 2 ^ seatCount) ⌝ }
+    ensures { λ r. ⌜ (r .bits ≡ desk .bits + 2 ^ seat) × (r .count ≡ desk .count) ⌝ }
+{
+    Desk {
+        bits: desk.bits + (1u64 << seat),
+        count: desk.count,
+    }
+}

@@ -1,0 +1,170 @@
+// A reply: sorted to the seat with its key, and kept.
+use crate::call::Call;
+use crate::call::Heard;
+use crate::call::ended_by;
+use crate::call::find;
+use crate::call::hear;
+use crate::call::in_place;
+use crate::state::CELL_SIZE;
+use crate::state::Desk;
+use crate::state::SEATS;
+use crate::state::Seat;
+use crate::state::capacity;
+use crate::test::is_desk;
+use frames::refusals::ReadRefusal;
+ghost use mathlib.Core.Path.{_≡_};
+ghost use Prim.Native.Nat.{_+_, _≤_, _<_};
+ghost use lib.ListN.{length};
+ghost use lib.Seq.{paste};
+ghost use Rattle.desk.specs.Limits.{seatCount};
+ghost use Rattle.desk.specs.Memory.{memory};
+ghost use Rattle.desk.specs.Seats.{seatAt};
+ghost use Rattle.desk.specs.Calls.{grown, grownRow, replies, replyTold, replyTried, callTried, seatTried, Did};
+ghost use Rattle.desk.specs.Inside.{replyJudged};
+
+// In the order in which they are tried.
+pub enum ReplyRefusal {
+    Desk,
+    Frame(ReadRefusal),
+    Stray,
+    Ended,
+    OutOfPlace,
+    Full,
+}
+
+// Taken by its seat.
+pub enum ReplyAnswer {
+    Taken(usize),
+    Refused(ReplyRefusal),
+}
+
+pub struct ReplyDone {
+    pub answer: ReplyAnswer,
+    pub desk: Desk,
+    pub row: [Seat; SEATS],
+}
+
+// The seat that takes a reply, and the reply's status.
+struct Taking {
+    pub seat: usize,
+    pub status: u8,
+}
+
+enum ReplyJudged {
+    Takes(Taking),
+    Refuses(ReplyRefusal),
+}
+
+pub fn reply(
+    desk: Desk,
+    row: [Seat; SEATS],
+    cells: &mut [u8],
+    marks: &mut [u32],
+    frame: &[u8],
+) -> ReplyDone
+    ensures { λ r. ⌜ Did (replyTold (r .answer)) (memory (r .desk) (r .row) (now (cells .exit)) (now (marks .exit))) (replies (memory desk row (now (cells .entry)) (now (marks .entry))) (now (frame .entry))) ⌝ }
+{
+    match judged(desk, row, cells, marks, frame) {
+        ReplyJudged::Takes(taking) => {
+            let seat = taking.seat;
+            let bits = desk.bits;
+            let count = desk.count;
+            put_cell(cells, count as usize * CELL_SIZE, frame);
+            marks[count as usize] = seat as u32;
+            ReplyDone {
+                answer: ReplyAnswer::Taken(seat),
+                desk: Desk {
+                    bits,
+                    count: count + 1,
+                },
+                row: grown_row(row, taking),
+            }
+        }
+        ReplyJudged::Refuses(refusal) => ReplyDone {
+            answer: ReplyAnswer::Refused(refusal),
+            desk,
+            row,
+        },
+    }
+}
+
+fn judged(desk: Desk, row: [Seat; SEATS], cells: &[u8], marks: &[u32], frame: &[u8]) -> ReplyJudged
+    ensures { λ r. ⌜ replyJudged r ≡ replyTried (memory desk row (now (cells .entry)) (now (marks .entry))) (now (frame .entry)) ⌝ }
+{
+    if !is_desk(desk, row, cells, marks) {
+        return ReplyJudged::Refuses(ReplyRefusal::Desk);
+    }
+    let free = (desk.count as usize) < capacity(cells.len(), marks.len());
+    match hear(frame) {
+        Heard::Reply(call) => call_judged(row, desk.bits, free, call),
+        Heard::Refused(refusal) => ReplyJudged::Refuses(ReplyRefusal::Frame(refusal)),
+    }
+}
+
+fn call_judged(row: [Seat; SEATS], bits: u64, free: bool, call: Call) -> ReplyJudged
+    ensures { λ r. ⌜ replyJudged r ≡ callTried row bits free call ⌝ }
+{
+    let seat = find(row, bits, call.key);
+    if seat < SEATS {
+        seat_judged(
+            row[seat],
+            free,
+            Taking {
+                seat,
+                status: call.status,
+            },
+        )
+    } else {
+        ReplyJudged::Refuses(ReplyRefusal::Stray)
+    }
+}
+
+fn seat_judged(seat: Seat, free: bool, t: Taking) -> ReplyJudged
+    ensures { λ r. ⌜ replyJudged r ≡ seatTried seat free t ⌝ }
+{
+    if seat.ended != 0 {
+        return ReplyJudged::Refuses(ReplyRefusal::Ended);
+    }
+    if !in_place(seat.held, t.status) {
+        return ReplyJudged::Refuses(ReplyRefusal::OutOfPlace);
+    }
+    if free {
+        ReplyJudged::Takes(t)
+    } else {
+        ReplyJudged::Refuses(ReplyRefusal::Full)
+    }
+}
+
+// The 51 bytes of a frame, from a place on.
+fn put_cell(cells: &mut [u8], at: usize, frame: &[u8])
+    requires { ⌜ (length (now frame) ≡ 51) × (at + 51 ≤ length (now cells)) ⌝ }
+    ensures { λ _. ⌜ now (cells .exit) ≡ paste (now (cells .entry)) at (now (frame .entry)) 51 ⌝ }
+{
+    let mut j: usize = 0;
+    while j < CELL_SIZE {
+        cells[at + j] = frame[j];
+        j += 1;
+    }
+}
+
+fn grown_row(row: [Seat; SEATS], t: Taking) -> [Seat; SEATS]
+    requires { ⌜ (t .seat < seatCount) × (seatAt row (t .seat) .held < 65536) ⌝ }
+    ensures { λ r. ⌜ r ≡ grownRow row t ⌝ }
+{
+    let s = t.seat;
+    let mut after = row;
+    after[s] = grown_seat(after[s], t.status);
+    after
+}
+
+fn grown_seat(seat: Seat, status: u8) -> Seat
+    requires { ⌜ seat .held < 65536 ⌝ }
+    ensures { λ r. ⌜ r ≡ grown seat status ⌝ }
+{
+    Seat {
+        requester: seat.requester,
+        number: seat.number,
+        held: seat.held + 1,
+        ended: ended_by(status),
+    }
+}

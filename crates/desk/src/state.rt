@@ -1,0 +1,62 @@
+// The state of a desk: what goes by value, and what it is when empty.
+use crate::call::least;
+ghost use mathlib.Core.Path.{_≡_};
+ghost use Rattle.desk.specs.Memory.{capacityOf};
+ghost use Rattle.desk.specs.Calls.{seatsInUse, emptyRow, emptyState};
+
+pub const SEATS: usize = 16;
+
+// Cells in use at most.
+pub const CELLS: usize = 256;
+
+pub const CELL_SIZE: usize = 51;
+
+// Four words and no padding. ended is 0 or 1.
+#[repr(C)]
+pub struct Seat {
+    pub requester: u32,
+    pub number: u32,
+    pub held: u32,
+    pub ended: u32,
+}
+
+// The seats in use as bits, and how many cells are held.
+pub struct Desk {
+    pub bits: u64,
+    pub count: u32,
+}
+
+pub struct Emptied {
+    pub desk: Desk,
+    pub row: [Seat; SEATS],
+}
+
+// The empty desk, whatever state it takes the place of. Cells and marks are not touched.
+pub fn reset() -> Emptied
+    ensures { λ r. ⌜ (r .desk ≡ emptyState) × (r .row ≡ emptyRow) ⌝ }
+{
+    let zero = Seat {
+        requester: 0,
+        number: 0,
+        held: 0,
+        ended: 0,
+    };
+    Emptied {
+        desk: Desk { bits: 0, count: 0 },
+        row: [zero; SEATS],
+    }
+}
+
+// How many seats are in use, ended ones too.
+pub fn seats_in_use(desk: Desk) -> u32
+    ensures { λ r. ⌜ r ≡ seatsInUse (desk .bits) ⌝ }
+{
+    u64::count_ones(desk.bits)
+}
+
+// How many cells a desk on so many bytes and so many marks can hold.
+pub fn capacity(cells: usize, marks: usize) -> usize
+    ensures { λ r. ⌜ r ≡ capacityOf cells marks ⌝ }
+{
+    least(CELLS, least(cells / CELL_SIZE, marks))
+}
