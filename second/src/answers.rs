@@ -1,5 +1,10 @@
 //! Reads a file of cases and answers it, case by case.
 
+mod captures;
+mod mixes;
+mod scripts;
+
+use crate::desk::Desk;
 use crate::digits;
 use crate::dynamic::Dynamic;
 use crate::frame::Kind;
@@ -8,7 +13,8 @@ use crate::refusal::Refusal;
 use crate::reply::Reply;
 use crate::request::Request;
 use crate::spelling::{
-    bytes_text, parse_bytes, parse_number, parse_ticks, parse_value, NotACase, MOST_BYTES,
+    bytes_text, parse_bytes, parse_number, parse_place, parse_ticks, parse_value, NotACase,
+    MOST_BYTES,
 };
 use crate::times::{self, Net, Running};
 
@@ -24,10 +30,11 @@ const WRONG: &str = "wrong";
 /// The answers to a whole file, or a complaint that names the first line that is not a case. In
 /// that case there are no answers at all, so half a file of them is never taken for a whole one.
 pub fn file(input: &[u8]) -> Result<String, String> {
+    let mut session = Session::default();
     let mut text = String::new();
     for (index, line) in input.split_inclusive(|&code| code == b'\n').enumerate() {
         let answer = case_of_line(line)
-            .and_then(answer)
+            .and_then(|case| session.answer(case))
             .map_err(|NotACase(reason)| {
                 let shown = line.strip_suffix(b"\n").unwrap_or(line).escape_ascii();
                 format!("line {} is not a case ({reason}): {shown}", index + 1)
@@ -47,10 +54,26 @@ fn case_of_line(line: &[u8]) -> Result<&str, NotACase> {
     std::str::from_utf8(case).map_err(|_| NotACase("the line is not text"))
 }
 
-/// The lines that answer one case.
-fn answer(case: &str) -> Result<Vec<String>, NotACase> {
-    let words: Vec<&str> = case.split(' ').collect();
-    match words.as_slice() {
+/// What lasts from line to line: the desk of the scripts, at first with nothing lent to it.
+#[derive(Default)]
+struct Session {
+    desk: Desk,
+}
+
+impl Session {
+    /// The lines that answer one case.
+    fn answer(&mut self, case: &str) -> Result<Vec<String>, NotACase> {
+        let words: Vec<&str> = case.split(' ').collect();
+        match scripts::answer(&mut self.desk, &words) {
+            Some(answer) => answer.map(one_line),
+            None => answer_by_itself(&words),
+        }
+    }
+}
+
+/// The lines that answer a case that stands by itself.
+fn answer_by_itself(words: &[&str]) -> Result<Vec<String>, NotACase> {
+    match words {
         ["number", place, width, text] => number(place, width, text).map(one_line),
         ["digits", width, value] => digits_text(width, value).map(one_line),
         ["clock", place, text] => clock(place, text).map(one_line),
@@ -70,6 +93,8 @@ fn answer(case: &str) -> Result<Vec<String>, NotACase> {
         ["read-dynamic", frame] => read::<Dynamic>(frame).map(one_line),
         ["write-dynamic", room, record @ ..] => write::<Dynamic>(room, record).map(one_line),
         ["damage-dynamic", frame] => damage::<Dynamic>(frame),
+        ["find", capture] => captures::find(capture).map(one_line),
+        ["find-from", place, capture] => captures::find_from(place, capture).map(one_line),
         _ => Err(NotACase("no such case with so many arguments")),
     }
 }
@@ -233,10 +258,6 @@ fn writing_text(outcome: Result<(), Refusal>, output: &[u8]) -> String {
     format!("{outcome} {}", bytes_text(output))
 }
 
-fn parse_place(word: &str) -> Result<usize, NotACase> {
-    usize::try_from(parse_number(word)?).map_err(|_| NotACase("PLACE is too large"))
-}
-
 fn parse_width(word: &str) -> Result<usize, NotACase> {
     parse_place(word)
         .ok()
@@ -342,6 +363,33 @@ mod tests {
     }
 
     #[test]
+    fn captures_cut_into_frames() {
+        check("find -", "nothing");
+        check("find 0d", "nothing");
+        check(
+            "find 0011410d0a1213420d13",
+            "whole 1 4 cut 5 6 whole 6 9 cut 9 10 nothing",
+        );
+        check("find-from 0 0011410d", "whole 1 4 4");
+        check("find-from 1 0011410d", "whole 1 4 4");
+        check("find-from 2 0011410d", "nothing");
+        check("find-from 0 111213", "cut 0 1 1");
+        check("find-from 2 111213", "cut 2 3 3");
+        check("find-from 3 111213", "nothing");
+        check("find-from 4294967295 111213", "nothing");
+        check(&format!("find {}", "61".repeat(400)), "nothing");
+    }
+
+    #[test]
+    fn the_desk_lasts_from_line_to_line() {
+        let script = format!("open {FIRST}\nread-request 11\nused\nlend 0 0\nused\n");
+        let answers = "0 0 0 1 0 seat 0 49 7 0 0\n2 0\n1\n0\n0\n";
+        assert_eq!(file(script.as_bytes()).as_deref(), Ok(answers));
+        // And no longer than the file.
+        check("used", "0");
+    }
+
+    #[test]
     fn damage_of_the_other_kinds() {
         let reply = bytes_text(REPLY);
         let answers = file(format!("damage-reply {reply}\n").as_bytes()).expect("a case");
@@ -409,9 +457,22 @@ mod tests {
             "write-dynamic 46 122 65 60000 250 250 60000 240 0 1 0 0 1",
             "damage-reply",
             "read-request -\r",
+            "find",
+            "find 1",
+            "find 11 0d",
+            "find-from 0",
+            "find-from -1 11",
+            "find-from 4294967296 11",
+            "lend 0",
+            "mark 0 0",
+            "reset 0",
+            "mixes R",
         ] {
             assert!(file(format!("{case}\n").as_bytes()).is_err(), "{case:?}");
         }
+        let too_long = "11".repeat(401);
+        assert!(file(format!("find {too_long}\n").as_bytes()).is_err());
+        assert!(file(format!("find-from 0 {too_long}\n").as_bytes()).is_err());
         assert!(file(b"read-request -").is_err());
         assert!(file(b"read-request \xff\n").is_err());
     }

@@ -1,7 +1,9 @@
 //! Makes the file of cases. Each subject adds its own; the file is the same for the same seed.
 
+mod desk;
 mod digits;
 mod dynamic;
+mod finder;
 mod frames;
 mod reply;
 mod request;
@@ -25,17 +27,31 @@ impl Cases {
             self.asked.insert(case);
         }
     }
+
+    /// Adds a line of a script, also one that is there already: it works on what the lines before
+    /// it have left.
+    fn add_to_script(&mut self, line: &str) {
+        self.text.push_str(line);
+        self.text.push('\n');
+    }
 }
 
 /// The whole file for one seed.
 pub fn file(seed: u64) -> String {
     let mut cases = Cases::default();
-    digits::add_all(&mut cases, seed);
-    times::add_all(&mut cases, seed);
-    request::add_all(&mut cases, seed);
-    reply::add_all(&mut cases, seed);
-    dynamic::add_all(&mut cases, seed);
+    add_single_cases(&mut cases, seed);
+    desk::add_all(&mut cases, seed);
     cases.text
+}
+
+/// The cases that are answered each by itself, whatever stands before it.
+fn add_single_cases(cases: &mut Cases, seed: u64) {
+    digits::add_all(cases, seed);
+    times::add_all(cases, seed);
+    request::add_all(cases, seed);
+    reply::add_all(cases, seed);
+    dynamic::add_all(cases, seed);
+    finder::add_all(cases, seed);
 }
 
 /// `text` with the bytes from `place` on replaced by `part`.
@@ -50,8 +66,8 @@ mod tests {
     use super::*;
     use crate::answers;
 
-    const MOST_BYTES_OF_FILE: usize = 450_000;
-    const MOST_BYTES_OF_LINE: usize = 250;
+    const MOST_BYTES_OF_FILE: usize = 1_400_000;
+    const MOST_BYTES_OF_LINE: usize = 1_000;
 
     #[test]
     fn the_file_keeps_its_limits() {
@@ -65,9 +81,32 @@ mod tests {
     #[test]
     fn every_line_is_a_case() {
         for seed in 0..20 {
-            let answers = answers::file(file(seed).as_bytes());
+            let mut cases = Cases::default();
+            add_single_cases(&mut cases, seed);
+            let answers = answers::file(cases.text.as_bytes());
             assert!(answers.is_ok(), "{answers:?}");
         }
+    }
+
+    /// But for the mixes, which take their time. A test of their own asks each of their words.
+    #[test]
+    fn every_line_of_a_script_is_a_case() {
+        let mut cases = Cases::default();
+        desk::add_all(&mut cases, 1);
+        let (scripts, _) = cases.text.split_once("mixes ").expect("mixes");
+        let answers = answers::file(scripts.as_bytes());
+        assert!(answers.is_ok(), "{answers:?}");
+    }
+
+    #[test]
+    fn scripts_come_last() {
+        let file = file(1);
+        let scripts = file
+            .find("\nused\n")
+            .expect("the first line of the scripts");
+        let (before, scripts) = file.split_at(scripts);
+        assert!(before.lines().all(|line| !line.starts_with("lend ")));
+        assert!(scripts.lines().all(|line| !line.starts_with("find ")));
     }
 
     #[test]

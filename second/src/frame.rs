@@ -5,7 +5,7 @@ use crate::digits;
 use crate::refusal::Refusal;
 use crate::times;
 
-const CR: u8 = 0x0d;
+pub const CR: u8 = 0x0d;
 
 /// Bytes 1 and 2 of every frame.
 const ADDRESS: &[u8] = b"R ";

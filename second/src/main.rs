@@ -7,14 +7,17 @@
 
 mod answers;
 mod cases;
+mod desk;
 mod digits;
 mod dynamic;
+mod finder;
 mod frame;
 mod random;
 mod records;
 mod refusal;
 mod reply;
 mod request;
+mod script;
 mod spelling;
 mod times;
 

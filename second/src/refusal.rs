@@ -1,7 +1,8 @@
 //! The refusals of document 01 and their numbers.
 
-/// Why a frame was not read or a record not written. `Field` and `Record` carry the offset of the
-/// first wrong field.
+/// Why a frame was not read, a record not written or a call of the desk not done. `Field` and
+/// `Record` carry the offset of the first wrong field. TIME has no place here: it is the only
+/// refusal of the one call that gives it.
 #[derive(Clone, Copy, Debug, PartialEq, Eq)]
 pub enum Refusal {
     Kind,
@@ -11,6 +12,14 @@ pub enum Refusal {
     Field(usize),
     Record(usize),
     Room,
+    Desk,
+    NoAnswerDue,
+    InUse,
+    NoSeat,
+    Stray,
+    Ended,
+    OutOfPlace,
+    Full,
 }
 
 impl Refusal {
@@ -23,6 +32,14 @@ impl Refusal {
             Refusal::Field(_) => 5,
             Refusal::Record(_) => 6,
             Refusal::Room => 7,
+            Refusal::Desk => 9,
+            Refusal::NoAnswerDue => 10,
+            Refusal::InUse => 11,
+            Refusal::NoSeat => 12,
+            Refusal::Stray => 13,
+            Refusal::Ended => 14,
+            Refusal::OutOfPlace => 15,
+            Refusal::Full => 16,
         }
     }
 

@@ -45,7 +45,9 @@ pub const INFORMATION: &[u8; 33] = b"0123456789AQPaSsTKRGHhIiJjpkugWwX";
 pub const CLOCK_LETTERS: &[u8; 5] = b"0KSsa";
 pub const NET_LETTERS: &[u8; 3] = b"123";
 
-/// The status of a reply that is "not available".
+/// The three statuses: one record of an answer, its last record, and "not available".
+pub const RECORD: u8 = b'R';
+pub const LAST_RECORD: u8 = b'E';
 pub const NOT_AVAILABLE: u8 = b'Z';
 
 /// A whole reply held as a value.
@@ -305,7 +307,7 @@ fn read_net(frame: &[u8], time: i128) -> Option<i128> {
 }
 
 fn is_status(code: u8) -> bool {
-    matches!(code, b'R' | b'E' | NOT_AVAILABLE)
+    matches!(code, RECORD | LAST_RECORD | NOT_AVAILABLE)
 }
 
 fn is_number(value: u64) -> bool {

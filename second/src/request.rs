@@ -28,6 +28,9 @@ mod width {
 /// The 41 information letters, in the order document 01 lists them.
 pub const INFORMATION: &[u8; 41] = b"0123456789AQPaSsTKLtR*GHhIiJjpkugWwXlbcdq";
 
+/// The information letter of a request that no answer is due to.
+pub const NO_ANSWER_DUE: u8 = b'q';
+
 /// A static request. The numbers are held wider than any field, so a record that is not well
 /// formed can be held too and is found out by its value.
 #[derive(Clone, Debug, PartialEq, Eq)]
@@ -93,7 +96,7 @@ impl Kind for Request {
     }
 }
 
-fn is_number(value: u64) -> bool {
+pub fn is_number(value: u64) -> bool {
     value <= 999
 }
 

@@ -3,10 +3,13 @@
 /// The most bytes a BYTES argument has.
 pub const MOST_BYTES: usize = 100;
 
+/// The most bytes of a capture, which is what the finder's cases ask about.
+pub const MOST_BYTES_OF_CAPTURE: usize = 400;
+
 /// How no bytes at all are spelled.
 const NO_BYTES: &str = "-";
 
-/// The arguments called TICKS and VALUE are below this in size.
+/// The arguments called TICKS, VALUE and BITS are below this in size.
 const WIDE_LIMIT: u128 = 1 << 63;
 
 /// Every other number is below this.
@@ -25,6 +28,15 @@ pub fn bytes_text(bytes: &[u8]) -> String {
 }
 
 pub fn parse_bytes(word: &str) -> Result<Vec<u8>, NotACase> {
+    parse_bytes_up_to(MOST_BYTES, word)
+}
+
+/// BYTES of a case of the finder.
+pub fn parse_capture(word: &str) -> Result<Vec<u8>, NotACase> {
+    parse_bytes_up_to(MOST_BYTES_OF_CAPTURE, word)
+}
+
+fn parse_bytes_up_to(most: usize, word: &str) -> Result<Vec<u8>, NotACase> {
     const WRONG: NotACase = NotACase("BYTES are pairs of lower-case hex digits, or - for none");
     if word == NO_BYTES {
         return Ok(Vec::new());
@@ -32,8 +44,8 @@ pub fn parse_bytes(word: &str) -> Result<Vec<u8>, NotACase> {
     if word.is_empty() || !word.len().is_multiple_of(2) {
         return Err(WRONG);
     }
-    if word.len() > 2 * MOST_BYTES {
-        return Err(NotACase("more than 100 bytes"));
+    if word.len() > 2 * most {
+        return Err(NotACase("more bytes than the case may have"));
     }
     word.as_bytes()
         .chunks_exact(2)
@@ -60,6 +72,17 @@ pub fn parse_number(word: &str) -> Result<u32, NotACase> {
 pub fn parse_ticks(word: &str) -> Result<i128, NotACase> {
     let value = parse_below(word, WIDE_LIMIT)?;
     i128::try_from(value).map_err(|_| NotACase("a number is too large"))
+}
+
+/// BITS: unsigned, below 2^63.
+pub fn parse_bits(word: &str) -> Result<u64, NotACase> {
+    let value = parse_below(word, WIDE_LIMIT)?;
+    u64::try_from(value).map_err(|_| NotACase("a number is too large"))
+}
+
+/// PLACE: a plain argument that counts bytes, cells or marks.
+pub fn parse_place(word: &str) -> Result<usize, NotACase> {
+    usize::try_from(parse_number(word)?).map_err(|_| NotACase("a place is too large"))
 }
 
 /// VALUE: as TICKS, with a minus in front or without.
@@ -105,6 +128,14 @@ mod tests {
     }
 
     #[test]
+    fn captures_may_be_longer() {
+        assert_eq!(parse_capture("-"), Ok(Vec::new()));
+        assert_eq!(parse_capture(&"12".repeat(400)), Ok(vec![0x12; 400]));
+        assert!(parse_capture(&"12".repeat(401)).is_err());
+        assert!(parse_capture("1").is_err());
+    }
+
+    #[test]
     fn numbers() {
         assert_eq!(parse_number("0"), Ok(0));
         assert_eq!(parse_number("4294967295"), Ok(u32::MAX));
@@ -118,6 +149,8 @@ mod tests {
         let most = 9_223_372_036_854_775_807;
         assert_eq!(parse_ticks("9223372036854775807"), Ok(most));
         assert_eq!(parse_value("-9223372036854775807"), Ok(-most));
+        assert_eq!(parse_bits("9223372036854775807"), Ok(u64::MAX >> 1));
+        assert!(parse_bits("9223372036854775808").is_err());
         assert!(parse_ticks("-1").is_err());
         assert!(parse_value("--1").is_err());
         assert!(parse_value("-").is_err());

@@ -22,7 +22,7 @@ const ABSENT: &[u8; LENGTH] = b"\x12R ~ Za5432130000100000999249s--:--.----no da
 const STATUSES: &[u8; 3] = b"REZ";
 
 /// Both sides of every limit, by rising offset. Run 000 is asked with each status, apart from these.
-const NUMBERS: [Number; 6] = [
+pub const NUMBERS: [Number; 6] = [
     (
         at::NUMBER,
         5,

@@ -45,7 +45,7 @@ const FAR_BEYOND: [u64; 8] = [
     4_294_967_295,
 ];
 
-const NUMBERS: [Number; 5] = [
+pub const NUMBERS: [Number; 5] = [
     (at::NUMBER, 3, NUMBER_EDGES),
     (at::BIB, 5, BIB_EDGES),
     (at::CHANNEL, 3, CHANNEL_EDGES),

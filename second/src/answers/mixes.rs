@@ -1,0 +1,351 @@
+//! Plays every mix of two answers, with a stray and a damaged frame before each reply, and boils
+//! down what the desk did to one number.
+
+use crate::desk::{Desk, Seat};
+use crate::refusal::Refusal;
+use crate::reply::{self, LAST_RECORD, NOT_AVAILABLE, RECORD};
+use crate::script;
+use crate::spelling::NotACase;
+
+/// The most letters a word has.
+const LONGEST_WORD: usize = 4;
+
+/// How the word without letters is spelled.
+const NO_LETTERS: &str = "-";
+
+/// What is lent for each mix: room for all replies of two words.
+const LENT_BYTES: usize = 408;
+const LENT_MARKS: usize = 8;
+
+/// A byte that is not the CR a frame ends with, and a requester that neither request has.
+const NO_CR: u8 = 0x00;
+const STRAY_REQUESTER: u8 = b'a';
+
+/// One of the two requests and the replies to it.
+struct Side {
+    request: &'static [u8],
+    requester: u8,
+    /// The bib of its first reply. Those that follow fall by one.
+    bib: usize,
+}
+
+const A: Side = Side {
+    request: b"\x11R 100700000P000000000S\r",
+    requester: b'1',
+    bib: 40,
+};
+const B: Side = Side {
+    request: b"\x11R A00700000P000000000S\r",
+    requester: b'A',
+    bib: 30,
+};
+
+impl Side {
+    /// The reply of this number, counted from 0, with the word's letter as its status.
+    fn reply(&self, number: usize, letter: u8) -> Vec<u8> {
+        let mut frame = b"\x12R SO".to_vec();
+        frame.extend([letter, self.requester]);
+        frame.extend(format!("00007{:05}", self.bib - number).bytes());
+        frame.extend(b"000002000000P000000000000000000  \r");
+        frame
+    }
+
+    /// All replies of a word.
+    fn replies(&self, word: &[u8]) -> Vec<Vec<u8>> {
+        let letters = word.iter().enumerate();
+        letters
+            .map(|(number, &letter)| self.reply(number, letter))
+            .collect()
+    }
+}
+
+/// The letters of a word.
+pub fn parse_word(word: &str) -> Result<Vec<u8>, NotACase> {
+    if word == NO_LETTERS {
+        return Ok(Vec::new());
+    }
+    let good = |letter| matches!(letter, RECORD | LAST_RECORD | NOT_AVAILABLE);
+    if (1..=LONGEST_WORD).contains(&word.len()) && word.bytes().all(good) {
+        Ok(word.into())
+    } else {
+        Err(NotACase("a word has up to four of R, E and Z, or is -"))
+    }
+}
+
+/// The desk each mix begins with, and the one that is there when all have been played.
+pub fn lend() -> Desk {
+    script::lend(LENT_BYTES, LENT_MARKS)
+}
+
+/// How many mixes there are, and the digest of all of them.
+pub fn play(first: &[u8], second: &[u8]) -> (usize, u64) {
+    let mut digest = Digest::default();
+    let mut played = 0;
+    for mix in mixes(first, second) {
+        play_one(&mix, &mut digest);
+        played += 1;
+    }
+    (played, digest.0)
+}
+
+/// Every way to deal the replies of both words into one row that keeps the order of each.
+fn mixes(first: &[u8], second: &[u8]) -> impl Iterator<Item = Vec<Vec<u8>>> {
+    let (first, second) = (A.replies(first), B.replies(second));
+    let second_letters = second.len();
+    let numbers = 0_u32..1 << (first.len() + second.len());
+    numbers
+        .filter(move |number| number.count_ones() as usize == second_letters)
+        .map(move |number| deal(&first, &second, number))
+}
+
+/// The mix of this number: place i is the second word's where bit i is set.
+fn deal(first: &[Vec<u8>], second: &[Vec<u8>], number: u32) -> Vec<Vec<u8>> {
+    let (mut first, mut second) = (first.iter(), second.iter());
+    let mut replies = Vec::new();
+    let length = first.len() + second.len();
+    for place in 0..length {
+        let side = if (number >> place) & 1 == 1 {
+            &mut second
+        } else {
+            &mut first
+        };
+        replies.extend(side.next().cloned());
+    }
+    replies
+}
+
+fn play_one(replies: &[Vec<u8>], digest: &mut Digest) {
+    let mut desk = lend();
+    for side in [A, B] {
+        digest.take_call(desk.open(side.request));
+    }
+    for reply in replies {
+        for frame in [stray(reply), damaged(reply), reply.clone()] {
+            digest.take_call(desk.reply(&frame));
+        }
+    }
+    digest.take_desk(&desk);
+}
+
+fn stray(reply: &[u8]) -> Vec<u8> {
+    with_byte(reply, reply::at::REQUESTER, STRAY_REQUESTER)
+}
+
+fn damaged(reply: &[u8]) -> Vec<u8> {
+    with_byte(reply, reply::at::CR, NO_CR)
+}
+
+fn with_byte(frame: &[u8], place: usize, code: u8) -> Vec<u8> {
+    let mut frame = frame.to_vec();
+    frame[place] = code;
+    frame
+}
+
+/// One number that stands for all numbers it has taken in, in their order.
+#[derive(Debug, PartialEq, Eq)]
+struct Digest(u64);
+
+impl Default for Digest {
+    fn default() -> Self {
+        Digest(1)
+    }
+}
+
+impl Digest {
+    const FACTOR: u64 = 1_000_003;
+    const MODULUS: u64 = 4_294_967_291;
+
+    fn take(&mut self, number: u64) {
+        self.0 = (self.0 * Self::FACTOR + number % Self::MODULUS) % Self::MODULUS;
+    }
+
+    fn take_call(&mut self, outcome: Result<usize, Refusal>) {
+        let numbers = match outcome {
+            Ok(seat) => [0, 0, seat],
+            Err(refusal) => [refusal.number().into(), refusal.offset(), 0],
+        };
+        for number in numbers {
+            self.take(number as u64);
+        }
+    }
+
+    fn take_desk(&mut self, desk: &Desk) {
+        self.take(desk.bits);
+        self.take(desk.count.into());
+        for seat in &desk.seats {
+            let Seat {
+                requester,
+                number,
+                held,
+                ended,
+            } = *seat;
+            for number in [requester, number, held, ended] {
+                self.take(number.into());
+            }
+        }
+        for &byte in &desk.cells {
+            self.take(byte.into());
+        }
+        for &mark in &desk.marks {
+            self.take(mark.into());
+        }
+    }
+}
+
+#[cfg(test)]
+mod tests {
+    use super::*;
+    use crate::desk::CELL;
+    use crate::frame::Kind;
+    use crate::reply::Reply;
+
+    #[test]
+    fn words() {
+        assert_eq!(parse_word("-"), Ok(Vec::new()));
+        assert_eq!(parse_word("ZERR"), Ok(b"ZERR".to_vec()));
+        for word in ["", "RRRRR", "r", "R-", "--", "RX"] {
+            assert!(parse_word(word).is_err(), "{word}");
+        }
+    }
+
+    #[test]
+    fn replies_as_they_are_told() {
+        let reply = A.reply(0, b'R');
+        assert_eq!(
+            reply,
+            b"\x12R SOR10000700040000002000000P000000000000000000  \r"
+        );
+        assert_eq!(
+            B.reply(3, b'Z'),
+            b"\x12R SOZA0000700027000002000000P000000000000000000  \r"
+        );
+        assert!(Reply::read(&reply).is_ok());
+        assert!(Reply::read(&stray(&reply)).is_ok_and(|stray| stray.requester == b'a'));
+        assert_eq!(Reply::read(&damaged(&reply)), Err(Refusal::End));
+    }
+
+    /// The requester of each reply of each mix.
+    fn sides(first: &[u8], second: &[u8]) -> Vec<String> {
+        let requesters = |mix: Vec<Vec<u8>>| mix.iter().map(|reply| char::from(reply[6])).collect();
+        mixes(first, second).map(requesters).collect()
+    }
+
+    #[test]
+    fn mixes_by_rising_number() {
+        assert_eq!(sides(b"", b""), [""]);
+        assert_eq!(sides(b"RE", b""), ["11"]);
+        assert_eq!(sides(b"", b"RE"), ["AA"]);
+        assert_eq!(sides(b"RE", b"Z"), ["A11", "1A1", "11A"]);
+        assert_eq!(mixes(b"RRRR", b"RRRR").count(), 70);
+    }
+
+    #[test]
+    fn a_mix_keeps_the_order_of_each_word() {
+        let (first, second) = (A.replies(b"RRE"), B.replies(b"ZR"));
+        for mix in mixes(b"RRE", b"ZR") {
+            let (ones, others): (Vec<_>, Vec<_>) =
+                mix.into_iter().partition(|reply| reply[6] == b'1');
+            assert_eq!((ones, others), (first.clone(), second.clone()));
+        }
+    }
+
+    fn digest_of(numbers: &[u64]) -> u64 {
+        numbers.iter().fold(1, |digest, &number| {
+            ((u128::from(digest) * 1_000_003 + u128::from(number)) % 4_294_967_291) as u64
+        })
+    }
+
+    #[test]
+    fn the_digest_takes_numbers_in() {
+        let mut digest = Digest::default();
+        digest.take(5);
+        assert_eq!(digest, Digest(1_000_008));
+        digest.take(u64::MAX);
+        assert_eq!(digest, Digest(digest_of(&[5, u64::MAX])));
+        digest.take_call(Err(Refusal::Field(30)));
+        digest.take_call(Ok(15));
+        assert_eq!(
+            digest,
+            Digest(digest_of(&[5, u64::MAX, 5, 30, 0, 0, 0, 15]))
+        );
+    }
+
+    #[test]
+    fn two_words_without_letters() {
+        let mut numbers = vec![0, 0, 0, 0, 0, 1, 3, 0];
+        numbers.extend([49, 7, 0, 0, 65, 7, 0, 0]);
+        numbers.extend([0; 56]);
+        numbers.extend([0xee; 408]);
+        numbers.extend([0xeeee_eeee; 8]);
+        assert_eq!(play(b"", b""), (1, digest_of(&numbers)));
+    }
+
+    #[test]
+    fn a_word_of_one_letter() {
+        let mut numbers = vec![0, 0, 0, 0, 0, 1];
+        // The stray, the damaged one, and the reply itself.
+        numbers.extend([13, 0, 0, 3, 0, 0, 0, 0, 1]);
+        numbers.extend([3, 1, 49, 7, 0, 0, 65, 7, 1, 1]);
+        numbers.extend([0; 56]);
+        let cell = b"\x12R SOEA0000700030000002000000P000000000000000000  \r";
+        numbers.extend(cell.map(u64::from));
+        numbers.extend([0xee; 357]);
+        numbers.push(1);
+        numbers.extend([0xeeee_eeee; 7]);
+        assert_eq!(play(b"", b"E"), (1, digest_of(&numbers)));
+    }
+
+    /// What a seat says to each of its replies, and the records it has in the end.
+    type Service = (Vec<Result<usize, Refusal>>, Vec<Vec<u8>>);
+
+    /// Both requests opened and then these frames: how each side was served.
+    fn served(frames: &[Vec<u8>]) -> [Service; 2] {
+        let mut desk = lend();
+        for side in [A, B] {
+            assert!(desk.open(side.request).is_ok());
+        }
+        let outcomes: Vec<_> = frames.iter().map(|frame| desk.reply(frame)).collect();
+        [(A, 0), (B, 1)].map(|(side, seat)| {
+            let own = frames.iter().zip(&outcomes);
+            let own = own.filter(|(frame, _)| frame[6] == side.requester && frame[50] == b'\r');
+            let cells =
+                (0..desk.marks.len()).filter(|&cell| desk.next_held(seat, cell) == Some(cell));
+            (
+                own.map(|(_, &outcome)| outcome).collect(),
+                cells
+                    .map(|cell| desk.cells[cell * CELL..][..CELL].to_vec())
+                    .collect(),
+            )
+        })
+    }
+
+    /// Whatever comes between, a request is served as if its own replies were all there is.
+    #[test]
+    fn a_mix_serves_each_request_as_its_replies_alone() {
+        let words: [&[u8]; 8] = [b"", b"RE", b"RRR", b"RRE", b"Z", b"RZE", b"ZR", b"ERZ"];
+        for first in words {
+            for second in words {
+                let [alone, _] = served(&A.replies(first));
+                let [_, other_alone] = served(&B.replies(second));
+                for mix in mixes(first, second) {
+                    let disturbed: Vec<Vec<u8>> = mix
+                        .iter()
+                        .flat_map(|reply| [stray(reply), damaged(reply), reply.clone()])
+                        .collect();
+                    assert_eq!(served(&disturbed), [alone.clone(), other_alone.clone()]);
+                }
+            }
+        }
+    }
+
+    #[test]
+    fn replies_alone() {
+        let [(outcomes, records), _] = served(&A.replies(b"RZRE"));
+        let taken = [Ok(0), Err(Refusal::OutOfPlace), Ok(0), Ok(0)];
+        assert_eq!(outcomes, taken);
+        assert_eq!(
+            records,
+            [A.reply(0, b'R'), A.reply(2, b'R'), A.reply(3, b'E')]
+        );
+    }
+}

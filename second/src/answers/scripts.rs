@@ -1,0 +1,219 @@
+//! The answers of scripts. Their lines work on one desk that lasts from line to line.
+
+use super::{mixes, refusal_text, DONE};
+use crate::desk::{Desk, SEATS};
+use crate::refusal::Refusal;
+use crate::script::{self, seat_text, Change, MOST_LENT_BYTES, MOST_LENT_MARKS};
+use crate::spelling::{bytes_text, parse_bytes, parse_number, parse_place, NotACase};
+use std::ops::Range;
+
+/// The answer of a line that sets a part of the desk, and that of a look that finds no cell.
+const SET: &str = "set";
+const NONE: &str = "none";
+
+/// The answer to a line of a script, if it is one.
+pub fn answer(desk: &mut Desk, words: &[&str]) -> Option<Result<String, NotACase>> {
+    Some(match words {
+        ["lend", bytes, marks] => lend(desk, bytes, marks),
+        ["open", frame] => parse_bytes(frame).map(|frame| call(desk, |desk| desk.open(&frame))),
+        ["reply", frame] => parse_bytes(frame).map(|frame| call(desk, |desk| desk.reply(&frame))),
+        ["reset"] => Ok(call(desk, |desk| {
+            desk.reset();
+            Ok(0)
+        })),
+        ["used"] => Ok(desk.seats_in_use().to_string()),
+        ["held", seat, place] => held(desk, seat, place),
+        ["mixes", first, second] => play_mixes(desk, first, second),
+        _ => Change::parse(words)?.and_then(|change| set(desk, &change)),
+    })
+}
+
+fn lend(desk: &mut Desk, bytes: &str, marks: &str) -> Result<String, NotACase> {
+    let bytes = parse_place(bytes)?;
+    let marks = parse_place(marks)?;
+    if bytes > MOST_LENT_BYTES || marks > MOST_LENT_MARKS {
+        return Err(NotACase("more is lent than 15400 bytes and 310 marks"));
+    }
+    *desk = script::lend(bytes, marks);
+    Ok(desk.capacity().to_string())
+}
+
+fn set(desk: &mut Desk, change: &Change) -> Result<String, NotACase> {
+    change.make(desk)?;
+    Ok(SET.to_string())
+}
+
+fn held(desk: &Desk, seat: &str, place: &str) -> Result<String, NotACase> {
+    let cell = desk.next_held(parse_number(seat)?, parse_place(place)?);
+    Ok(cell.map_or_else(|| NONE.to_string(), |cell| cell.to_string()))
+}
+
+fn play_mixes(desk: &mut Desk, first: &str, second: &str) -> Result<String, NotACase> {
+    let (played, digest) = mixes::play(&mixes::parse_word(first)?, &mixes::parse_word(second)?);
+    *desk = mixes::lend();
+    Ok(format!("{played} {digest}"))
+}
+
+/// The outcome of a call, and all that differs from before it.
+fn call(desk: &mut Desk, work: impl FnOnce(&mut Desk) -> Result<usize, Refusal>) -> String {
+    let before = desk.clone();
+    let (outcome, seat) = match work(desk) {
+        Ok(seat) => (DONE.to_string(), seat),
+        Err(refusal) => (refusal_text(refusal), 0),
+    };
+    let mut parts = vec![format!("{outcome} {seat} {} {}", desk.bits, desk.count)];
+    parts.extend(changed_parts(&before, desk));
+    parts.join(" ")
+}
+
+/// Seats, cells and marks that differ, in this order.
+fn changed_parts(before: &Desk, after: &Desk) -> Vec<String> {
+    let mut parts: Vec<String> = (0..SEATS)
+        .filter(|&place| before.seats[place] != after.seats[place])
+        .map(|place| seat_text(place, &after.seats[place]))
+        .collect();
+    if let Some(range) = differing(&before.cells, &after.cells) {
+        let bytes = bytes_text(&after.cells[range.clone()]);
+        parts.push(format!("cells {} {bytes}", range.start));
+    }
+    if let Some(range) = differing(&before.marks, &after.marks) {
+        parts.push(format!("marks {}", range.start));
+        parts.extend(after.marks[range].iter().map(u32::to_string));
+    }
+    parts
+}
+
+/// From the first place that differs to the last.
+fn differing<T: PartialEq>(before: &[T], after: &[T]) -> Option<Range<usize>> {
+    let differs = |&place: &usize| before[place] != after[place];
+    let first = (0..before.len()).find(differs)?;
+    let last = (0..before.len()).rfind(differs)?;
+    Some(first..last + 1)
+}
+
+#[cfg(test)]
+mod tests {
+    use super::*;
+
+    fn check(script: &[(&str, &str)]) {
+        let mut desk = Desk::default();
+        for (line, expected) in script {
+            let words: Vec<&str> = line.split(' ').collect();
+            let answer = answer(&mut desk, &words).expect("a line of a script");
+            assert_eq!(answer.as_deref(), Ok(*expected), "{line}");
+        }
+    }
+
+    /// The example's first request and its first reply.
+    const OPEN: &str = "open 11522031303037303030303050303030303032303030530d";
+    const REPLY: &str = "reply 125220534f52313030303037303030313530303030303230303030303050\
+                         3030303030303030303030303030303030302020\
+                         0d";
+
+    #[test]
+    fn nothing_is_lent_at_first() {
+        check(&[
+            ("used", "0"),
+            ("held 0 0", "none"),
+            ("reset", "0 0 0 0 0"),
+            ("open -", "1 0 0 0 0"),
+            (OPEN, "0 0 0 1 0 seat 0 49 7 0 0"),
+            (OPEN, "11 0 0 1 0"),
+            (REPLY, "16 0 0 1 0"),
+            ("used", "1"),
+            ("reset", "0 0 0 0 0 seat 0 0 0 0 0"),
+            (REPLY, "13 0 0 0 0"),
+        ]);
+    }
+
+    #[test]
+    fn a_taken_reply_shows_what_differs() {
+        let frame = REPLY.strip_prefix("reply ").expect("a reply");
+        let taken = format!("0 0 0 1 1 seat 0 49 7 1 0 cells 0 {frame} marks 0 0");
+        let again = format!("0 0 0 1 2 seat 0 49 7 2 0 cells 51 {frame} marks 1 0");
+        check(&[
+            ("lend 103 2", "2"),
+            (OPEN, "0 0 0 1 0 seat 0 49 7 0 0"),
+            (REPLY, &taken),
+            (REPLY, &again),
+            (REPLY, "16 0 0 1 2"),
+            ("held 0 0", "0"),
+            ("held 0 1", "1"),
+            ("held 0 2", "none"),
+            ("held 1 0", "none"),
+            ("reset", "0 0 0 0 0 seat 0 0 0 0 0"),
+            (OPEN, "0 0 0 1 0 seat 0 49 7 0 0"),
+            // The cell and its mark hold these bytes already.
+            (REPLY, "0 0 0 1 1 seat 0 49 7 1 0"),
+            ("cell 102 ff", "set"),
+            ("cell 54 0102", "set"),
+            ("mark 1 9", "set"),
+            (REPLY, "0 0 0 1 2 seat 0 49 7 2 0 cells 54 534f marks 1 0"),
+        ]);
+    }
+
+    #[test]
+    fn parts_set_from_outside() {
+        check(&[
+            ("lend 15400 310", "256"),
+            ("lend 50 1", "0"),
+            ("bits 9223372036854775807", "set"),
+            ("used", "63"),
+            (OPEN, "9 0 0 9223372036854775807 0"),
+            ("bits 2", "set"),
+            ("seat 1 48 5 0 0", "set"),
+            (OPEN, "0 0 0 3 0 seat 0 49 7 0 0"),
+            ("count 1", "set"),
+            ("open 13", "9 0 0 3 1"),
+            ("reset", "0 0 0 0 0 seat 0 0 0 0 0 seat 1 0 0 0 0"),
+        ]);
+    }
+
+    #[test]
+    fn mixes_leave_an_empty_desk() {
+        let (played, digest) = mixes::play(b"R", b"ZE");
+        check(&[
+            (OPEN, "0 0 0 1 0 seat 0 49 7 0 0"),
+            ("mixes R ZE", &format!("{played} {digest}")),
+            ("used", "0"),
+            ("mark 7 1", "set"),
+            ("cell 407 00", "set"),
+        ]);
+        assert_eq!(played, 3);
+    }
+
+    #[test]
+    fn the_range_that_differs() {
+        assert_eq!(differing(b"abc", b"abc"), None);
+        assert_eq!(differing(b"abcde", b"aBcDe"), Some(1..4));
+        assert_eq!(differing(b"abc", b"Abc"), Some(0..1));
+        assert_eq!(differing(b"", b""), None);
+    }
+
+    #[test]
+    fn lines_that_are_no_cases() {
+        for line in [
+            "lend 15401 0",
+            "lend 0 311",
+            "bits 9223372036854775808",
+            "seat 16 0 0 0 0",
+            "mark 0 0",
+            "cell 0 00",
+            "open 1",
+            "reply 0D",
+            "held 0 -1",
+            "mixes R RRRRR",
+            "mixes r R",
+        ] {
+            let words: Vec<&str> = line.split(' ').collect();
+            let answer = answer(&mut Desk::default(), &words);
+            assert!(answer.expect("a line of a script").is_err(), "{line}");
+        }
+        for line in [
+            "lend 0", "open", "reset 0", "used 1", "held 0", "mixes R", "find -",
+        ] {
+            let words: Vec<&str> = line.split(' ').collect();
+            assert_eq!(answer(&mut Desk::default(), &words), None, "{line}");
+        }
+    }
+}

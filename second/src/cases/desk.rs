@@ -1,0 +1,26 @@
+//! Scripts of a desk. The first of them begins before anything is lent; each of the others begins
+//! by lending.
+
+mod clauses;
+mod frames;
+mod looks;
+mod memory;
+mod mixes;
+mod openings;
+mod random;
+mod replies;
+mod script;
+
+use super::Cases;
+use crate::random::Random;
+
+pub fn add_all(cases: &mut Cases, seed: u64) {
+    memory::add_nothing_lent(cases);
+    openings::add_all(cases);
+    replies::add_all(cases);
+    clauses::add_all(cases);
+    memory::add_all(cases);
+    looks::add_all(cases);
+    random::add_all(cases, &mut Random::new(seed, "desk"));
+    mixes::add_all(cases);
+}

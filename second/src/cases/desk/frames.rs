@@ -1,0 +1,169 @@
+//! The frames that scripts open requests and reply with, spelled out here and not by the writers
+//! under comparison.
+
+use crate::cases::replaced;
+use crate::reply;
+
+/// Requester and number.
+pub type Key = (u8, u32);
+
+/// What a reply's status is.
+pub const R: u8 = b'R';
+pub const E: u8 = b'E';
+pub const Z: u8 = b'Z';
+
+pub fn request(key: Key) -> Vec<u8> {
+    request_for(key, b'P')
+}
+
+/// A request for this information.
+pub fn request_for((requester, number): Key, information: u8) -> Vec<u8> {
+    let mut frame = b"\x11R ".to_vec();
+    frame.push(requester);
+    frame.extend(format!("{number:03}00000").bytes());
+    frame.push(information);
+    frame.extend(b"000002000S\r");
+    frame
+}
+
+pub fn reply(status: u8, key: Key) -> Vec<u8> {
+    reply_with_bib(status, key, 15)
+}
+
+/// Replies that are to be told apart have different bibs.
+pub fn reply_with_bib(status: u8, (requester, number): Key, bib: usize) -> Vec<u8> {
+    let mut frame = b"\x12R SO".to_vec();
+    frame.extend([status, requester]);
+    frame.extend(format!("{number:05}{bib:05}").bytes());
+    frame.extend(b"000002000000P000000000000000000  \r");
+    frame
+}
+
+/// Something to put at a place of a frame.
+pub type Patch = (usize, &'static [u8]);
+
+/// What makes a request no request, refused with each of KIND, END, ADDRESS and FIELD.
+pub const REQUEST_DAMAGES: [Patch; 17] = [
+    (0, b"\x12"),
+    (0, b"\x13"),
+    (0, b"H"),
+    (23, b"\n"),
+    (23, b"\0"),
+    (1, b"r"),
+    (2, b"0"),
+    (3, b"["),
+    (4, b"0 7"),
+    (7, b"60000"),
+    (12, b"B"),
+    (13, b"250"),
+    (16, b"251"),
+    (19, b"200"),
+    (22, b"C"),
+    // The letter that no answer is due to beside a wrong field.
+    (12, b"q250"),
+    (12, b"q000002000s"),
+];
+
+/// What makes a reply of status R no reply, refused with each of KIND, END, ADDRESS and FIELD.
+pub const REPLY_DAMAGES: [Patch; 26] = [
+    (0, b"\x11"),
+    (0, b"\x13"),
+    (0, b"H"),
+    (reply::at::CR, b"\n"),
+    (reply::at::CR, b"\0"),
+    (1, b"r"),
+    (2, b"0"),
+    (reply::at::PROGRAM, b"\x1f"),
+    (reply::at::MODE, b"\x7f"),
+    (reply::at::STATUS, b"r"),
+    (reply::at::STATUS, b"S"),
+    (reply::at::REQUESTER, b"["),
+    (reply::at::NUMBER, b"0000 "),
+    (reply::at::BIB, b"60000"),
+    (reply::at::GROUP, b"200"),
+    (reply::at::RUN, b"000"),
+    (reply::at::RUN, b"251"),
+    (reply::at::PHYSICAL, b"0-1"),
+    (reply::at::CHANNEL, b"251"),
+    (reply::at::INFORMATION, b"L"),
+    (reply::at::TIME, b"\x1f"),
+    (reply::at::DATE, b"0000000\x7f"),
+    (reply::at::SPARE, b" \x80"),
+    // Clock and net letters, with a time or a date that does not suit them.
+    (reply::at::INFORMATION, b"K240000000029022024"),
+    (reply::at::INFORMATION, b"K235959999929022023"),
+    (reply::at::INFORMATION, b"1000000000000000000"),
+];
+
+pub fn patched(frame: &[u8], (place, text): Patch) -> Vec<u8> {
+    replaced(frame, place, text)
+}
+
+/// No frame at all, a lead byte alone, and a frame one byte short and one byte long, with CR as the
+/// last byte of each.
+pub fn of_wrong_length(frame: &[u8]) -> [Vec<u8>; 4] {
+    let (_, fields) = frame.split_last().expect("a frame has bytes");
+    let (_, shorter) = fields.split_last().expect("a frame has fields");
+    [
+        Vec::new(),
+        frame[..1].to_vec(),
+        [shorter, b"\r"].concat(),
+        [fields, b"0\r"].concat(),
+    ]
+}
+
+#[cfg(test)]
+mod tests {
+    use super::*;
+    use crate::frame::Kind;
+    use crate::refusal::Refusal;
+    use crate::reply::Reply;
+    use crate::request::Request;
+
+    #[test]
+    fn frames_are_good_and_have_their_key() {
+        let record = Request::read(&request((b'z', 999))).expect("a request");
+        assert_eq!((record.requester, record.number), (b'z', 999));
+        for status in [R, E, Z] {
+            let frame = reply_with_bib(status, (b'a', 99_999), 59_999);
+            let record = Reply::read(&frame).expect("a reply");
+            assert_eq!((record.requester, record.number), (b'a', 99_999));
+            assert_eq!((record.status, record.bib), (status, 59_999));
+        }
+    }
+
+    /// Each number is there, and each field's offset.
+    fn check_refusals(refusals: &[Option<Refusal>], offsets: &[usize]) {
+        assert!(refusals.iter().all(Option::is_some));
+        for refusal in [Refusal::Kind, Refusal::End, Refusal::Address] {
+            assert!(refusals.contains(&Some(refusal)));
+        }
+        for &offset in offsets {
+            assert!(refusals.contains(&Some(Refusal::Field(offset))), "{offset}");
+        }
+    }
+
+    #[test]
+    fn damages_reach_every_refusal() {
+        let request = request((b'1', 7));
+        let refusals =
+            REQUEST_DAMAGES.map(|damage| Request::read(&patched(&request, damage)).err());
+        check_refusals(&refusals, &[3, 4, 7, 12, 13, 16, 19, 22]);
+        let reply = reply(R, (b'1', 7));
+        let refusals = REPLY_DAMAGES.map(|damage| Reply::read(&patched(&reply, damage)).err());
+        check_refusals(
+            &refusals,
+            &[3, 4, 5, 6, 7, 12, 17, 20, 23, 26, 29, 30, 40, 48],
+        );
+    }
+
+    #[test]
+    fn wrong_lengths() {
+        let [none, lead, shorter, longer] = of_wrong_length(&reply(R, (b'1', 7)));
+        assert_eq!(Reply::read(&none), Err(Refusal::Kind));
+        assert_eq!([lead.len(), shorter.len(), longer.len()], [1, 50, 52]);
+        for frame in [lead, shorter, longer] {
+            assert_eq!(Reply::read(&frame), Err(Refusal::Length));
+        }
+    }
+}

@@ -1,0 +1,212 @@
+//! A script in the making. Each line is also played on a desk, so that what a script has changed
+//! can be put back.
+
+use super::frames::{request, Key};
+use crate::cases::Cases;
+use crate::desk::{Desk, Seat, CELL};
+use crate::script::{self, Change};
+use crate::spelling::{bytes_text, MOST_BYTES};
+use std::ops::Range;
+
+pub struct Script<'a> {
+    cases: &'a mut Cases,
+    desk: Desk,
+    lines: usize,
+}
+
+impl<'a> Script<'a> {
+    /// A script that goes on with the desk that the lines before it have left.
+    pub fn go_on(cases: &'a mut Cases, desk: Desk) -> Self {
+        Script {
+            cases,
+            desk,
+            lines: 0,
+        }
+    }
+
+    /// A script that begins by lending this.
+    pub fn lend(cases: &'a mut Cases, bytes: usize, marks: usize) -> Self {
+        let mut script = Script::go_on(cases, script::lend(bytes, marks));
+        script.line(&format!("lend {bytes} {marks}"));
+        script
+    }
+
+    /// A script that begins with so many whole cells and their marks.
+    pub fn lend_cells(cases: &'a mut Cases, cells: usize) -> Self {
+        Script::lend(cases, cells * CELL, cells)
+    }
+
+    pub fn desk(&self) -> &Desk {
+        &self.desk
+    }
+
+    /// How many lines there are by now.
+    pub fn lines(&self) -> usize {
+        self.lines
+    }
+
+    fn line(&mut self, line: &str) {
+        self.cases.add_to_script(line);
+        self.lines += 1;
+    }
+
+    pub fn open(&mut self, frame: &[u8]) {
+        self.line(&format!("open {}", bytes_text(frame)));
+        // What comes of it is the desk's affair, also where it is refused.
+        let _ = self.desk.open(frame);
+    }
+
+    pub fn open_all(&mut self, keys: &[Key]) {
+        for &key in keys {
+            self.open(&request(key));
+        }
+    }
+
+    pub fn reply(&mut self, frame: &[u8]) {
+        self.line(&format!("reply {}", bytes_text(frame)));
+        let _ = self.desk.reply(frame);
+    }
+
+    pub fn reset(&mut self) {
+        self.line("reset");
+        self.desk.reset();
+    }
+
+    pub fn used(&mut self) {
+        self.line("used");
+    }
+
+    pub fn held(&mut self, seat: u32, place: usize) {
+        self.line(&format!("held {seat} {place}"));
+    }
+
+    pub fn change(&mut self, change: &Change) {
+        self.line(&change.text());
+        change
+            .make(&mut self.desk)
+            .expect("a script sets what is lent");
+    }
+
+    pub fn change_all(&mut self, changes: &[Change]) {
+        for change in changes {
+            self.change(change);
+        }
+    }
+
+    /// Makes the desk again what it was, but for its free cells and marks.
+    pub fn put_back(&mut self, kept: &Desk) {
+        for change in changes_back(&self.desk, kept) {
+            self.change(&change);
+        }
+    }
+}
+
+/// The record of a seat that was opened with this key, and holds this.
+pub fn seat_of((requester, number): Key, held: u32, ended: u32) -> Seat {
+    Seat {
+        requester: requester.into(),
+        number,
+        held,
+        ended,
+    }
+}
+
+/// What leads from one desk back to another that has as much lent to it.
+fn changes_back(from: &Desk, to: &Desk) -> Vec<Change> {
+    let mut changes = Vec::new();
+    if from.bits != to.bits {
+        changes.push(Change::Bits(to.bits));
+    }
+    if from.count != to.count {
+        changes.push(Change::Count(to.count));
+    }
+    for (place, &seat) in to.seats.iter().enumerate() {
+        if from.seats[place] != seat {
+            changes.push(Change::Seat(place, seat));
+        }
+    }
+    let taken = (to.count as usize).min(to.capacity());
+    for place in 0..taken {
+        if from.marks[place] != to.marks[place] {
+            changes.push(Change::Mark(place, to.marks[place]));
+        }
+    }
+    changes.extend((0..taken).filter_map(|cell| cell_back(from, to, cell)));
+    changes
+}
+
+/// The bytes of a cell from the first that differs to the last.
+fn cell_back(from: &Desk, to: &Desk, cell: usize) -> Option<Change> {
+    const { assert!(CELL <= MOST_BYTES) };
+    let mut bytes: Range<usize> = cell * CELL..(cell + 1) * CELL;
+    let differs = |&place: &usize| from.cells[place] != to.cells[place];
+    let first = bytes.clone().find(differs)?;
+    let last = bytes.rfind(differs)?;
+    Some(Change::Cell(first, to.cells[first..=last].to_vec()))
+}
+
+#[cfg(test)]
+pub mod tests {
+    use super::*;
+    use crate::answers;
+    use crate::cases::desk::frames::{reply, R};
+
+    /// The answers to these cases, of calls the number, the offset and the seat alone.
+    pub fn outcomes(add: impl FnOnce(&mut Cases)) -> Vec<String> {
+        let mut cases = Cases::default();
+        add(&mut cases);
+        let answers = answers::file(cases.text.as_bytes()).expect("cases");
+        let outcome = |line: &str| line.split(' ').take(3).collect::<Vec<_>>().join(" ");
+        answers.lines().map(outcome).collect()
+    }
+
+    #[test]
+    fn lines_may_come_again() {
+        let mut cases = Cases::default();
+        let mut script = Script::lend(&mut cases, 0, 0);
+        script.used();
+        script.used();
+        assert_eq!(script.lines(), 3);
+        assert_eq!(cases.text, "lend 0 0\nused\nused\n");
+    }
+
+    #[test]
+    fn what_was_changed_is_put_back() {
+        let mut cases = Cases::default();
+        let mut script = Script::lend_cells(&mut cases, 2);
+        script.open_all(&[(b'1', 7)]);
+        script.reply(&reply(R, (b'1', 7)));
+        let kept = script.desk().clone();
+        script.change_all(&[
+            Change::Bits(9),
+            Change::Count(7),
+            Change::Seat(15, seat_of((b'2', 8), 3, 4)),
+            Change::Mark(0, 5),
+            Change::Cell(6, vec![1, 2]),
+        ]);
+        assert_ne!(script.desk(), &kept);
+        script.put_back(&kept);
+        assert_eq!(script.desk(), &kept);
+        let last_five: Vec<&str> = cases.text.lines().rev().take(5).collect();
+        assert_eq!(
+            last_five,
+            [
+                "cell 6 3130",
+                "mark 0 0",
+                "seat 15 0 0 0 0",
+                "count 1",
+                "bits 1"
+            ]
+        );
+    }
+
+    #[test]
+    fn free_cells_and_marks_are_not_put_back() {
+        let mut cases = Cases::default();
+        let mut script = Script::lend_cells(&mut cases, 1);
+        let kept = script.desk().clone();
+        script.change_all(&[Change::Mark(0, 5), Change::Cell(0, vec![1])]);
+        script.put_back(&kept);
+        assert_eq!(script.lines(), 3);
+    }
+}

@@ -1,0 +1,372 @@
+use super::*;
+use crate::reply::LAST_RECORD;
+
+const Z: u8 = NOT_AVAILABLE;
+const E: u8 = LAST_RECORD;
+const R: u8 = RECORD;
+
+pub fn request(requester: u8, number: u32) -> Vec<u8> {
+    request_for(requester, number, b'P')
+}
+
+fn request_for(requester: u8, number: u32, information: u8) -> Vec<u8> {
+    let mut frame = b"\x11R ".to_vec();
+    frame.push(requester);
+    frame.extend(format!("{number:03}00000").bytes());
+    frame.push(information);
+    frame.extend(b"000002000S\r");
+    frame
+}
+
+pub fn reply(status: u8, requester: u8, number: u32) -> Vec<u8> {
+    reply_with_bib(status, requester, number, 15)
+}
+
+fn reply_with_bib(status: u8, requester: u8, number: u32, bib: u32) -> Vec<u8> {
+    let mut frame = b"\x12R SO".to_vec();
+    frame.extend([status, requester]);
+    frame.extend(format!("{number:05}{bib:05}").bytes());
+    frame.extend(b"000002000000P000000000000000000  \r");
+    frame
+}
+
+/// An empty desk of so many cells.
+pub fn desk_of(cells: usize) -> Desk {
+    Desk::with(vec![0xee; cells * CELL], vec![0xeeee_eeee; cells])
+}
+
+/// A desk of these keys, in this order.
+fn opened(cells: usize, keys: &[(u8, u32)]) -> Desk {
+    let mut desk = desk_of(cells);
+    for (seat, &(requester, number)) in keys.iter().enumerate() {
+        assert_eq!(desk.open(&request(requester, number)), Ok(seat));
+    }
+    desk
+}
+
+fn sixteen_keys() -> Vec<(u8, u32)> {
+    (b'A'..=b'P').map(|requester| (requester, 7)).collect()
+}
+
+fn check_refused(desk: &Desk, refusal: Refusal, call: impl FnOnce(&mut Desk) -> Outcome) {
+    let mut after = desk.clone();
+    assert_eq!(call(&mut after), Err(refusal));
+    assert_eq!(&after, desk, "{refusal:?} changed something");
+}
+
+type Outcome = Result<usize, Refusal>;
+
+/// The seat's records, in their order.
+fn records_at(desk: &Desk, seat: u32) -> Vec<&[u8]> {
+    let mut records = Vec::new();
+    let mut place = 0;
+    while let Some(cell) = desk.next_held(seat, place) {
+        records.push(&desk.cells[cell * CELL..][..CELL]);
+        place = cell + 1;
+    }
+    records
+}
+
+#[test]
+fn the_example_of_the_listing() {
+    let first = b"\x12R SOR10000700015000002000000P000000000000000000  \r";
+    let second = b"\x12R SOEA000120004100000101525510001125400+0000000  \r";
+    let third = b"\x12R SOE10000700022000002000000P000000000000000000  \r";
+    let mut desk = desk_of(256);
+    assert_eq!(desk.open(b"\x11R 100700000P000002000S\r"), Ok(0));
+    assert_eq!(desk.open(b"\x11R A012000411255001000S\r"), Ok(1));
+    assert_eq!(desk.reply(first), Ok(0));
+    assert_eq!(desk.reply(second), Ok(1));
+    assert_eq!(desk.reply(third), Ok(0));
+    check_refused(&desk, Refusal::Ended, |desk| desk.reply(second));
+    assert_eq!(records_at(&desk, 0), [first, third]);
+    assert_eq!(records_at(&desk, 1), [second]);
+    assert_eq!((desk.bits, desk.count, desk.seats_in_use()), (3, 3, 2));
+}
+
+#[test]
+fn an_opening_fills_its_seat_alone() {
+    let mut desk = desk_of(1);
+    assert_eq!(desk.open(&request(b'z', 999)), Ok(0));
+    let mut expected = desk_of(1);
+    expected.bits = 1;
+    expected.seats[0] = Seat {
+        requester: 122,
+        number: 999,
+        held: 0,
+        ended: 0,
+    };
+    assert_eq!(desk, expected);
+}
+
+#[test]
+fn a_taken_reply_changes_next_cell_mark_seat_and_count() {
+    let mut desk = opened(3, &[(b'1', 7), (b'A', 12)]);
+    assert_eq!(desk.reply(&reply(R, b'1', 7)), Ok(0));
+    let mut expected = desk.clone();
+    let frame = reply(E, b'A', 12);
+    assert_eq!(desk.reply(&frame), Ok(1));
+    expected.cells[51..102].copy_from_slice(&frame);
+    expected.marks[1] = 1;
+    expected.seats[1].held = 1;
+    expected.seats[1].ended = 1;
+    expected.count = 2;
+    assert_eq!(desk, expected);
+}
+
+#[test]
+fn an_opening_takes_the_lowest_clear_bit() {
+    for gap in 0..SEATS {
+        let mut desk = opened(0, &sixteen_keys());
+        desk.bits &= !(1 << gap);
+        desk.seats[gap] = Seat::default();
+        assert_eq!(desk.open(&request(b'z', 0)), Ok(gap));
+        assert_eq!(desk.bits, 0xffff);
+    }
+}
+
+#[test]
+fn sixteen_seats_and_no_seventeenth() {
+    let desk = opened(1, &sixteen_keys());
+    assert_eq!(desk.bits, 0xffff);
+    check_refused(&desk, Refusal::NoSeat, |desk| desk.open(&request(b'z', 7)));
+    // A key in use is told first, and no answer due before that.
+    check_refused(&desk, Refusal::InUse, |desk| desk.open(&request(b'P', 7)));
+    check_refused(&desk, Refusal::NoAnswerDue, |desk| {
+        desk.open(&request_for(b'P', 7, b'q'))
+    });
+    check_refused(&desk, Refusal::Field(4), |desk| {
+        desk.open(b"\x11R P00x00000q000000000S\r")
+    });
+}
+
+#[test]
+fn a_key_is_in_use_also_when_ended() {
+    let mut desk = opened(1, &[(b'1', 7)]);
+    check_refused(&desk, Refusal::InUse, |desk| desk.open(&request(b'1', 7)));
+    assert_eq!(desk.reply(&reply(Z, b'1', 7)), Ok(0));
+    check_refused(&desk, Refusal::InUse, |desk| desk.open(&request(b'1', 7)));
+    // Other keys are free.
+    assert_eq!(desk.open(&request(b'1', 8)), Ok(1));
+    assert_eq!(desk.open(&request(b'A', 7)), Ok(2));
+    assert_eq!(desk.open(&request(b'a', 7)), Ok(3));
+}
+
+#[test]
+fn every_letter_but_q_is_opened() {
+    for &information in crate::request::INFORMATION {
+        let outcome = desk_of(1).open(&request_for(b'1', 7, information));
+        let expected = if information == b'q' {
+            Err(Refusal::NoAnswerDue)
+        } else {
+            Ok(0)
+        };
+        assert_eq!(outcome, expected);
+    }
+}
+
+#[test]
+fn an_e_ends_also_as_first_record() {
+    let mut desk = opened(4, &[(b'1', 7)]);
+    assert_eq!(desk.reply(&reply(E, b'1', 7)), Ok(0));
+    for status in [R, E, Z] {
+        check_refused(&desk, Refusal::Ended, |desk| {
+            desk.reply(&reply(status, b'1', 7))
+        });
+    }
+}
+
+#[test]
+fn a_z_is_taken_only_as_first_record_and_ends() {
+    let mut desk = opened(4, &[(b'1', 7), (b'A', 7)]);
+    assert_eq!(desk.reply(&reply(Z, b'1', 7)), Ok(0));
+    for status in [R, E, Z] {
+        check_refused(&desk, Refusal::Ended, |desk| {
+            desk.reply(&reply(status, b'1', 7))
+        });
+    }
+    assert_eq!(desk.reply(&reply(R, b'A', 7)), Ok(1));
+    check_refused(&desk, Refusal::OutOfPlace, |desk| {
+        desk.reply(&reply(Z, b'A', 7))
+    });
+    assert_eq!(desk.reply(&reply(R, b'A', 7)), Ok(1));
+    assert_eq!(desk.reply(&reply(E, b'A', 7)), Ok(1));
+    assert_eq!(desk.seats.map(|seat| seat.held)[..3], [1, 3, 0]);
+    assert_eq!(desk.seats.map(|seat| seat.ended)[..3], [1, 1, 0]);
+}
+
+#[test]
+fn the_same_reply_twice_is_two_records() {
+    let mut desk = opened(2, &[(b'1', 7)]);
+    let frame = reply(R, b'1', 7);
+    assert_eq!(desk.reply(&frame), Ok(0));
+    assert_eq!(desk.reply(&frame), Ok(0));
+    assert_eq!(records_at(&desk, 0), [&frame[..], &frame]);
+}
+
+#[test]
+fn records_stay_in_the_order_they_came_in() {
+    let mut desk = opened(3, &[(b'1', 7)]);
+    let frames = [30, 10, 20].map(|bib| reply_with_bib(R, b'1', 7, bib));
+    for frame in &frames {
+        assert_eq!(desk.reply(frame), Ok(0));
+    }
+    assert_eq!(desk.cells, frames.concat());
+}
+
+#[test]
+fn strays() {
+    let mut desk = opened(2, &[(b'A', 7), (b'A', 999)]);
+    for number in [0, 6, 8, 70, 700, 998, 1_000, 1_007, 1_999, 65_543, 99_999] {
+        check_refused(&desk, Refusal::Stray, |desk| {
+            desk.reply(&reply(R, b'A', number))
+        });
+    }
+    for requester in *b"a1BZ" {
+        check_refused(&desk, Refusal::Stray, |desk| {
+            desk.reply(&reply(R, requester, 7))
+        });
+    }
+    assert_eq!(desk.reply(&reply(R, b'A', 7)), Ok(0));
+    assert_eq!(desk.reply(&reply(R, b'A', 999)), Ok(1));
+}
+
+#[test]
+fn on_a_full_desk_the_other_refusals_go_first() {
+    let mut desk = opened(2, &[(b'1', 7), (b'A', 7), (b'z', 7)]);
+    assert_eq!(desk.reply(&reply(R, b'1', 7)), Ok(0));
+    assert_eq!(desk.reply(&reply(E, b'A', 7)), Ok(1));
+    for (frame, refusal) in [
+        (reply(R, b'z', 8), Refusal::Stray),
+        (reply(R, b'A', 7), Refusal::Ended),
+        (reply(Z, b'A', 7), Refusal::Ended),
+        (reply(Z, b'1', 7), Refusal::OutOfPlace),
+        (reply(R, b'1', 7), Refusal::Full),
+        (reply(E, b'1', 7), Refusal::Full),
+        (reply(Z, b'z', 7), Refusal::Full),
+        (reply(b'X', b'z', 8), Refusal::Field(5)),
+    ] {
+        check_refused(&desk, refusal, |desk| desk.reply(&frame));
+    }
+    // No cell is needed to open.
+    assert_eq!(desk.open(&request(b'z', 8)), Ok(3));
+}
+
+#[test]
+fn no_desk_is_told_before_anything_about_the_frame() {
+    let mut desk = opened(2, &[(b'1', 7)]);
+    desk.bits |= 1 << 16;
+    for frame in [Vec::new(), request(b'1', 7), request_for(b'1', 7, b'q')] {
+        check_refused(&desk, Refusal::Desk, |desk| desk.open(&frame));
+    }
+    for frame in [Vec::new(), reply(R, b'1', 7), reply(R, b'1', 8)] {
+        check_refused(&desk, Refusal::Desk, |desk| desk.reply(&frame));
+    }
+}
+
+#[test]
+fn a_call_takes_its_own_kind_of_frame() {
+    let desk = opened(2, &[(b'1', 7)]);
+    let dynamic = b"\x13R 1a000150000020004125500301234567898200100S\r";
+    for frame in [reply(R, b'1', 7), dynamic.to_vec(), Vec::new()] {
+        check_refused(&desk, Refusal::Kind, |desk| desk.open(&frame));
+    }
+    for frame in [request(b'A', 7), dynamic.to_vec(), Vec::new()] {
+        check_refused(&desk, Refusal::Kind, |desk| desk.reply(&frame));
+    }
+}
+
+#[test]
+fn the_capacity_is_the_least_of_three() {
+    for (bytes, marks, capacity) in [
+        (0, 0, 0),
+        (50, 2, 0),
+        (51, 2, 1),
+        (101, 2, 1),
+        (102, 2, 2),
+        (102, 1, 1),
+        (102, 0, 0),
+        (13_056, 255, 255),
+        (13_056, 256, 256),
+        (13_055, 257, 255),
+        (15_300, 256, 256),
+        (15_300, 300, 256),
+    ] {
+        let desk = Desk::with(vec![0; bytes], vec![0; marks]);
+        assert_eq!(desk.capacity(), capacity, "{bytes} bytes, {marks} marks");
+    }
+}
+
+#[test]
+fn a_desk_is_full_at_its_capacity() {
+    for (bytes, marks) in [(0, 4), (50, 4), (101, 4), (204, 2), (15_300, 300)] {
+        let mut desk = Desk::with(vec![0xee; bytes], vec![0xeeee_eeee; marks]);
+        assert_eq!(desk.open(&request(b'1', 7)), Ok(0));
+        for _ in 0..desk.capacity() {
+            assert_eq!(desk.reply(&reply(R, b'1', 7)), Ok(0));
+        }
+        check_refused(&desk, Refusal::Full, |desk| desk.reply(&reply(E, b'1', 7)));
+        assert_eq!(desk.count as usize, desk.capacity());
+    }
+}
+
+#[test]
+fn a_reset_takes_any_state_and_leaves_cells_and_marks() {
+    let seat = Seat {
+        requester: 1,
+        number: 2,
+        held: 3,
+        ended: 4,
+    };
+    let mut desk = Desk {
+        bits: u64::MAX,
+        count: u32::MAX,
+        seats: [seat; SEATS],
+        cells: vec![1, 2, 3],
+        marks: vec![4, 5],
+    };
+    desk.reset();
+    assert_eq!(desk, Desk::with(vec![1, 2, 3], vec![4, 5]));
+}
+
+#[test]
+fn seats_in_use_are_the_ones_of_the_whole_number() {
+    let mut desk = desk_of(0);
+    for (bits, ones) in [(0, 0), (5, 2), (0xffff, 16), (1 << 63 | 1, 2), (!0, 64)] {
+        desk.bits = bits;
+        assert_eq!(desk.seats_in_use(), ones);
+    }
+}
+
+#[test]
+fn the_next_held_cell_is_below_the_count_and_the_capacity() {
+    let mut desk = Desk::with(vec![0; 3 * CELL + 50], vec![7, 9, 7, 7, 7]);
+    desk.count = 2;
+    assert_eq!(desk.next_held(7, 0), Some(0));
+    assert_eq!(desk.next_held(7, 1), None);
+    assert_eq!(desk.next_held(9, 0), Some(1));
+    assert_eq!(desk.next_held(0, 0), None);
+    desk.count = u32::MAX;
+    assert_eq!(desk.next_held(7, 1), Some(2));
+    // There are three whole cells, and for the rest marks alone.
+    assert_eq!(desk.next_held(7, 3), None);
+    assert_eq!(desk.next_held(7, usize::MAX), None);
+    desk.marks.truncate(2);
+    assert_eq!(desk.next_held(7, 1), None);
+    desk.marks[1] = u32::MAX;
+    assert_eq!(desk.next_held(u32::MAX, 0), Some(1));
+    assert_eq!(desk.next_held(255, 0), None);
+}
+
+#[test]
+fn no_cell_past_256_is_held() {
+    let mut desk = desk_of(300);
+    desk.count = 300;
+    desk.marks[256..].fill(3);
+    assert_eq!(desk.next_held(3, 0), None);
+    assert_eq!(desk.next_held(3, 256), None);
+    desk.marks[255] = 3;
+    assert_eq!(desk.next_held(3, 0), Some(255));
+    desk.count = 255;
+    assert_eq!(desk.next_held(3, 0), None);
+}

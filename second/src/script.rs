@@ -1,0 +1,202 @@
+//! What the lines of a script do to a desk from outside: they lend it memory, and set any part of
+//! it to anything.
+
+use crate::desk::{Desk, Seat, SEATS};
+use crate::spelling::{bytes_text, parse_bits, parse_bytes, parse_number, parse_place, NotACase};
+
+/// What every lent byte and every lent mark holds at first.
+const LENT_BYTE: u8 = 0xee;
+const LENT_MARK: u32 = 0xeeee_eeee;
+
+/// The most that is lent.
+pub const MOST_LENT_BYTES: usize = 15_400;
+pub const MOST_LENT_MARKS: usize = 310;
+
+/// An empty desk with so many bytes and marks lent to it.
+pub fn lend(bytes: usize, marks: usize) -> Desk {
+    Desk::with(vec![LENT_BYTE; bytes], vec![LENT_MARK; marks])
+}
+
+/// One part of a desk set to something.
+#[derive(Clone, Debug, PartialEq, Eq)]
+pub enum Change {
+    Bits(u64),
+    Count(u32),
+    /// The record of the seat at this place of the row.
+    Seat(usize, Seat),
+    /// The mark at this place.
+    Mark(usize, u32),
+    /// The bytes from this place on, counted in bytes and not in cells.
+    Cell(usize, Vec<u8>),
+}
+
+impl Change {
+    /// The change that a line of these words makes, if it is such a line.
+    pub fn parse(words: &[&str]) -> Option<Result<Change, NotACase>> {
+        Some(match words {
+            ["bits", bits] => parse_bits(bits).map(Change::Bits),
+            ["count", count] => parse_number(count).map(Change::Count),
+            ["seat", place, record @ ..] => parse_seat(place, record),
+            ["mark", place, mark] => parse_mark(place, mark),
+            ["cell", place, bytes] => parse_cell(place, bytes),
+            _ => return None,
+        })
+    }
+
+    /// The line that makes this change.
+    pub fn text(&self) -> String {
+        match self {
+            Change::Bits(bits) => format!("bits {bits}"),
+            Change::Count(count) => format!("count {count}"),
+            Change::Seat(place, seat) => seat_text(*place, seat),
+            Change::Mark(place, mark) => format!("mark {place} {mark}"),
+            Change::Cell(place, bytes) => format!("cell {place} {}", bytes_text(bytes)),
+        }
+    }
+
+    /// Makes the change, if the part is there to be set.
+    pub fn make(&self, desk: &mut Desk) -> Result<(), NotACase> {
+        match self {
+            Change::Bits(bits) => desk.bits = *bits,
+            Change::Count(count) => desk.count = *count,
+            Change::Seat(place, seat) => {
+                let kept = desk.seats.get_mut(*place);
+                *kept.ok_or(NotACase("SEAT is below 16"))? = *seat;
+            }
+            Change::Mark(place, mark) => {
+                let kept = desk.marks.get_mut(*place);
+                *kept.ok_or(NotACase("that mark is not lent"))? = *mark;
+            }
+            Change::Cell(place, bytes) => {
+                let end = place.saturating_add(bytes.len());
+                let kept = desk.cells.get_mut(*place..end);
+                kept.ok_or(NotACase("not all of these bytes are lent"))?
+                    .copy_from_slice(bytes);
+            }
+        }
+        Ok(())
+    }
+}
+
+/// A seat's record, as a line sets it and as an answer shows it.
+pub fn seat_text(place: usize, seat: &Seat) -> String {
+    let Seat {
+        requester,
+        number,
+        held,
+        ended,
+    } = seat;
+    format!("seat {place} {requester} {number} {held} {ended}")
+}
+
+fn parse_seat(place: &str, record: &[&str]) -> Result<Change, NotACase> {
+    let &[requester, number, held, ended] = record else {
+        return Err(NotACase("a seat's record is four numbers"));
+    };
+    let place = parse_place(place)?;
+    if place >= SEATS {
+        return Err(NotACase("SEAT is below 16"));
+    }
+    let seat = Seat {
+        requester: parse_number(requester)?,
+        number: parse_number(number)?,
+        held: parse_number(held)?,
+        ended: parse_number(ended)?,
+    };
+    Ok(Change::Seat(place, seat))
+}
+
+fn parse_mark(place: &str, mark: &str) -> Result<Change, NotACase> {
+    Ok(Change::Mark(parse_place(place)?, parse_number(mark)?))
+}
+
+fn parse_cell(place: &str, bytes: &str) -> Result<Change, NotACase> {
+    Ok(Change::Cell(parse_place(place)?, parse_bytes(bytes)?))
+}
+
+#[cfg(test)]
+mod tests {
+    use super::*;
+
+    fn parse(line: &str) -> Option<Result<Change, NotACase>> {
+        let words: Vec<&str> = line.split(' ').collect();
+        Change::parse(&words)
+    }
+
+    #[test]
+    fn lent_memory_is_filled_and_the_rest_is_zero() {
+        let desk = lend(103, 2);
+        assert_eq!(desk.cells, [0xee; 103]);
+        assert_eq!(desk.marks, [4_008_636_142; 2]);
+        assert_eq!((desk.bits, desk.count), (0, 0));
+        assert_eq!(desk.seats, [Seat::default(); 16]);
+    }
+
+    #[test]
+    fn changes_there_and_back() {
+        for line in [
+            "bits 9223372036854775807",
+            "count 4294967295",
+            "seat 15 4294967295 2 3 4",
+            "mark 309 16",
+            "cell 15399 ff",
+        ] {
+            let change = parse(line).expect("a change").expect("spelled well");
+            assert_eq!(change.text(), line);
+        }
+        assert_eq!(parse("reset"), None);
+        assert_eq!(parse("bits"), None);
+        for line in [
+            "bits 9223372036854775808",
+            "count -1",
+            "seat 16 0 0 0 0",
+            "seat 0 0 0 0",
+            "seat 0 0 0 0 0 0",
+            "mark 0 4294967296",
+            "cell 0 0",
+        ] {
+            assert!(parse(line).expect("a change").is_err(), "{line}");
+        }
+    }
+
+    #[test]
+    fn a_change_sets_its_part_and_no_other() {
+        let untouched = lend(4, 2);
+        let mut desk = untouched.clone();
+        let seat = Seat {
+            requester: 1,
+            number: 2,
+            held: 3,
+            ended: 4,
+        };
+        for change in [
+            Change::Bits(5),
+            Change::Count(6),
+            Change::Seat(7, seat),
+            Change::Mark(1, 8),
+            Change::Cell(1, vec![9, 10]),
+        ] {
+            assert_eq!(change.make(&mut desk), Ok(()));
+        }
+        let mut expected = untouched;
+        (expected.bits, expected.count) = (5, 6);
+        expected.seats[7] = seat;
+        expected.marks = vec![0xeeee_eeee, 8];
+        expected.cells = vec![0xee, 9, 10, 0xee];
+        assert_eq!(desk, expected);
+    }
+
+    #[test]
+    fn what_is_not_lent_is_not_set() {
+        for change in [
+            Change::Mark(2, 0),
+            Change::Cell(3, vec![1, 2]),
+            Change::Cell(usize::MAX, vec![1]),
+            Change::Seat(16, Seat::default()),
+        ] {
+            let mut desk = lend(4, 2);
+            assert!(change.make(&mut desk).is_err(), "{change:?}");
+            assert_eq!(desk, lend(4, 2));
+        }
+    }
+}
