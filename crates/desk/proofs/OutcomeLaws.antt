@@ -1,7 +1,7 @@
 -- How the steps of a call make up its outcome. Assumes nothing.
 use Prim.Native.Nat.{ℕ, _+_}
 use mathlib.Core.List.{List, _++_}
-use mathlib.Core.Bool.{Bool, true}
+use mathlib.Core.Bool.{Bool, true, false}
 use mathlib.Core.Path.{_≡_, refl, ap, _∙_}
 use native.Mathlib.Omega.{arith}
 use lib.ListN.{length, take, drop}
@@ -16,6 +16,7 @@ use Rattle.frames.specs.declared.refusals.ReadRefusal.the-variants.{Kind, Lengt
 use Rattle.frames.specs.declared.request.StaticRequest.{StaticRequest}
 use Rattle.frames.specs.declared.request.RequestRead.{RequestRead}
 use Rattle.frames.specs.declared.request.RequestRead.the-variants.{Request, Refused as not-request}
+use Rattle.desk.specs.declared.state.Seat.{Seat}
 use Rattle.desk.specs.declared.call.Call.{Call}
 use Rattle.desk.specs.declared.call.Heard.{Heard}
 use Rattle.desk.specs.declared.call.Heard.the-variants.{Reply, Refused as not-reply}
@@ -28,7 +29,7 @@ use Rattle.desk.specs.declared.reply.ReplyRefusal.the-variants.{Desk as 
 use Rattle.desk.specs.Call.{heard, heardTold}
 use Rattle.desk.specs.Memory.{Memory, capacity}
 use Rattle.desk.specs.Desk.{isDesk}
-use Rattle.desk.specs.Calls.{whatIsGiven, requestTried, openTried, callTried, replyTried, opens, opened, replies, taken, withCell, openRefused, replyRefused, Did}
+use Rattle.desk.specs.Calls.{DESK, whatIsGiven, requestTried, openTried, callTried, replyTried, opens, opened, replies, taken, withCell, openRefused, replyRefused, Did}
 
 -- ---- a reader's refusal stands
 
@@ -40,30 +41,37 @@ module _ {A B : Type 0} where
   given-refused Address further = refl
   given-refused (Field p) further = refl
 
--- a desk: what was given is tried further
-module _ {A B : Type 0} (x : Told A) (further : A → Told B) (desk : Bool) (number : ℕ) (d : desk ≡ true) where
-  on-given : (a : A) → gives a ≡ x → further a ≡ tried desk number 0 (whatIsGiven x further)
-  on-given a e = rw (d, ← e)
+module _ (x : List ℕ) where
+  pub request-read : (row : List Seat) (bits : ℕ) (a : RequestRead) (r : StaticRequest) → requestTold a ≡ read request x → a ≡ Request r → requestTried row bits r ≡ whatIsGiven (read request x) (requestTried row bits)
+  request-read row bits a r e i = ap (λ (y : Told StaticRequest). whatIsGiven y (requestTried row bits)) (rw i at e)
 
-  on-refused : (g : ReadRefusal) → readRefused g ≡ x → readRefused g ≡ tried desk number 0 (whatIsGiven x further)
-  on-refused g e = rw d (given-refused g further ∙ ap (λ (y : Told A). whatIsGiven y further) e)
+  pub request-refused : (row : List Seat) (bits : ℕ) (a : RequestRead) (g : ReadRefusal) → requestTold a ≡ read request x → a ≡ not-request g → readRefused g ≡ whatIsGiven (read request x) (requestTried row bits)
+  request-refused row bits a g e i = given-refused g (requestTried row bits) ∙ ap (λ (y : Told StaticRequest). whatIsGiven y (requestTried row bits)) (rw i at e)
 
-module _ (m : Memory) (f : List ℕ) (d : isDesk m ≡ true) where
-  pub request-read : (a : RequestRead) (r : StaticRequest) → requestTold a ≡ read request f → a ≡ Request r → requestTried (m .row) (m .bits) r ≡ openTried m f
+  pub reply-heard : (row : List Seat) (bits : ℕ) (free : Bool) (a : Heard) (c : Call) → heardTold a ≡ heard x → a ≡ Reply c → callTried row bits free c ≡ whatIsGiven (heard x) (callTried row bits free)
+  reply-heard row bits free a c e i = ap (λ (y : Told Call). whatIsGiven y (callTried row bits free)) (rw i at e)
+
+  pub reply-refused : (row : List Seat) (bits : ℕ) (free : Bool) (a : Heard) (g : ReadRefusal) → heardTold a ≡ heard x → a ≡ not-reply g → readRefused g ≡ whatIsGiven (heard x) (callTried row bits free)
+  reply-refused row bits free a g e i = given-refused g (callTried row bits free) ∙ ap (λ (y : Told Call). whatIsGiven y (callTried row bits free)) (rw i at e)
+
+-- ---- DESK is tried first
+
+module _ (m : Memory) (f : List ℕ) where
+  pub open-on : isDesk m ≡ true → whatIsGiven (read request f) (requestTried (m .row) (m .bits)) ≡ openTried m f
   unfolding openTried
-  request-read a r e i = on-given (read request f) (requestTried (m .row) (m .bits)) (isDesk m) 9 d r (rw i at e)
+  open-on d = rw d
 
-  pub request-refused : (a : RequestRead) (g : ReadRefusal) → requestTold a ≡ read request f → a ≡ not-request g → readRefused g ≡ openTried m f
+  pub open-off : isDesk m ≡ false → refuses DESK 0 ≡ openTried m f
   unfolding openTried
-  request-refused a g e i = on-refused (read request f) (requestTried (m .row) (m .bits)) (isDesk m) 9 d g (rw i at e)
+  open-off d = rw d
 
-  pub reply-heard : (a : Heard) (c : Call) → heardTold a ≡ heard f → a ≡ Reply c → callTried (m .row) (m .bits) (ltb (m .count) (capacity m)) c ≡ replyTried m f
+  pub reply-on : isDesk m ≡ true → whatIsGiven (heard f) (callTried (m .row) (m .bits) (ltb (m .count) (capacity m))) ≡ replyTried m f
   unfolding replyTried
-  reply-heard a c e i = on-given (heard f) (callTried (m .row) (m .bits) (ltb (m .count) (capacity m))) (isDesk m) 9 d c (rw i at e)
+  reply-on d = rw d
 
-  pub reply-refused : (a : Heard) (g : ReadRefusal) → heardTold a ≡ heard f → a ≡ not-reply g → readRefused g ≡ replyTried m f
+  pub reply-off : isDesk m ≡ false → refuses DESK 0 ≡ replyTried m f
   unfolding replyTried
-  reply-refused a g e i = on-refused (heard f) (callTried (m .row) (m .bits) (ltb (m .count) (capacity m))) (isDesk m) 9 d g (rw i at e)
+  reply-off d = rw d
 
 -- ---- the outcome of an opening
 

@@ -15,7 +15,11 @@ ghost use Rattle.desk.specs.Limits.{seatCount};
 ghost use Rattle.desk.specs.Memory.{memory};
 ghost use Rattle.desk.specs.Key.{requestKey};
 ghost use Rattle.desk.specs.Seats.{lowestClear};
-ghost use Rattle.desk.specs.Calls.{openedRow, opens, openTold, openTried, requestTried, keyTried, Did};
+ghost use Rattle.desk.specs.Calls.{whatIsGiven, openedRow, opens, openTold, requestTried, keyTried, Did};
+ghost use Rattle.desk.specs.Desk.{isDesk};
+ghost use Rattle.frames.specs.Kind.{read};
+ghost use Rattle.frames.specs.Request.{request};
+ghost use mathlib.Core.Bool.{true};
 ghost use Rattle.desk.specs.Inside.{openJudged};
 
 // In the order in which they are tried.
@@ -53,7 +57,29 @@ enum OpenJudged {
 pub fn open(desk: Desk, row: [Seat; SEATS], cells: &[u8], marks: &[u32], frame: &[u8]) -> OpenDone
     ensures { λ r. ⌜ Did (openTold (r .answer)) (memory (r .desk) (r .row) (now (cells .entry)) (now (marks .entry))) (opens (memory desk row (now (cells .entry)) (now (marks .entry))) (now (frame .entry))) ⌝ }
 {
-    match judged(desk, row, cells, marks, frame) {
+    if is_desk(desk, row, cells, marks) {
+        open_on_desk(desk, row, cells, marks, frame)
+    } else {
+        OpenDone {
+            answer: OpenAnswer::Refused(OpenRefusal::Desk),
+            desk,
+            row,
+        }
+    }
+}
+
+// Where state and memory make a desk. Cells and marks stand here for that alone.
+pub(crate) fn open_on_desk(
+    desk: Desk,
+    row: [Seat; SEATS],
+    cells: &[u8],
+    marks: &[u32],
+    frame: &[u8],
+) -> OpenDone
+    requires { ⌜ isDesk (memory desk row (now cells) (now marks)) ≡ true ⌝ }
+    ensures { λ r. ⌜ Did (openTold (r .answer)) (memory (r .desk) (r .row) (now (cells .entry)) (now (marks .entry))) (opens (memory desk row (now (cells .entry)) (now (marks .entry))) (now (frame .entry))) ⌝ }
+{
+    match judged(row, desk.bits, frame) {
         OpenJudged::Opens(opening) => {
             let seat = opening.seat;
             OpenDone {
@@ -70,14 +96,11 @@ pub fn open(desk: Desk, row: [Seat; SEATS], cells: &[u8], marks: &[u32], frame: 
     }
 }
 
-fn judged(desk: Desk, row: [Seat; SEATS], cells: &[u8], marks: &[u32], frame: &[u8]) -> OpenJudged
-    ensures { λ r. ⌜ openJudged r ≡ openTried (memory desk row (now (cells .entry)) (now (marks .entry))) (now (frame .entry)) ⌝ }
+fn judged(row: [Seat; SEATS], bits: u64, frame: &[u8]) -> OpenJudged
+    ensures { λ r. ⌜ openJudged r ≡ whatIsGiven (read request (now (frame .entry))) (requestTried row bits) ⌝ }
 {
-    if !is_desk(desk, row, cells, marks) {
-        return OpenJudged::Refuses(OpenRefusal::Desk);
-    }
     match read_request(frame) {
-        RequestRead::Request(r) => request_judged(row, desk.bits, r),
+        RequestRead::Request(r) => request_judged(row, bits, r),
         RequestRead::Refused(refusal) => OpenJudged::Refuses(OpenRefusal::Frame(refusal)),
     }
 }

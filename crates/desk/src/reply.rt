@@ -19,7 +19,10 @@ ghost use lib.Seq.{paste};
 ghost use Rattle.desk.specs.Limits.{seatCount};
 ghost use Rattle.desk.specs.Memory.{memory};
 ghost use Rattle.desk.specs.Seats.{seatAt};
-ghost use Rattle.desk.specs.Calls.{grown, grownRow, replies, replyTold, replyTried, callTried, seatTried, Did};
+ghost use Rattle.desk.specs.Calls.{whatIsGiven, grown, grownRow, replies, replyTold, callTried, seatTried, Did};
+ghost use Rattle.desk.specs.Desk.{isDesk};
+ghost use Rattle.desk.specs.Call.{heard};
+ghost use mathlib.Core.Bool.{true};
 ghost use Rattle.desk.specs.Inside.{replyJudged};
 
 // In the order in which they are tried.
@@ -64,7 +67,30 @@ pub fn reply(
 ) -> ReplyDone
     ensures { λ r. ⌜ Did (replyTold (r .answer)) (memory (r .desk) (r .row) (now (cells .exit)) (now (marks .exit))) (replies (memory desk row (now (cells .entry)) (now (marks .entry))) (now (frame .entry))) ⌝ }
 {
-    match judged(desk, row, cells, marks, frame) {
+    if is_desk(desk, row, cells, marks) {
+        reply_on_desk(desk, row, cells, marks, frame)
+    } else {
+        ReplyDone {
+            answer: ReplyAnswer::Refused(ReplyRefusal::Desk),
+            desk,
+            row,
+        }
+    }
+}
+
+// Where state and memory make a desk.
+pub(crate) fn reply_on_desk(
+    desk: Desk,
+    row: [Seat; SEATS],
+    cells: &mut [u8],
+    marks: &mut [u32],
+    frame: &[u8],
+) -> ReplyDone
+    requires { ⌜ isDesk (memory desk row (now cells) (now marks)) ≡ true ⌝ }
+    ensures { λ r. ⌜ Did (replyTold (r .answer)) (memory (r .desk) (r .row) (now (cells .exit)) (now (marks .exit))) (replies (memory desk row (now (cells .entry)) (now (marks .entry))) (now (frame .entry))) ⌝ }
+{
+    let free = (desk.count as usize) < capacity(cells.len(), marks.len());
+    match judged(row, desk.bits, free, frame) {
         ReplyJudged::Takes(taking) => {
             let seat = taking.seat;
             let bits = desk.bits;
@@ -88,15 +114,11 @@ pub fn reply(
     }
 }
 
-fn judged(desk: Desk, row: [Seat; SEATS], cells: &[u8], marks: &[u32], frame: &[u8]) -> ReplyJudged
-    ensures { λ r. ⌜ replyJudged r ≡ replyTried (memory desk row (now (cells .entry)) (now (marks .entry))) (now (frame .entry)) ⌝ }
+fn judged(row: [Seat; SEATS], bits: u64, free: bool, frame: &[u8]) -> ReplyJudged
+    ensures { λ r. ⌜ replyJudged r ≡ whatIsGiven (heard (now (frame .entry))) (callTried row bits free) ⌝ }
 {
-    if !is_desk(desk, row, cells, marks) {
-        return ReplyJudged::Refuses(ReplyRefusal::Desk);
-    }
-    let free = (desk.count as usize) < capacity(cells.len(), marks.len());
     match hear(frame) {
-        Heard::Reply(call) => call_judged(row, desk.bits, free, call),
+        Heard::Reply(call) => call_judged(row, bits, free, call),
         Heard::Refused(refusal) => ReplyJudged::Refuses(ReplyRefusal::Frame(refusal)),
     }
 }

@@ -1,58 +1,32 @@
--- `desk::opening::open` meets its contract. Assumes nothing.
-use mathlib.Core.List.{List}
-use Rattle.digits.specs.Told.{gives}
-use Rattle.desk.specs.Memory.{Memory, memory}
-use Rattle.desk.specs.Calls.{openTried}
-use Rattle.desk.proofs.StepLaws.{Opens, opens-taken}
-use Rattle.desk.proofs.OutcomeLaws.{opening-done, not-opened}
-use mathlib.Core.Path.{_≡_, sym}
-use Prim.Native.Nat.{ℕ}
 use denote.Ref.{now}
+use Rattle.desk.specs.Memory.{Memory, memory}
+use Rattle.desk.specs.declared.opening.OpenRefusal.the-variants.{Desk}
+use Rattle.desk.proofs.OutcomeLaws.{open-off, not-opened}
+use native.Mathlib.Omega.{arith}
+use mathlib.Core.Path.{_≡_, refl, sym, ap, _∙_}
+use Prim.Native.Nat.{ℕ, zero, suc, _+_, _*_, _-_, _≤_, _<_}
 use borrow.Author.Needs.{needs}
 use Rattle.desk.proofs.opening.open.Statement.{statement}
 use Rattle.desk.proofs.opening.open.Tie as tie
+use Rattle.desk.proofs.opening.open.Reads as reads
+use Rattle.desk.proofs.opening.open.Lts as lts
+use Rattle.desk.proofs.opening.open_on_desk.Reads as open-on-desk-reads
+use Rattle.desk.proofs.test.is_desk.Reads as is-desk-reads
 
-abbrev M : tie.After-judged → Memory
+abbrev M : tie.After-is-desk → Memory
 M c = memory (c .before .before .before .before .args .desk) (c .before .before .before .before .args .row) (now (c .before .before .before .before .args .cells)) (now (c .before .before .before .before .args .marks))
 
-abbrev F : tie.After-judged → List ℕ
-F c = now (c .before .before .before .before .args .frame)
+is-desk-requires : tie.Need-is-desk-requires
+is-desk-requires c κs = search needs
 
-judged-opens : (c : tie.After-opening) → gives (c .opening .given .0 .0) ≡ openTried (M (c .before .before)) (F (c .before .before))
-judged-opens c = rw (c .opening .given .1) at (c .before .before .judged .ensures)
-
-known : (c : tie.After-opening) → Opens (M (c .before .before)) (F (c .before .before)) (c .opening .given .0 .0)
-known c = opens-taken (M (c .before .before)) (F (c .before .before)) (c .opening .given .0 .0) (sym (judged-opens c))
-
-judged-requires : tie.Need-judged-requires
-judged-requires c κs = search needs
-
-enum-known-opening : tie.Need-enum-known-opening
-enum-known-opening c = search needs
-
-opened-state-requires : tie.Need-opened-state-requires
-opened-state-requires c κs = (known (c .before) .below, known (c .before) .facts .bits)
-
-opened-row-requires : tie.Need-opened-row-requires
-opened-row-requires c κs = known (c .before .before) .below
-
-enum-known-refusal : tie.Need-enum-known-refusal
-enum-known-refusal c = search needs
+open-on-desk-requires : tie.Need-open-on-desk-requires
+open-on-desk-requires c κs = sym (c .before .is-desk .ensures) ∙ c .if1 .taken
 
 returns : tie.Need-returns
-returns c = opening-done (M (c .before .before .before .before .before)) (F (c .before .before .before .before .before)) (c .before .before .before .opening .given .0 .0) _ (judged-opens (c .before .before .before)) (λ i. record { row = c .opened-row .ensures i; bits = c .before .opened-state .ensures .0 i; count = c .before .opened-state .ensures .1 i; cells = now (c .before .before .before .before .before .before .before .before .before .args .cells); marks = now (c .before .before .before .before .before .before .before .before .before .args .marks) })
+returns c = search needs
 
 returns-2 : tie.Need-returns-2
-returns-2 c = not-opened (M (c .before .before .before)) (F (c .before .before .before)) (c .before .refusal .given .0 .0) (rw (c .before .refusal .given .1) at (c .before .before .before .judged .ensures))
+returns-2 c = not-opened (M (c .before)) (now (c .before .before .before .before .before .args .frame)) Desk (open-off (M (c .before)) (now (c .before .before .before .before .before .args .frame)) (sym (c .before .is-desk .ensures) ∙ c .if1 .left))
 
 pub open-spec : {M : Type 1} → statement M
-open-spec =
-    tie.close
-    (tie.spec
-    judged-requires
-    enum-known-opening
-    opened-state-requires
-    opened-row-requires
-    enum-known-refusal
-    returns
-    returns-2)
+open-spec = tie.close (tie.spec is-desk-requires open-on-desk-requires returns returns-2)

@@ -1,68 +1,26 @@
--- `desk::reply::reply` meets its contract. Assumes nothing.
-use mathlib.Core.List.{List}
-use lib.ListN.{set}
-use Rattle.digits.specs.Told.{gives}
-use Rattle.desk.specs.Memory.{Memory, memory}
-use Rattle.desk.specs.Calls.{replyTried}
-use Rattle.desk.proofs.StepLaws.{took, Room, took-room}
-use Rattle.desk.proofs.OutcomeLaws.{with-cell, reply-done, not-taken}
-use native.Mathlib.Omega.{arith}
-use mathlib.Core.Path.{_≡_, sym, _∙_}
-use Prim.Native.Nat.{ℕ, _+_, _*_}
 use denote.Ref.{now}
+use Rattle.desk.specs.Memory.{Memory, memory}
+use Rattle.desk.specs.declared.reply.ReplyRefusal.the-variants.{Desk}
+use Rattle.desk.proofs.OutcomeLaws.{reply-off, not-taken}
+use native.Mathlib.Omega.{arith}
+use mathlib.Core.Path.{_≡_, refl, sym, ap, _∙_}
+use Prim.Native.Nat.{ℕ, zero, suc, _+_, _*_, _-_, _≤_, _<_}
 use borrow.Author.Needs.{needs}
 use Rattle.desk.proofs.reply.reply.Statement.{statement}
 use Rattle.desk.proofs.reply.reply.Tie as tie
+use Rattle.desk.proofs.reply.reply.Reads as reads
+use Rattle.desk.proofs.reply.reply.Lts as lts
+use Rattle.desk.proofs.reply.reply_on_desk.Reads as reply-on-desk-reads
+use Rattle.desk.proofs.test.is_desk.Reads as is-desk-reads
 
-abbrev M : tie.After-judged → Memory
+abbrev M : tie.After-is-desk → Memory
 M c = memory (c .before .before .before .before .before .before .args .desk) (c .before .before .before .before .before .before .args .row) (now (c .before .before .before .before .before .before .args .cells)) (now (c .before .before .before .before .before .before .args .marks))
 
-abbrev F : tie.After-judged → List ℕ
-F c = now (c .before .before .before .before .before .before .args .frame)
+is-desk-requires : tie.Need-is-desk-requires
+is-desk-requires c κs = search needs
 
-judged-takes : (c : tie.After-taking) → gives (c .taking .given .0 .0) ≡ replyTried (M (c .before .before)) (F (c .before .before))
-judged-takes c = rw (c .taking .given .1) at (c .before .before .judged .ensures)
-
-room : (c : tie.After-taking) → Room (M (c .before .before)) (F (c .before .before)) (c .taking .given .0 .0)
-room c =
-    took-room (M (c .before .before)) (F (c .before .before)) (c .taking .given .0 .0)
-    (took (M (c .before .before)) (F (c .before .before)) (c .taking .given .0 .0) (sym (judged-takes c)))
-
-judged-requires : tie.Need-judged-requires
-judged-requires c κs = search needs
-
-enum-known-taking : tie.Need-enum-known-taking
-enum-known-taking c = search needs
-
-cast-put-cell : tie.Need-cast-put-cell
-cast-put-cell c = search needs
-
-mul-put-cell : tie.Need-mul-put-cell
-mul-put-cell c = let r = room (c .before .before) in omega (arith, r .count)
-
-put-cell-requires : tie.Need-put-cell-requires
-put-cell-requires c κs = let r = room (c .before .before) in (r .frame, r .cells)
-
-cast-marks : tie.Need-cast-marks
-cast-marks c = let r = room (c .before .before .before .before .before) in omega (arith, r .seat)
-
-cast-marks-2 : tie.Need-cast-marks-2
-cast-marks-2 c = search needs
-
-mul-marks : tie.Need-mul-marks
-mul-marks c = search needs
-
-slice-write-marks : tie.Need-slice-write-marks
-slice-write-marks c = room (c .before .before .before .before .before) .marks
-
-add-t22 : tie.Need-add-t22
-add-t22 c = let r = room (c .before .before .before .before .before) in omega (arith, r .count)
-
-grown-row-requires : tie.Need-grown-row-requires
-grown-row-requires c κs = let r = room (c .before .before .before .before .before) in (r .seat, omega (arith, r .held, r .count))
-
-enum-known-refusal : tie.Need-enum-known-refusal
-enum-known-refusal c = search needs
+reply-on-desk-requires : tie.Need-reply-on-desk-requires
+reply-on-desk-requires c κs = sym (c .before .before .before .is-desk .ensures) ∙ c .before .before .if1 .taken
 
 same-length : tie.Need-same-length
 same-length c = search needs
@@ -71,7 +29,7 @@ same-length-2 : tie.Need-same-length-2
 same-length-2 c = search needs
 
 returns : tie.Need-returns
-returns c = reply-done (M (c .before .before .before .before .before .before .before .before)) (F (c .before .before .before .before .before .before .before .before)) (c .before .before .before .before .before .before .taking .given .0 .0) _ (judged-takes (c .before .before .before .before .before .before)) (λ i. record { row = c .grown-row .ensures i; bits = c .before .before .before .before .before .before .before .before .before .before .before .before .before .before .args .desk .bits; count = c .before .before .before .before .before .before .before .before .before .before .before .before .before .before .args .desk .count + 1; cells = (c .before .before .before .put-cell .ensures ∙ with-cell (now (c .before .before .before .before .before .before .before .before .before .before .before .before .before .before .args .cells)) (c .before .before .before .before .before .before .before .before .before .before .before .before .before .before .args .desk .count * 51) (F (c .before .before .before .before .before .before .before .before)) (room (c .before .before .before .before .before .before) .frame)) i; marks = set (now (c .before .before .before .before .before .before .before .before .before .before .before .before .before .before .args .marks)) (c .before .before .before .before .before .before .before .before .before .before .before .before .before .before .args .desk .count) (c .before .before .before .before .before .before .taking .given .0 .0 .seat) })
+returns c = search needs
 
 same-length-3 : tie.Need-same-length-3
 same-length-3 c = search needs
@@ -80,24 +38,14 @@ same-length-4 : tie.Need-same-length-4
 same-length-4 c = search needs
 
 returns-2 : tie.Need-returns-2
-returns-2 c = not-taken (M (c .before .before .before)) (F (c .before .before .before)) (c .before .refusal .given .0 .0) (rw (c .before .refusal .given .1) at (c .before .before .before .judged .ensures))
+returns-2 c = not-taken (M (c .before)) (now (c .before .before .before .before .before .before .before .args .frame)) Desk (reply-off (M (c .before)) (now (c .before .before .before .before .before .before .before .args .frame)) (sym (c .before .is-desk .ensures) ∙ c .if1 .left))
 
 pub reply-spec : {M : Type 1} → statement M
 reply-spec =
     tie.close
     (tie.spec
-    judged-requires
-    enum-known-taking
-    cast-put-cell
-    mul-put-cell
-    put-cell-requires
-    cast-marks
-    cast-marks-2
-    mul-marks
-    slice-write-marks
-    add-t22
-    grown-row-requires
-    enum-known-refusal
+    is-desk-requires
+    reply-on-desk-requires
     same-length
     same-length-2
     returns
