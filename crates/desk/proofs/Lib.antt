@@ -7,5 +7,6 @@ pub mod OutcomeLaws
 pub mod HeldLaws
 pub mod DeskLaws
 pub mod MixLaws
+pub mod CaptureLaws
 pub mod KeepsLaws
 pub mod Unique

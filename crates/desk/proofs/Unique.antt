@@ -1,4 +1,4 @@
--- No second outcome meets the promise of an opening or of a reply. Assumes nothing.
+-- No second outcome meets the promise of an opening, of a reply or of a capture. Assumes nothing.
 use Prim.Native.Nat.{ℕ}
 use mathlib.Core.List.{List}
 use mathlib.Core.Bool.{cond}
@@ -16,7 +16,12 @@ use Rattle.desk.specs.declared.reply.ReplyDone.{ReplyDone}
 use Rattle.desk.specs.declared.reply.ReplyRefusal.the-variants.{Desk as no-desk, Frame, Stray, Ended, OutOfPlace, Full}
 use Rattle.desk.specs.declared.reply.ReplyAnswer.{ReplyAnswer}
 use Rattle.desk.specs.declared.reply.ReplyAnswer.the-variants.{Taken, Refused}
+use Rattle.desk.specs.declared.capture.Counts.{Counts}
+use Rattle.desk.specs.declared.capture.CaptureAnswer.{CaptureAnswer}
+use Rattle.desk.specs.declared.capture.CaptureAnswer.the-variants.{Taken as All, NoDesk}
+use Rattle.desk.specs.declared.capture.CaptureDone.{CaptureDone}
 use Rattle.desk.specs.Memory.{Memory, memory}
+use Rattle.desk.specs.Capture.{captureTold, TookCapture}
 use Rattle.desk.specs.Calls.{DESK, NO-ANSWER-DUE, IN-USE, STRAY, ENDED, OUT-OF-PLACE, FULL, Outcome, openTold, replyTold, Did}
 
 -- ---- what was told leads back to the answer: each refusal has a number and an offset of its own
@@ -79,3 +84,19 @@ one-reply o r q cells marks cells′ marks′ d e =
     let a = sym (reply-back (r .answer)) ∙ ap replyBack (d .answer ∙ sym (e .answer)) ∙ reply-back (q .answer) in
     let m = d .memory ∙ sym (e .memory) in
     (λ i. record { answer = a i; desk = record { bits = m i .bits; count = m i .count }; row = m i .row }, (ap (λ (x : Memory). x .cells) m, ap (λ (x : Memory). x .marks) m))
+
+abbrev captureBack : Told Counts → CaptureAnswer
+captureBack (gives c) = All c
+captureBack (refuses number offset) = NoDesk
+
+capture-back : (a : CaptureAnswer) → captureBack (captureTold a) ≡ a
+capture-back (All c) = refl
+capture-back NoDesk = refl
+
+pub one-capture : (m : Memory) (s : List ℕ) (r q : CaptureDone) (cells marks cells′ marks′ : List ℕ)
+    → TookCapture m s (r .answer) (memory (r .desk) (r .row) cells marks) → TookCapture m s (q .answer) (memory (q .desk) (q .row) cells′ marks′)
+    → (r ≡ q) × ((cells ≡ cells′) × (marks ≡ marks′))
+one-capture m s r q cells marks cells′ marks′ d e =
+    let a = sym (capture-back (r .answer)) ∙ ap captureBack (d .told ∙ sym (e .told)) ∙ capture-back (q .answer) in
+    let n = d .memory ∙ sym (e .memory) in
+    (λ i. record { answer = a i; desk = record { bits = n i .bits; count = n i .count }; row = n i .row }, (ap (λ (x : Memory). x .cells) n, ap (λ (x : Memory). x .marks) n))

@@ -2,6 +2,7 @@
 use Prim.Native.Nat.{ℕ, _+_}
 use mathlib.Core.List.{List}
 use mathlib.Core.Bool.{Bool, true, cond, not, _&&_}
+use mathlib.Core.Path.{_≡_}
 use lib.ListN.{getD}
 use lib.Dec.{eqb}
 use Rattle.digits.specs.Told.{Told, gives}
@@ -13,6 +14,10 @@ use Rattle.desk.specs.declared.opening.OpenJudged.the-variants.{Opens, R
 use Rattle.desk.specs.declared.reply.Taking.{Taking}
 use Rattle.desk.specs.declared.reply.ReplyJudged.{ReplyJudged}
 use Rattle.desk.specs.declared.reply.ReplyJudged.the-variants.{Takes, Refuses}
+use Rattle.desk.specs.declared.capture.Fate.{Fate}
+use Rattle.desk.specs.declared.capture.Fate.the-variants.{Opened, Collected, Dynamic, Refused}
+use Rattle.desk.specs.declared.capture.Counts.{Counts}
+use Rattle.desk.specs.declared.capture.Met.{Met}
 use Rattle.desk.specs.declared.test.View.{View}
 use Rattle.desk.specs.declared.test.Turn.{Turn}
 use Rattle.desk.specs.Limits.{seatCount}
@@ -20,8 +25,9 @@ use Rattle.desk.specs.Below.{allBelow}
 use Rattle.desk.specs.Key.{seatKey, isKey}
 use Rattle.desk.specs.Call.{heard, hasKey, inPlace, statusIn, endedIn}
 use Rattle.desk.specs.Seats.{seatAt, usedBit, keyed}
-use Rattle.desk.specs.Memory.{cellAt, markAt}
+use Rattle.desk.specs.Memory.{memory, cellAt, markAt}
 use Rattle.desk.specs.Calls.{openRefused, replyRefused}
+use Rattle.desk.specs.Capture.{Step}
 use Rattle.desk.specs.Desk.{isZero, named, lastEnds, markGood, cellKeyed, heldRight, endedRight}
 
 -- ---- the desk test as one run over the rows computes it
@@ -80,3 +86,16 @@ openJudged (opens-not f) = openRefused f
 abbrev pub replyJudged : ReplyJudged → Told Taking
 replyJudged (Takes t) = gives t
 replyJudged (Refuses f) = replyRefused f
+
+-- ---- a capture
+
+-- one frame, met on a desk
+pub record Meets (o : Step) (r : Met) (cells marks : List ℕ) : Type 0 where
+  pub fate : r .fate ≡ o .fate
+  pub after : memory (r .desk) (r .row) cells marks ≡ o .after
+
+abbrev pub oneMore : Counts → Fate → Counts
+oneMore c Opened = record { opened = c .opened + 1; collected = c .collected; dynamic = c .dynamic; refused = c .refused }
+oneMore c Collected = record { opened = c .opened; collected = c .collected + 1; dynamic = c .dynamic; refused = c .refused }
+oneMore c Dynamic = record { opened = c .opened; collected = c .collected; dynamic = c .dynamic + 1; refused = c .refused }
+oneMore c Refused = record { opened = c .opened; collected = c .collected; dynamic = c .dynamic; refused = c .refused + 1 }

@@ -7,5 +7,6 @@ pub mod Memory
 pub mod Desk
 pub mod Calls
 pub mod Keeps
+pub mod Capture
 pub mod Mix
 pub mod Inside

@@ -28,7 +28,7 @@ Told s at Nothing = piecesFrom s at ≡ []
 
 -- ---- the bytes of a piece
 
-slice-is : (a m : ℕ) (l : List ℕ) → slice a (a + m) l ≡ take m (drop a l)
+pub slice-is : (a m : ℕ) (l : List ℕ) → slice a (a + m) l ≡ take m (drop a l)
 slice-is zero m l = rw (zero-add m)
 slice-is (suc a) m [] = rw (take-nil {A = ℕ} (suc a + m), take-nil {A = ℕ} m)
 slice-is (suc a) m (x ∷ l) = rw (suc-add a m) (slice-is a m l)

@@ -6,10 +6,13 @@ use Rattle.cases.proofs.main.Tie as tie
 use lib.ListN.{length}
 
 abbrev Inv-loop : tie.InvT-loop
-Inv-loop buffer₀ turns₀ buffer turns = length buffer ≡ 256
+Inv-loop buffer₀ cells₀ marks₀ script₀ turns₀ buffer cells marks script turns = (length buffer ≡ 1024) × ((length cells ≡ 15400) × (length marks ≡ 310))
 
 abbrev μ-loop : tie.MeasureT-loop
-μ-loop buffer₀ turns₀ buffer turns = turns
+μ-loop buffer₀ cells₀ marks₀ script₀ turns₀ buffer cells marks script turns = turns
+
+empty-requires : tie.Need-empty-requires Inv-loop μ-loop
+empty-requires c κs = search needs
 
 loop-holds : tie.Need-loop-holds Inv-loop μ-loop
 loop-holds c = search needs
@@ -23,17 +26,23 @@ read-line-requires c κs = search needs
 returns : tie.Need-returns Inv-loop μ-loop
 returns c = search needs
 
-sub-answer : tie.Need-sub-answer Inv-loop μ-loop
-sub-answer c = search needs
+sub-answer-line : tie.Need-sub-answer-line Inv-loop μ-loop
+sub-answer-line c = search needs
 
-part-answer-start : tie.Need-part-answer-start Inv-loop μ-loop
-part-answer-start c = search needs
+part-answer-line-start : tie.Need-part-answer-line-start Inv-loop μ-loop
+part-answer-line-start c = search needs
 
-part-answer-end : tie.Need-part-answer-end Inv-loop μ-loop
-part-answer-end c = search needs
+part-answer-line-end : tie.Need-part-answer-line-end Inv-loop μ-loop
+part-answer-line-end c = search needs
 
-answer-requires : tie.Need-answer-requires Inv-loop μ-loop
-answer-requires c κs = search needs
+slice-aggregate-answer-line : tie.Need-slice-aggregate-answer-line Inv-loop μ-loop
+slice-aggregate-answer-line c = search needs
+
+slice-aggregate-answer-line-2 : tie.Need-slice-aggregate-answer-line-2 Inv-loop μ-loop
+slice-aggregate-answer-line-2 c = search needs
+
+answer-line-requires : tie.Need-answer-line-requires Inv-loop μ-loop
+answer-line-requires c κs = search needs
 
 sub-turns : tie.Need-sub-turns Inv-loop μ-loop
 sub-turns c = search needs
@@ -53,14 +62,17 @@ main-spec =
     (tie.spec
     Inv-loop
     μ-loop
+    empty-requires
     loop-holds
     slice-aggregate-read-line
     read-line-requires
     returns
-    sub-answer
-    part-answer-start
-    part-answer-end
-    answer-requires
+    sub-answer-line
+    part-answer-line-start
+    part-answer-line-end
+    slice-aggregate-answer-line
+    slice-aggregate-answer-line-2
+    answer-line-requires
     sub-turns
     loop-less
     loop-again

@@ -1,15 +1,10 @@
+-- `desk::opening::judged` meets its contract. Assumes nothing.
 use denote.Ref.{now}
 use Rattle.desk.proofs.OutcomeLaws.{request-read, request-refused}
-use native.Mathlib.Omega.{arith}
-use mathlib.Core.Path.{_≡_, refl, sym, ap, _∙_}
-use Prim.Native.Nat.{ℕ, zero, suc, _+_, _*_, _-_, _≤_, _<_}
+use mathlib.Core.Path.{_∙_}
 use borrow.Author.Needs.{needs}
 use Rattle.desk.proofs.opening.judged.Statement.{statement}
 use Rattle.desk.proofs.opening.judged.Tie as tie
-use Rattle.desk.proofs.opening.judged.Reads as reads
-use Rattle.desk.proofs.opening.judged.Lts as lts
-use Rattle.desk.proofs.opening.request_judged.Reads as request-judged-reads
-use Rattle.frames.proofs.request.read_request.Reads as read-request-reads
 
 read-request-requires : tie.Need-read-request-requires
 read-request-requires c κs = search needs

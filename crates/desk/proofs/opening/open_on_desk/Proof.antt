@@ -1,3 +1,4 @@
+-- `desk::opening::open_on_desk` meets its contract. Assumes nothing.
 use mathlib.Core.List.{List}
 use denote.Ref.{now}
 use Rattle.digits.specs.Told.{gives}
@@ -6,17 +7,11 @@ use Rattle.desk.specs.Calls.{openTried}
 use Rattle.desk.specs.Inside.{openJudged}
 use Rattle.desk.proofs.StepLaws.{Opens, opens-taken}
 use Rattle.desk.proofs.OutcomeLaws.{open-on, opening-done, not-opened}
-use native.Mathlib.Omega.{arith}
-use mathlib.Core.Path.{_≡_, refl, sym, ap, _∙_}
-use Prim.Native.Nat.{ℕ, zero, suc, _+_, _*_, _-_, _≤_, _<_}
+use mathlib.Core.Path.{_≡_, sym, _∙_}
+use Prim.Native.Nat.{ℕ}
 use borrow.Author.Needs.{needs}
 use Rattle.desk.proofs.opening.open_on_desk.Statement.{statement}
 use Rattle.desk.proofs.opening.open_on_desk.Tie as tie
-use Rattle.desk.proofs.opening.open_on_desk.Reads as reads
-use Rattle.desk.proofs.opening.open_on_desk.Lts as lts
-use Rattle.desk.proofs.opening.judged.Reads as judged-reads
-use Rattle.desk.proofs.opening.opened_row.Reads as opened-row-reads
-use Rattle.desk.proofs.opening.opened_state.Reads as opened-state-reads
 
 abbrev M : tie.After-judged → Memory
 M c = memory (c .before .before .before .before .args .desk) (c .before .before .before .before .args .row) (now (c .before .before .before .before .args .cells)) (now (c .before .before .before .before .args .marks))

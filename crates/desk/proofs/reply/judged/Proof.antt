@@ -1,15 +1,10 @@
+-- `desk::reply::judged` meets its contract. Assumes nothing.
 use denote.Ref.{now}
 use Rattle.desk.proofs.OutcomeLaws.{reply-heard, reply-refused}
-use native.Mathlib.Omega.{arith}
-use mathlib.Core.Path.{_≡_, refl, sym, ap, _∙_}
-use Prim.Native.Nat.{ℕ, zero, suc, _+_, _*_, _-_, _≤_, _<_}
+use mathlib.Core.Path.{_∙_}
 use borrow.Author.Needs.{needs}
 use Rattle.desk.proofs.reply.judged.Statement.{statement}
 use Rattle.desk.proofs.reply.judged.Tie as tie
-use Rattle.desk.proofs.reply.judged.Reads as reads
-use Rattle.desk.proofs.reply.judged.Lts as lts
-use Rattle.desk.proofs.call.hear.Reads as hear-reads
-use Rattle.desk.proofs.reply.call_judged.Reads as call-judged-reads
 
 hear-requires : tie.Need-hear-requires
 hear-requires c κs = search needs

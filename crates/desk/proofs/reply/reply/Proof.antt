@@ -1,17 +1,12 @@
+-- `desk::reply::reply` meets its contract. Assumes nothing.
 use denote.Ref.{now}
 use Rattle.desk.specs.Memory.{Memory, memory}
 use Rattle.desk.specs.declared.reply.ReplyRefusal.the-variants.{Desk}
 use Rattle.desk.proofs.OutcomeLaws.{reply-off, not-taken}
-use native.Mathlib.Omega.{arith}
-use mathlib.Core.Path.{_≡_, refl, sym, ap, _∙_}
-use Prim.Native.Nat.{ℕ, zero, suc, _+_, _*_, _-_, _≤_, _<_}
+use mathlib.Core.Path.{sym, _∙_}
 use borrow.Author.Needs.{needs}
 use Rattle.desk.proofs.reply.reply.Statement.{statement}
 use Rattle.desk.proofs.reply.reply.Tie as tie
-use Rattle.desk.proofs.reply.reply.Reads as reads
-use Rattle.desk.proofs.reply.reply.Lts as lts
-use Rattle.desk.proofs.reply.reply_on_desk.Reads as reply-on-desk-reads
-use Rattle.desk.proofs.test.is_desk.Reads as is-desk-reads
 
 abbrev M : tie.After-is-desk → Memory
 M c = memory (c .before .before .before .before .before .before .args .desk) (c .before .before .before .before .before .before .args .row) (now (c .before .before .before .before .before .before .args .cells)) (now (c .before .before .before .before .before .before .args .marks))

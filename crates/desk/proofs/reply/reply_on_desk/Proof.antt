@@ -1,3 +1,4 @@
+-- `desk::reply::reply_on_desk` meets its contract. Assumes nothing.
 use mathlib.Core.List.{List}
 use denote.Ref.{now}
 use lib.ListN.{set}
@@ -8,17 +9,11 @@ use Rattle.desk.specs.Inside.{replyJudged}
 use Rattle.desk.proofs.StepLaws.{took, Room, took-room}
 use Rattle.desk.proofs.OutcomeLaws.{reply-on, with-cell, reply-done, not-taken}
 use native.Mathlib.Omega.{arith}
-use mathlib.Core.Path.{_≡_, refl, sym, ap, _∙_}
-use Prim.Native.Nat.{ℕ, zero, suc, _+_, _*_, _-_, _≤_, _<_}
+use mathlib.Core.Path.{_≡_, sym, _∙_}
+use Prim.Native.Nat.{ℕ, _+_, _*_}
 use borrow.Author.Needs.{needs}
 use Rattle.desk.proofs.reply.reply_on_desk.Statement.{statement}
 use Rattle.desk.proofs.reply.reply_on_desk.Tie as tie
-use Rattle.desk.proofs.reply.reply_on_desk.Reads as reads
-use Rattle.desk.proofs.reply.reply_on_desk.Lts as lts
-use Rattle.desk.proofs.reply.grown_row.Reads as grown-row-reads
-use Rattle.desk.proofs.reply.judged.Reads as judged-reads
-use Rattle.desk.proofs.reply.put_cell.Reads as put-cell-reads
-use Rattle.desk.proofs.state.capacity.Reads as capacity-reads
 
 abbrev M : tie.After-judged → Memory
 M c = memory (c .before .before .before .before .before .before .args .desk) (c .before .before .before .before .before .before .args .row) (now (c .before .before .before .before .before .before .args .cells)) (now (c .before .before .before .before .before .before .args .marks))

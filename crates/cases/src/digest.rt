@@ -1,0 +1,57 @@
+// A number over many numbers, taken in one after the other.
+use crate::desk_told::Said;
+use crate::memory::mark_at;
+use desk::state::SEATS;
+use desk::state::Seat;
+use digits::byte_at;
+
+pub const START: u64 = 1;
+
+// The number is below 4294967291 all along, and whatever is taken in below 4294967296: the first two remainders change nothing.
+pub fn take(digest: u64, x: u64) -> u64 {
+    (digest % 4_294_967_291 * 1_000_003 + x % 4_294_967_296) % 4_294_967_291
+}
+
+pub fn take_small(digest: u64, x: u32) -> u64 {
+    take(digest, x as u64)
+}
+
+pub fn take_said(digest: u64, said: Said) -> u64 {
+    let told = said.told;
+    take(take(take(digest, told.number), told.offset), said.seat)
+}
+
+pub fn take_row(digest: u64, row: [Seat; SEATS]) -> u64 {
+    let mut sum = digest;
+    let mut i: usize = 0;
+    while i < SEATS {
+        sum = take_seat(sum, row[i]);
+        i += 1;
+    }
+    sum
+}
+
+fn take_seat(digest: u64, seat: Seat) -> u64 {
+    let key = take_small(take_small(digest, seat.requester), seat.number);
+    take_small(take_small(key, seat.held), seat.ended)
+}
+
+pub fn take_bytes(digest: u64, s: &[u8]) -> u64 {
+    let mut sum = digest;
+    let mut i = 0;
+    while i < s.len() {
+        sum = take(sum, byte_at(s, i) as u64);
+        i += 1;
+    }
+    sum
+}
+
+pub fn take_marks(digest: u64, marks: &[u32]) -> u64 {
+    let mut sum = digest;
+    let mut i = 0;
+    while i < marks.len() {
+        sum = take_small(sum, mark_at(marks, i));
+        i += 1;
+    }
+    sum
+}

@@ -1,0 +1,209 @@
+-- A capture: its frames met one after the other, and the counts. Assumes nothing.
+use Prim.Native.Nat.{ℕ, suc, _+_, _-_, _<_, _≤_}
+use mathlib.Core.List.{List, [], _∷_}
+use mathlib.Core.Bool.{Bool, true, false, cond}
+use mathlib.Core.Path.{_≡_, refl, ap, _∙_}
+use native.Mathlib.Omega.{arith}
+use lib.ListN.{length, getD, take, drop}
+use lib.Seq.{slice}
+use lib.Dec.{eqb}
+use borrow.Author.Tests.{eq-eqb, ne-eqb}
+use Rattle.digits.specs.Told.{Told, gives}
+use Rattle.frames.specs.Kind.{read}
+use Rattle.frames.specs.Dynamic.{dynamic}
+use Rattle.frames.specs.Refusals.{readRefused}
+use Rattle.frames.specs.declared.refusals.ReadRefusal.{ReadRefusal}
+use Rattle.frames.specs.declared.refusals.ReadRefusal.the-variants.{Kind, Length, End, Address, Field}
+use Rattle.finder.specs.Pieces.{Piece, whole, cut, pieces, piecesFrom}
+use Rattle.finder.proofs.Demands.{frames-are-leads}
+use Rattle.finder.proofs.Step.{slice-is}
+use Rattle.desk.specs.declared.opening.OpenRefusal.{OpenRefusal}
+use Rattle.desk.specs.declared.opening.OpenRefusal.the-variants.{Desk as open-no-desk, Frame as open-frame, NoAnswerDue, InUse, NoSeat}
+use Rattle.desk.specs.declared.reply.ReplyRefusal.{ReplyRefusal}
+use Rattle.desk.specs.declared.reply.ReplyRefusal.the-variants.{Desk as no-desk, Frame, Stray, Ended, OutOfPlace, Full}
+use Rattle.desk.specs.declared.capture.Fate.{Fate}
+use Rattle.desk.specs.declared.capture.Fate.the-variants.{Opened, Collected, Dynamic, Refused}
+use Rattle.desk.specs.declared.capture.Counts.{Counts}
+use Rattle.desk.specs.declared.capture.CaptureAnswer.the-variants.{Taken, NoDesk}
+use Rattle.desk.specs.declared.capture.Met.{Met}
+use Rattle.desk.specs.Memory.{Memory, memory}
+use Rattle.desk.specs.Desk.{isDesk}
+use Rattle.desk.specs.Calls.{openRefused, replyRefused, opens, replies, Did}
+use Rattle.desk.specs.Capture.{fateBy, dynamicFate, meets, meetsPiece, fates, afterAll, isOpened, isCollected, isDynamic, isRefused, howMany, countsOf, TookCapture, CountsAddUp}
+use Rattle.desk.specs.Inside.{Meets, oneMore}
+use Rattle.desk.proofs.Below.{by-test}
+use Rattle.desk.proofs.MixLaws.{stays-desk}
+
+-- ---- a refusal is a refused frame
+
+pub dynamic-refused : (g : ReadRefusal) → Refused ≡ dynamicFate (readRefused g)
+dynamic-refused Kind = refl
+dynamic-refused Length = refl
+dynamic-refused End = refl
+dynamic-refused Address = refl
+dynamic-refused (Field p) = refl
+
+read-fate : (good : Fate) (g : ReadRefusal) → Refused ≡ fateBy good (readRefused g)
+read-fate good Kind = refl
+read-fate good Length = refl
+read-fate good End = refl
+read-fate good Address = refl
+read-fate good (Field p) = refl
+
+pub opening-refused : (g : OpenRefusal) → Refused ≡ fateBy Opened (openRefused g)
+opening-refused open-no-desk = refl
+opening-refused (open-frame g) = read-fate Opened g
+opening-refused NoAnswerDue = refl
+opening-refused InUse = refl
+opening-refused NoSeat = refl
+
+pub answer-refused : (g : ReplyRefusal) → Refused ≡ fateBy Collected (replyRefused g)
+answer-refused no-desk = refl
+answer-refused (Frame g) = read-fate Collected g
+answer-refused Stray = refl
+answer-refused Ended = refl
+answer-refused OutOfPlace = refl
+answer-refused Full = refl
+
+-- ---- one frame, by its lead byte
+
+module _ (m : Memory) (f : List ℕ) (r : Met) (cells marks : List ℕ) where
+  pub meets-request : getD f 0 0 ≡ 17 → (told : Told ℕ) → r .fate ≡ fateBy Opened told → Did told (memory (r .desk) (r .row) cells marks) (opens m f) → Meets (meets m f) r cells marks
+  unfolding meets
+  meets-request l told e d =
+      rw (eq-eqb (getD f 0 0) 17 l) (record { fate = e ∙ ap (fateBy Opened) (d .answer); after = d .memory })
+
+  pub meets-reply : (getD f 0 0 ≡ 17 → ⊥) → getD f 0 0 ≡ 18 → (told : Told ℕ) → r .fate ≡ fateBy Collected told → Did told (memory (r .desk) (r .row) cells marks) (replies m f) → Meets (meets m f) r cells marks
+  unfolding meets
+  meets-reply n l told e d =
+      rw (ne-eqb (getD f 0 0) 17 n, eq-eqb (getD f 0 0) 18 l) (record { fate = e ∙ ap (fateBy Collected) (d .answer); after = d .memory })
+
+  pub meets-other : (getD f 0 0 ≡ 17 → ⊥) → (getD f 0 0 ≡ 18 → ⊥) → r .fate ≡ dynamicFate (read dynamic f) → memory (r .desk) (r .row) cells marks ≡ m → Meets (meets m f) r cells marks
+  unfolding meets
+  meets-other n k e d = rw (ne-eqb (getD f 0 0) 17 n, ne-eqb (getD f 0 0) 18 k) (record { fate = e; after = d })
+
+-- a desk stays a desk
+meets-desk : (m : Memory) (f : List ℕ) → isDesk m ≡ true → isDesk (meets m f .after) ≡ true
+unfolding meets
+meets-desk m f d =
+    by-test (eqb (getD f 0 0) 17)
+    (λ e. rw e (stays-desk .opening m f d))
+    (λ e. by-test (eqb (getD f 0 0) 18) (λ g. rw (e, g) (stays-desk .reply m f d)) (λ g. rw (e, g) d))
+
+-- ---- the loop
+
+-- a desk, what is left to do from it, and the counts so far
+pub record Going (m₀ : Memory) (s : List ℕ) (at : ℕ) (m : Memory) (c : Counts) : Type 0 where
+  pub desk : isDesk m ≡ true
+  pub rest : afterAll m (piecesFrom s at) ≡ afterAll m₀ (pieces s)
+  pub opened : c .opened + howMany isOpened (fates m (piecesFrom s at)) ≡ howMany isOpened (fates m₀ (pieces s))
+  pub collected : c .collected + howMany isCollected (fates m (piecesFrom s at)) ≡ howMany isCollected (fates m₀ (pieces s))
+  pub dynamic : c .dynamic + howMany isDynamic (fates m (piecesFrom s at)) ≡ howMany isDynamic (fates m₀ (pieces s))
+  pub refused : c .refused + howMany isRefused (fates m (piecesFrom s at)) ≡ howMany isRefused (fates m₀ (pieces s))
+  pub few : c .opened + c .collected + c .dynamic + c .refused ≤ at
+
+pub begins : (m : Memory) (s : List ℕ) → isDesk m ≡ true → Going m s 0 m (record { opened = 0; collected = 0; dynamic = 0; refused = 0 })
+begins m s d = record { desk = d; rest = refl; opened = omega arith; collected = omega arith; dynamic = omega arith; refused = omega arith; few = omega arith }
+
+counts-four : (a b : Counts) → a .opened ≡ b .opened → a .collected ≡ b .collected → a .dynamic ≡ b .dynamic → a .refused ≡ b .refused → a ≡ b
+counts-four a b p q r s = λ i. record { opened = p i; collected = q i; dynamic = r i; refused = s i }
+
+module _ (m₀ : Memory) (s : List ℕ) (at : ℕ) (m : Memory) (c : Counts) (g : Going m₀ s at m c) where
+  module _ (none : piecesFrom s at ≡ []) where
+    pub ends-counts : c ≡ countsOf (fates m₀ (pieces s))
+    unfolding fates howMany
+    ends-counts =
+        let a = rw none at (g .opened) in
+        let b = rw none at (g .collected) in
+        let d = rw none at (g .dynamic) in
+        let e = rw none at (g .refused) in
+        counts-four c (countsOf (fates m₀ (pieces s))) (omega arith) (omega arith) (omega arith) (omega arith)
+
+    pub ends-memory : m ≡ afterAll m₀ (pieces s)
+    unfolding afterAll
+    ends-memory = rw none at (g .rest)
+
+  -- one frame more
+  module _ (p : Piece) (next : ℕ) (is : piecesFrom s at ≡ p ∷ piecesFrom s next) (less : at < next) where
+    fate-more : (q : Fate → Bool) → howMany q (fates m (piecesFrom s at)) ≡ cond (q (meetsPiece m p .fate)) (suc (howMany q (fates (meetsPiece m p .after) (piecesFrom s next)))) (howMany q (fates (meetsPiece m p .after) (piecesFrom s next)))
+    unfolding fates howMany
+    fate-more q = rw is
+
+    desk-more : (p : Piece) → isDesk (meetsPiece m p .after) ≡ true
+    desk-more (whole start bytes) = meets-desk m bytes (g .desk)
+    desk-more (cut start bytes) = g .desk
+
+    going-by : (fate : Fate) → meetsPiece m p .fate ≡ fate → Going m₀ s next (meetsPiece m p .after) (oneMore c fate)
+    unfolding afterAll
+    going-by Opened e =
+        let a = rw e at (fate-more isOpened) in
+        let b = rw e at (fate-more isCollected) in
+        let d = rw e at (fate-more isDynamic) in
+        let f = rw e at (fate-more isRefused) in
+        let x = g .opened in let y = g .collected in let z = g .dynamic in let w = g .refused in let v = g .few in
+        record { desk = desk-more p; rest = rw is at (g .rest); opened = omega arith; collected = omega arith; dynamic = omega arith; refused = omega arith; few = omega arith }
+    going-by Collected e =
+        let a = rw e at (fate-more isOpened) in
+        let b = rw e at (fate-more isCollected) in
+        let d = rw e at (fate-more isDynamic) in
+        let f = rw e at (fate-more isRefused) in
+        let x = g .opened in let y = g .collected in let z = g .dynamic in let w = g .refused in let v = g .few in
+        record { desk = desk-more p; rest = rw is at (g .rest); opened = omega arith; collected = omega arith; dynamic = omega arith; refused = omega arith; few = omega arith }
+    going-by Dynamic e =
+        let a = rw e at (fate-more isOpened) in
+        let b = rw e at (fate-more isCollected) in
+        let d = rw e at (fate-more isDynamic) in
+        let f = rw e at (fate-more isRefused) in
+        let x = g .opened in let y = g .collected in let z = g .dynamic in let w = g .refused in let v = g .few in
+        record { desk = desk-more p; rest = rw is at (g .rest); opened = omega arith; collected = omega arith; dynamic = omega arith; refused = omega arith; few = omega arith }
+    going-by Refused e =
+        let a = rw e at (fate-more isOpened) in
+        let b = rw e at (fate-more isCollected) in
+        let d = rw e at (fate-more isDynamic) in
+        let f = rw e at (fate-more isRefused) in
+        let x = g .opened in let y = g .collected in let z = g .dynamic in let w = g .refused in let v = g .few in
+        record { desk = desk-more p; rest = rw is at (g .rest); opened = omega arith; collected = omega arith; dynamic = omega arith; refused = omega arith; few = omega arith }
+
+    pub goes : Going m₀ s next (meetsPiece m p .after) (oneMore c (meetsPiece m p .fate))
+    goes = going-by (meetsPiece m p .fate) refl
+
+-- ---- the counts add up
+
+fates-length : (m : Memory) (ps : List Piece) → length (fates m ps) ≡ length ps
+unfolding fates
+fates-length m [] = refl
+fates-length m (p ∷ ps) = ap suc (fates-length (meetsPiece m p .after) ps)
+
+four : (l : List Fate) → howMany isOpened l + howMany isCollected l + howMany isDynamic l + howMany isRefused l ≡ length l
+unfolding howMany
+four [] = refl
+four (Opened ∷ l) = let h = four l in omega arith
+four (Collected ∷ l) = let h = four l in omega arith
+four (Dynamic ∷ l) = let h = four l in omega arith
+four (Refused ∷ l) = let h = four l in omega arith
+
+pub counts-add-up : CountsAddUp
+counts-add-up m s = four (fates m (pieces s)) ∙ fates-length m (pieces s) ∙ frames-are-leads s
+
+-- ---- the call
+
+pub took-none : (m : Memory) (s : List ℕ) → isDesk m ≡ false → TookCapture m s NoDesk m
+took-none m s d = record { told = rw d; memory = rw d }
+
+pub took-all : (m₀ : Memory) (s : List ℕ) (at : ℕ) (m : Memory) (c : Counts) → isDesk m₀ ≡ true → Going m₀ s at m c → piecesFrom s at ≡ [] → TookCapture m₀ s (Taken c) m
+took-all m₀ s at m c d g none =
+    record { told = rw d (ap gives (ends-counts m₀ s at m c g none)); memory = rw d (ends-memory m₀ s at m c g none) }
+
+-- the part that is lent of a capture
+pub part-is : (s : List ℕ) (a e : ℕ) → a < e → slice a e s ≡ take (e - a) (drop a s)
+part-is s a e l = ap (λ (n : ℕ). slice a n s) (let k : e ≡ a + (e - a) = omega arith in k) ∙ slice-is a (e - a) s
+
+-- a turn of the loop
+module _ (m₀ : Memory) (s : List ℕ) (at : ℕ) (m : Memory) (c : Counts) (g : Going m₀ s at m c) (a e : ℕ) (c′ : Counts) (less : at < e) where
+  pub goes-cut : piecesFrom s at ≡ cut a (slice a e s) ∷ piecesFrom s e → c′ ≡ oneMore c Refused → Going m₀ s e m c′
+  goes-cut is q = rw q (goes m₀ s at m c g (cut a (slice a e s)) e is less)
+
+  pub goes-whole : piecesFrom s at ≡ whole a (slice a e s) ∷ piecesFrom s e → a < e → (r : Met) (cells marks : List ℕ) → Meets (meets m (take (e - a) (drop a s))) r cells marks
+      → c′ ≡ oneMore c (r .fate) → (next : ℕ) → next ≡ e → Going m₀ s next (memory (r .desk) (r .row) cells marks) c′
+  goes-whole is l r cells marks w q next k =
+      rw (k, q, w .fate, w .after, ← part-is s a e l) (goes m₀ s at m c g (whole a (slice a e s)) e is less)
