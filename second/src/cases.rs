@@ -1,5 +1,7 @@
-//! Makes the file of cases. Each subject adds its own; the file is the same for the same seed.
+//! Makes the file of cases. Each subject adds its own; the file is the same for the same seed. The
+//! captures to be listed stand apart from it, each by itself.
 
+pub mod captures;
 mod desk;
 mod digits;
 mod dynamic;

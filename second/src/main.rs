@@ -12,6 +12,7 @@ mod digits;
 mod dynamic;
 mod finder;
 mod frame;
+mod listing;
 mod random;
 mod records;
 mod refusal;
@@ -22,10 +23,13 @@ mod spelling;
 mod times;
 
 use std::env;
+use std::fs;
 use std::io::{self, Read, Write};
+use std::path::Path;
 use std::process::ExitCode;
 
-const USAGE: &str = "usage: second cases SEED | second answers < CASES";
+const USAGE: &str = "usage: second cases SEED | second answers < CASES | \
+                     second captures SEED DIR | second list < CAPTURE | second lists FILE..";
 
 /// The exit status of every complaint: wrong usage, a line that is no case, input or output that fails.
 const COMPLAINT: u8 = 2;
@@ -36,12 +40,7 @@ fn main() -> ExitCode {
         .map(|argument| argument.to_string_lossy().into_owned())
         .collect();
     let words: Vec<&str> = arguments.iter().map(String::as_str).collect();
-    let text = match words.as_slice() {
-        ["cases", seed] => make_cases(seed),
-        ["answers"] => answer_standard_input(),
-        _ => Err(USAGE.to_string()),
-    };
-    match text.and_then(|text| print(&text)) {
+    match run(&words).and_then(|output| print(&output)) {
         Ok(()) => ExitCode::SUCCESS,
         Err(complaint) => {
             eprintln!("second: {complaint}");
@@ -50,25 +49,124 @@ fn main() -> ExitCode {
     }
 }
 
-fn make_cases(seed: &str) -> Result<String, String> {
-    let seed: u64 = seed
-        .parse()
-        .map_err(|_| format!("SEED is a number below 2^64; {USAGE}"))?;
-    Ok(cases::file(seed))
+/// Does what the words ask for and gives what is to be printed.
+fn run(words: &[&str]) -> Result<Vec<u8>, String> {
+    match words {
+        ["cases", seed] => make_cases(seed),
+        ["answers"] => answer_standard_input(),
+        ["captures", seed, directory] => make_captures(seed, Path::new(directory)),
+        ["list"] => list_standard_input(),
+        ["lists", files @ ..] if !files.is_empty() => list_files(files),
+        _ => Err(USAGE.to_string()),
+    }
 }
 
-fn answer_standard_input() -> Result<String, String> {
+fn make_cases(seed: &str) -> Result<Vec<u8>, String> {
+    Ok(cases::file(parse_seed(seed)?).into_bytes())
+}
+
+fn answer_standard_input() -> Result<Vec<u8>, String> {
+    Ok(answers::file(&standard_input()?)?.into_bytes())
+}
+
+/// Writes each capture to a file of its own and gives the names of the files, one a line. The
+/// directory is there before, and what else is in it stays.
+fn make_captures(seed: &str, directory: &Path) -> Result<Vec<u8>, String> {
+    let mut names = String::new();
+    for (index, capture) in cases::captures::all(parse_seed(seed)?).iter().enumerate() {
+        let name = format!("{index:03}");
+        let path = directory.join(&name);
+        fs::write(&path, capture).map_err(|error| format!("{}: {error}", path.display()))?;
+        names.push_str(&name);
+        names.push('\n');
+    }
+    Ok(names.into_bytes())
+}
+
+fn list_standard_input() -> Result<Vec<u8>, String> {
+    Ok(listing::list(&standard_input()?))
+}
+
+/// The lists of all these files, or a complaint about the first that cannot be read. In that case
+/// nothing is printed.
+fn list_files(files: &[&str]) -> Result<Vec<u8>, String> {
+    let mut lists = Vec::new();
+    for file in files {
+        let capture = fs::read(file).map_err(|error| format!("{file}: {error}"))?;
+        lists.extend(listing::list(&capture));
+    }
+    Ok(lists)
+}
+
+fn parse_seed(seed: &str) -> Result<u64, String> {
+    seed.parse()
+        .map_err(|_| format!("SEED is a number below 2^64; {USAGE}"))
+}
+
+fn standard_input() -> Result<Vec<u8>, String> {
     let mut input = Vec::new();
     io::stdin()
         .read_to_end(&mut input)
         .map_err(|error| format!("standard input: {error}"))?;
-    answers::file(&input)
+    Ok(input)
 }
 
-fn print(text: &str) -> Result<(), String> {
+fn print(text: &[u8]) -> Result<(), String> {
     let mut output = io::stdout().lock();
     output
-        .write_all(text.as_bytes())
+        .write_all(text)
         .and_then(|()| output.flush())
         .map_err(|error| format!("standard output: {error}"))
+}
+
+#[cfg(test)]
+mod tests {
+    use super::*;
+    use std::env;
+    use std::process;
+
+    fn complaint(words: &[&str]) -> String {
+        run(words).expect_err("a complaint")
+    }
+
+    #[test]
+    fn wrong_usage() {
+        for words in [
+            &[][..],
+            &["captures"],
+            &["captures", "1"],
+            &["captures", "1", ".", "."],
+            &["list", "FILE"],
+            &["lists"],
+        ] {
+            assert_eq!(complaint(words), USAGE);
+        }
+        for seed in ["", "x", "-1", "18446744073709551616"] {
+            let complaint = complaint(&["captures", seed, "."]);
+            assert_eq!(complaint, format!("SEED is a number below 2^64; {USAGE}"));
+        }
+    }
+
+    #[test]
+    fn captures_are_written_and_listed() {
+        let directory = env::temp_dir().join(format!("second-captures-{}", process::id()));
+        let place = directory.to_str().expect("text");
+        let words = ["captures", "1", place];
+        assert!(complaint(&words).starts_with(place));
+        fs::create_dir(&directory).expect("a directory");
+        let names = run(&words).expect("names");
+        let names = String::from_utf8(names).expect("text");
+        let captures = cases::captures::all(1);
+        assert_eq!(names.lines().count(), captures.len());
+        for (name, capture) in names.lines().zip(&captures) {
+            let written = fs::read(directory.join(name)).expect("a file");
+            assert_eq!(&written, capture);
+        }
+        assert!(names.starts_with("000\n001\n"));
+        let [example, empty, none] = ["000", "001", "none"].map(|name| format!("{place}/{name}"));
+        let lists = [&captures[0], &captures[1]].map(|capture| listing::list(capture));
+        assert_eq!(run(&["lists", &example, &empty]), Ok(lists.concat()));
+        assert!(complaint(&["lists", &example, &none]).starts_with(&none));
+        fs::remove_dir_all(&directory).expect("removed");
+    }
 }

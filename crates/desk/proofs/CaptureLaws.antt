@@ -83,7 +83,7 @@ module _ (m : Memory) (f : List ℕ) (r : Met) (cells marks : List ℕ) where
   meets-other n k e d = rw (ne-eqb (getD f 0 0) 17 n, ne-eqb (getD f 0 0) 18 k) (record { fate = e; after = d })
 
 -- a desk stays a desk
-meets-desk : (m : Memory) (f : List ℕ) → isDesk m ≡ true → isDesk (meets m f .after) ≡ true
+pub meets-desk : (m : Memory) (f : List ℕ) → isDesk m ≡ true → isDesk (meets m f .after) ≡ true
 unfolding meets
 meets-desk m f d =
     by-test (eqb (getD f 0 0) 17)

@@ -9,4 +9,5 @@ pub mod DeskLaws
 pub mod MixLaws
 pub mod CaptureLaws
 pub mod KeepsLaws
+pub mod LeavesLaws
 pub mod Unique

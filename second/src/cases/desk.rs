@@ -2,7 +2,7 @@
 //! by lending.
 
 mod clauses;
-mod frames;
+pub mod frames;
 mod looks;
 mod memory;
 mod mixes;

@@ -17,17 +17,17 @@ const LENGTH: usize = Dynamic::LENGTH;
 
 /// Two requests that differ in every field. The order of the first wants a period; the second is
 /// minus.
-const PLUS: &[u8; LENGTH] = b"\x13R 1A000150010020004125500301234567898200100S\r";
-const MINUS: &[u8; LENGTH] = b"\x13R zt600002402506000025000012359599999999999T\r";
+pub const PLUS: &[u8; LENGTH] = b"\x13R 1A000150010020004125500301234567898200100S\r";
+pub const MINUS: &[u8; LENGTH] = b"\x13R zt600002402506000025000012359599999999999T\r";
 
 /// Minus zero: neither days nor time, and yet a sign.
-const MINUS_ZERO: &[u8; LENGTH] = b"\x13R Ma000000000000000100000010000000000000000B\r";
+pub const MINUS_ZERO: &[u8; LENGTH] = b"\x13R Ma000000000000000100000010000000000000000B\r";
 
 /// No room, one byte too little, just enough, and more.
 const ROOMS: [usize; 4] = [0, LENGTH - 1, LENGTH, 60];
 
 /// Both sides of every limit, by rising offset.
-const NUMBERS: [Number; 9] = [
+pub const NUMBERS: [Number; 9] = [
     (at::BIB, 5, BIBS),
     (at::CHANNEL, 3, CHANNELS),
     (at::RUN, 3, RUNS),
@@ -43,7 +43,7 @@ const CHANNELS: &[u64] = &[0, 1, 240, 241, 245, 248, 249, 250, 251, 254, 255, 25
 const RUNS: &[u64] = &[0, 1, 250, 251, 255, 256, 999];
 
 /// One wrong text for each field of `PLUS`, by rising offset.
-const WRONG_FIELDS: [WrongField; 13] = [
+pub const WRONG_FIELDS: [WrongField; 13] = [
     (at::REQUESTER, b"`"),
     (at::ORDER, b"C"),
     (at::BIB, b"60001"),
@@ -143,7 +143,7 @@ fn add_random_frames(cases: &mut Cases, random: &mut Random) {
     }
 }
 
-fn random_record(random: &mut Random) -> Dynamic {
+pub fn random_record(random: &mut Random) -> Dynamic {
     let order = random.pick(ORDERS);
     Dynamic {
         requester: random.pick(REQUESTERS),
@@ -173,7 +173,7 @@ fn random_channel(random: &mut Random) -> u64 {
 }
 
 /// The frame of a good record, spelled out here and not by the writer under comparison.
-fn frame_of(record: &Dynamic) -> Vec<u8> {
+pub fn frame_of(record: &Dynamic) -> Vec<u8> {
     let mut frame = b"\x13R ".to_vec();
     frame.extend([record.requester, record.order]);
     let start = format!("{:05}{:03}{:03}", record.bib, record.channel, record.run);

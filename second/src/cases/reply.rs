@@ -51,7 +51,7 @@ pub fn add_all(cases: &mut Cases, seed: u64) {
 }
 
 /// A good record: a third each of clock letters, net letters and all letters.
-fn random_record(random: &mut Random) -> Reply {
+pub fn random_record(random: &mut Random) -> Reply {
     let status = random.pick(STATUSES);
     let information = match random.below(3) {
         0 => random.pick(CLOCK_LETTERS),
@@ -119,7 +119,7 @@ fn random_net(random: &mut Random) -> Timing {
 }
 
 /// The frame of a good record, spelled out here and not by the writer under comparison.
-fn frame_of(record: &Reply) -> Vec<u8> {
+pub fn frame_of(record: &Reply) -> Vec<u8> {
     let mut frame = b"\x12R ".to_vec();
     frame.extend([record.program, record.mode, record.status, record.requester]);
     let numbers = format!(

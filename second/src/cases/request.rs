@@ -204,7 +204,7 @@ fn add_random_frames(cases: &mut Cases, random: &mut Random) {
     }
 }
 
-fn random_record(random: &mut Random) -> Request {
+pub fn random_record(random: &mut Random) -> Request {
     Request {
         requester: random.pick(REQUESTERS),
         number: random.below(1_000),
@@ -222,7 +222,7 @@ fn random_record(random: &mut Random) -> Request {
 
 /// The frame of a record whose fields all have few enough digits, spelled out here and not by the
 /// writer under comparison.
-fn frame_of(record: &Request) -> Vec<u8> {
+pub fn frame_of(record: &Request) -> Vec<u8> {
     let mut frame = b"\x11R ".to_vec();
     frame.push(record.requester);
     frame.extend(format!("{:03}{:05}", record.number, record.bib).bytes());

@@ -1,0 +1,94 @@
+-- What a capture leaves of the lent memory. Assumes nothing.
+use Prim.Native.Nat.{ℕ, zero, suc, _+_, _*_, _-_, _<_, _≤_}
+use mathlib.Core.List.{List, [], _∷_, _++_}
+use mathlib.Core.Bool.{true}
+use mathlib.Core.Path.{_≡_, refl, sym, ap, _∙_}
+use native.Mathlib.Omega.{arith}
+use lib.ListN.{length, getD, take, drop, set, length-append}
+use lib.Seq.{drop-drop, drop-at, length-take-le}
+use lib.Dec.{eqb}
+use Rattle.digits.specs.Told.{Told, gives, refuses}
+use Rattle.finder.specs.Pieces.{Piece, whole, cut}
+use Rattle.desk.specs.declared.reply.Taking.{Taking}
+use Rattle.desk.specs.Memory.{Memory}
+use Rattle.desk.specs.Desk.{isDesk}
+use Rattle.desk.specs.Calls.{opens, withCell, replyTried, replies}
+use Rattle.desk.specs.Capture.{meets, meetsPiece, afterAll}
+use Rattle.desk.proofs.Below.{by-test}
+use Rattle.desk.proofs.StepLaws.{took, took-room}
+use Rattle.desk.proofs.MixLaws.{after-taken, after-refused}
+use Rattle.desk.proofs.KeepsLaws.{keeps-memory}
+use Rattle.desk.proofs.CaptureLaws.{meets-desk}
+
+-- its length, and all behind 256 cells and 256 marks
+pub record Leaves (m x : Memory) : Type 0 where
+  pub cells : length (x .cells) ≡ length (m .cells)
+  pub marks : length (x .marks) ≡ length (m .marks)
+  pub cells-behind : drop 13056 (x .cells) ≡ drop 13056 (m .cells)
+  pub marks-behind : drop 256 (x .marks) ≡ drop 256 (m .marks)
+
+same : (m : Memory) → Leaves m m
+same m = record { cells = refl; marks = refl; cells-behind = refl; marks-behind = refl }
+
+drop-set : (l : List ℕ) (n i v : ℕ) → i < n → drop n (set l i v) ≡ drop n l
+drop-set [] n i v h = refl
+drop-set (x ∷ l) zero i v h = absurd (omega arith)
+drop-set (x ∷ l) (suc n) zero v h = refl
+drop-set (x ∷ l) (suc n) (suc i) v h = drop-set l n i v (omega arith)
+
+-- a cell that ends by n
+drop-cell : (d : List ℕ) (at : ℕ) (f : List ℕ) (n : ℕ) → at + 51 ≤ length d → length f ≡ 51 → at + 51 ≤ n → drop n (withCell d at f) ≡ drop n d
+drop-cell d at f n room full l =
+    let t = length-take-le at d (omega arith) in
+    let a : length (take at d ++ f) ≡ at + 51 = length-append (take at d) f ∙ omega (arith, t, full) in
+    let k : (at + 51) + (n - (at + 51)) ≡ n = omega arith in
+    let e : drop (at + 51) (withCell d at f) ≡ drop (at + 51) d = drop-at (take at d ++ f) (drop (at + 51) d) (at + 51) a in
+    let x = drop-drop (n - (at + 51)) (at + 51) (withCell d at f) in
+    let y = drop-drop (n - (at + 51)) (at + 51) d in
+    rw k at (sym x ∙ ap (drop (n - (at + 51))) e ∙ y)
+
+leaves-by : (m : Memory) (f : List ℕ) (a : Told Taking) → replyTried m f ≡ a → Leaves m (replies m f .after)
+leaves-by m f (gives t) e =
+    let r = took-room m f t (took m f t e) in
+    let s = keeps-memory .reply-sizes m f in
+    record {
+      cells = s .0;
+      marks = s .1;
+      cells-behind = rw (after-taken m f t e) (drop-cell (m .cells) (m .count * 51) f 13056 (r .cells) (r .frame) (omega (arith, r .count)));
+      marks-behind = rw (after-taken m f t e) (drop-set (m .marks) 256 (m .count) (t .seat) (r .count));
+    }
+leaves-by m f (refuses n o) e = rw (after-refused m f n o e) (same m)
+
+open-leaves : (m : Memory) (f : List ℕ) → Leaves m (opens m f .after)
+open-leaves m f =
+    let c = keeps-memory .opening-cells m f in
+    let k = keeps-memory .opening-marks m f in
+    record { cells = ap length c; marks = ap length k; cells-behind = ap (drop 13056) c; marks-behind = ap (drop 256) k }
+
+meets-leaves : (m : Memory) (f : List ℕ) → Leaves m (meets m f .after)
+unfolding meets
+meets-leaves m f =
+    by-test (eqb (getD f 0 0) 17)
+    (λ e. rw e (open-leaves m f))
+    (λ e. by-test (eqb (getD f 0 0) 18) (λ g. rw (e, g) (leaves-by m f (replyTried m f) refl)) (λ g. rw (e, g) (same m)))
+
+piece-leaves : (m : Memory) (p : Piece) → Leaves m (meetsPiece m p .after)
+piece-leaves m (whole a f) = meets-leaves m f
+piece-leaves m (cut a f) = same m
+
+piece-desk : (m : Memory) (p : Piece) → isDesk m ≡ true → isDesk (meetsPiece m p .after) ≡ true
+piece-desk m (whole a f) d = meets-desk m f d
+piece-desk m (cut a f) d = d
+
+pub all-leaves : (m : Memory) (ps : List Piece) → Leaves m (afterAll m ps)
+unfolding afterAll
+all-leaves m [] = same m
+all-leaves m (p ∷ ps) =
+    let a = piece-leaves m p in
+    let b = all-leaves (meetsPiece m p .after) ps in
+    record { cells = b .cells ∙ a .cells; marks = b .marks ∙ a .marks; cells-behind = b .cells-behind ∙ a .cells-behind; marks-behind = b .marks-behind ∙ a .marks-behind }
+
+pub all-desk : (m : Memory) (ps : List Piece) → isDesk m ≡ true → isDesk (afterAll m ps) ≡ true
+unfolding afterAll
+all-desk m [] d = d
+all-desk m (p ∷ ps) d = all-desk (meetsPiece m p .after) ps (piece-desk m p d)

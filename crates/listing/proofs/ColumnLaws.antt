@@ -1,0 +1,144 @@
+-- Laws of columns: the bytes that they show, and a row put column by column. Assumes nothing.
+use Prim.Native.Nat.{ℕ, _+_, _-_, _<_, _≤_}
+use mathlib.Core.List.{List, [], _∷_, _++_, map, append-nil, append-assoc}
+use mathlib.Core.Bool.{Bool, true, _&&_}
+use mathlib.Core.Path.{_≡_, refl, sym, ap, _∙_}
+use native.Mathlib.Omega.{arith}
+use native.Mathlib.Numerals.{add-one}
+use lib.ListN.{length, getD, take, drop, set, length-append, length-drop, length-take, List·getD-map}
+use lib.Seq.{slice, take-suc, take-all}
+use lib.Dec.{ltb, leb}
+use borrow.Author.Tests.{ltb-true, leb-true}
+use Rattle.finder.proofs.Step.{slice-is}
+use Rattle.desk.specs.Below.{allBelow}
+use Rattle.desk.proofs.Below.{and-l, and-r, all-at}
+use Rattle.listing.specs.Text.{TAB, LF, width, decimal, rowText, Column, columns, shown, HeadingNamesColumns}
+use Rattle.listing.specs.Inside.{Put}
+use Rattle.listing.proofs.PutLaws.{put-one, put-then, decimal-length}
+
+pub heading-names-columns : HeadingNamesColumns
+unfolding columns
+heading-names-columns = refl
+
+-- ---- where the columns begin and end
+
+abbrev pub froms : List ℕ
+froms = 6 ∷ 9 ∷ 12 ∷ 17 ∷ 20 ∷ 23 ∷ 26 ∷ 29 ∷ 30 ∷ 40 ∷ 5 ∷ []
+
+abbrev pub tos : List ℕ
+tos = 7 ∷ 12 ∷ 17 ∷ 20 ∷ 23 ∷ 26 ∷ 29 ∷ 30 ∷ 40 ∷ 48 ∷ 6 ∷ []
+
+none : Column
+none = record { name = []; from = 0; to = 0 }
+
+froms-are : froms ≡ map (λ (c : Column). c .from) columns
+unfolding columns
+froms-are = refl
+
+tos-are : tos ≡ map (λ (c : Column). c .to) columns
+unfolding columns
+tos-are = refl
+
+from-at : (i : ℕ) → getD froms i 0 ≡ getD columns i none .from
+unfolding none
+from-at i = ap (λ (l : List ℕ). getD l i 0) froms-are ∙ List·getD-map (λ (c : Column). c .from) columns i none
+
+to-at : (i : ℕ) → getD tos i 0 ≡ getD columns i none .to
+unfolding none
+to-at i = ap (λ (l : List ℕ). getD l i 0) tos-are ∙ List·getD-map (λ (c : Column). c .to) columns i none
+
+eleven : length columns ≡ 11
+unfolding columns
+eleven = refl
+
+abbrev fine : ℕ → Bool
+fine i = ltb (getD froms i 0) (getD tos i 0) && leb (getD tos i 0) 51 && leb (getD tos i 0) (getD froms i 0 + 10)
+
+all-fine : allBelow 11 fine ≡ true
+unfolding allBelow
+all-fine = refl
+
+-- a column begins before it ends, ends in the frame, and is ten bytes long at most
+pub record Cut (a e : ℕ) : Type 0 where
+  pub some : a < e
+  pub inside : e ≤ 51
+  pub most : e ≤ a + 10
+
+pub cut-at : (i : ℕ) → i < 11 → Cut (getD froms i 0) (getD tos i 0)
+cut-at i l =
+    let h = all-at 11 fine all-fine i l in
+    let g = and-l (ltb (getD froms i 0) (getD tos i 0) && leb (getD tos i 0) 51) _ h in
+    record {
+      some = ltb-true _ _ (and-l (ltb (getD froms i 0) (getD tos i 0)) _ g);
+      inside = leb-true _ _ (and-r (ltb (getD froms i 0) (getD tos i 0)) _ g);
+      most = leb-true _ _ (and-r (ltb (getD froms i 0) (getD tos i 0) && leb (getD tos i 0) 51) _ h);
+    }
+
+-- ---- one column more
+
+shown-last : (f : List ℕ) (cs : List Column) (c : Column) → shown f (cs ++ (c ∷ [])) ≡ shown f cs ++ (TAB ∷ slice (c .from) (c .to) f)
+shown-last f [] c = ap (λ (l : List ℕ). TAB ∷ l) (append-nil (slice (c .from) (c .to) f))
+shown-last f (d ∷ cs) c =
+    ap (λ (l : List ℕ). TAB ∷ (slice (d .from) (d .to) f ++ l)) (shown-last f cs c)
+    ∙ ap (λ (l : List ℕ). TAB ∷ l) (sym (append-assoc (slice (d .from) (d .to) f) (shown f cs) (TAB ∷ slice (c .from) (c .to) f)))
+
+shown-more : (f : List ℕ) (i : ℕ) → i < 11 → shown f (take (i + 1) columns) ≡ shown f (take i columns) ++ (TAB ∷ slice (getD froms i 0) (getD tos i 0) f)
+shown-more f i l =
+    let n = eleven in
+    ap (shown f) (ap (λ (k : ℕ). take k columns) (add-one i) ∙ take-suc columns i none (omega arith))
+    ∙ shown-last f (take i columns) (getD columns i none)
+    ∙ rw (from-at i, to-at i)
+
+part-is : (s : List ℕ) (a e : ℕ) → a < e → slice a e s ≡ take (e - a) (drop a s)
+part-is s a e l = ap (λ (n : ℕ). slice a n s) (let k : e ≡ a + (e - a) = omega arith in k) ∙ slice-is a (e - a) s
+
+pub part-short : (f : List ℕ) (i : ℕ) → i < 11 → length (take (getD tos i 0 - getD froms i 0) (drop (getD froms i 0) f)) ≤ 10
+part-short f i l =
+    let k = cut-at i l in
+    let n = length-take (getD tos i 0 - getD froms i 0) (drop (getD froms i 0) f) in
+    omega (arith, k .most, n)
+
+pub columns-more : (out : List ℕ) (at : ℕ) (f : List ℕ) (i p : ℕ) (mid mid′ : List ℕ) (q : ℕ) (out′ : List ℕ) → i < 11
+    → Put out at (shown f (take i columns)) p mid → mid′ ≡ set mid p 9 → Put mid′ (p + 1) (take (getD tos i 0 - getD froms i 0) (drop (getD froms i 0) f)) q out′
+    → Put out at (shown f (take (i + 1) columns)) q out′
+columns-more out at f i p mid mid′ q out′ l x e y =
+    let a = getD froms i 0 in
+    let b = getD tos i 0 in
+    let t = part-is f a b (cut-at i l .some) in
+    let z = put-then out at (shown f (take i columns) ++ (9 ∷ [])) (p + 1) mid′ (take (b - a) (drop a f)) q out′ (put-then out at (shown f (take i columns)) p mid (9 ∷ []) (p + 1) mid′ x (put-one mid p 9 mid′ e)) y in
+    rw (shown-more f i l, t, ← append-assoc (shown f (take i columns)) (9 ∷ []) (take (b - a) (drop a f))) z
+
+pub columns-all : (out : List ℕ) (at : ℕ) (f : List ℕ) (i p : ℕ) (out′ : List ℕ) → i ≡ 11 → Put out at (shown f (take i columns)) p out′ → Put out at (shown f columns) p out′
+columns-all out at f i p out′ e x =
+    let n = eleven in
+    let t : take i columns ≡ columns = take-all i columns (omega arith) in
+    rw t at x
+
+-- ---- a row is short
+
+-- the bytes that columns take, with their tabs
+abbrev wide : List Column → ℕ
+wide [] = 0
+wide (c ∷ cs) = 1 + (c .to - c .from) + wide cs
+
+shown-short : (f : List ℕ) (cs : List Column) → length (shown f cs) ≤ wide cs
+shown-short f [] = omega arith
+shown-short f (c ∷ cs) =
+    let h = shown-short f cs in
+    let e = length-append (slice (c .from) (c .to) f) (shown f cs) in
+    let a = length-drop (c .from) (take (c .to) f) in
+    let b = length-take (c .to) f in
+    omega (arith, h, e, a, b)
+
+pub columns-short : (f : List ℕ) → length (shown f columns) ≤ 52
+unfolding columns
+columns-short f = shown-short f columns
+
+pub row-short : (s : ℕ) (f : List ℕ) → length (rowText s f) ≤ 53 + width s
+unfolding rowText
+row-short s f =
+    let a = length-append (decimal s ++ shown f columns) (LF ∷ []) in
+    let b = length-append (decimal s) (shown f columns) in
+    let d = decimal-length s in
+    let c = columns-short f in
+    omega (arith, a, b, d, c)

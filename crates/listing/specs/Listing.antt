@@ -1,0 +1,63 @@
+-- The list of a capture, and what is promised of the call that writes it.
+use Prim.Native.Nat.{ℕ, zero, suc}
+use mathlib.Core.List.{List, [], _++_}
+use mathlib.Core.Bool.{Bool, cond, _&&_}
+use mathlib.Core.Path.{_≡_}
+use lib.ListN.{length, drop}
+use lib.Dec.{leb}
+use Rattle.digits.specs.Told.{Told, gives, refuses, tried}
+use Rattle.frames.specs.Refusals.{ROOM}
+use Rattle.finder.specs.Pieces.{pieces}
+use Rattle.desk.specs.declared.capture.Counts.{Counts}
+use Rattle.desk.specs.Limits.{seatCount}
+use Rattle.desk.specs.Memory.{Memory, heldBy}
+use Rattle.desk.specs.Calls.{emptyRow}
+use Rattle.desk.specs.Capture.{fates, afterAll, countsOf}
+use Rattle.listing.specs.declared.ListAnswer.{ListAnswer}
+use Rattle.listing.specs.declared.ListAnswer.the-variants.{Written, Room}
+use Rattle.listing.specs.Text.{heading, rowsText, endText, tooLong}
+
+-- the longest capture that is listed
+abbrev pub mostInput : ℕ
+mostInput = 32768
+
+-- an emptied desk on lent cells and marks
+abbrev pub store : List ℕ → List ℕ → Memory
+store cells marks = record { row = emptyRow; bits = 0; count = 0; cells = cells; marks = marks }
+
+-- the rows of the seats below n, lowest first, each seat's in order
+unfoldable pub seatsText : Memory → ℕ → List ℕ
+seatsText m zero = []
+seatsText m (suc n) = seatsText m n ++ rowsText n (heldBy m n)
+
+unfoldable pub listText : Memory → Counts → List ℕ
+listText m c = heading ++ seatsText m seatCount ++ endText c
+
+-- ---- a capture
+
+module _ (cells marks s : List ℕ) where
+  -- the desk after all of its frames, and their counts
+  abbrev pub after : Memory
+  after = afterAll (store cells marks) (pieces s)
+
+  abbrev pub counts : Counts
+  counts = countsOf (fates (store cells marks) (pieces s))
+
+  abbrev pub short : Bool
+  short = leb (length s) mostInput
+
+  unfoldable pub listOf : List ℕ
+  listOf = cond short (listText after counts) tooLong
+
+-- ---- the call
+
+abbrev pub listTold : ListAnswer → Told ℕ
+listTold (Written n) = gives n
+listTold Room = refuses ROOM 0
+
+-- what is promised of listing s to an output: the answer, and every byte and mark that is lent
+pub record Listed (lent-cells lent-marks s out : List ℕ) (answer : ListAnswer) (cells′ marks′ out′ : List ℕ) : Type 0 where
+  pub told : listTold answer ≡ tried (leb (length (listOf lent-cells lent-marks s)) (length out)) ROOM 0 (gives (length (listOf lent-cells lent-marks s)))
+  pub bytes : out′ ≡ cond (leb (length (listOf lent-cells lent-marks s)) (length out)) (listOf lent-cells lent-marks s ++ drop (length (listOf lent-cells lent-marks s)) out) out
+  pub cells : cells′ ≡ cond (leb (length (listOf lent-cells lent-marks s)) (length out) && short lent-cells lent-marks s) (after lent-cells lent-marks s .cells) lent-cells
+  pub marks : marks′ ≡ cond (leb (length (listOf lent-cells lent-marks s)) (length out) && short lent-cells lent-marks s) (after lent-cells lent-marks s .marks) lent-marks

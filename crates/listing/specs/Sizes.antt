@@ -1,0 +1,24 @@
+-- How long a list can be, and that its numbers are shown whole.
+use Prim.Native.Nat.{ℕ, _<_, _≤_}
+use mathlib.Core.List.{List}
+use mathlib.Core.Path.{_≡_}
+use lib.ListN.{length}
+use Rattle.digits.specs.declared.Number.the-variants.{Is}
+use Rattle.digits.specs.Digits.{numberAt}
+use Rattle.listing.specs.Text.{width, decimal}
+use Rattle.listing.specs.Listing.{mostInput, counts, listOf}
+
+-- an output of 14,170 bytes has room for every list
+abbrev pub ListFits : Type 0
+ListFits = (cells marks s : List ℕ) → length (listOf cells marks s) ≤ 14170
+
+-- what is shown reads as the number
+abbrev pub NumbersRead : Type 0
+NumbersRead = (n : ℕ) → n < 100000 → numberAt (decimal n) 0 (width n) ≡ Is n
+
+-- and no count of a list is larger
+pub record CountsAreSmall : Type 0 where
+  pub opened : (cells marks s : List ℕ) → length s ≤ mostInput → counts cells marks s .opened < 100000
+  pub collected : (cells marks s : List ℕ) → length s ≤ mostInput → counts cells marks s .collected < 100000
+  pub dynamic : (cells marks s : List ℕ) → length s ≤ mostInput → counts cells marks s .dynamic < 100000
+  pub refused : (cells marks s : List ℕ) → length s ≤ mostInput → counts cells marks s .refused < 100000

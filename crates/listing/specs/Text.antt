@@ -1,0 +1,84 @@
+-- The lines of a list.
+use Prim.Native.Nat.{ℕ}
+use mathlib.Core.List.{List, [], _∷_, _++_}
+use mathlib.Core.Bool.{cond}
+use mathlib.Core.Path.{_≡_}
+use lib.Dec.{ltb}
+use lib.Seq.{slice}
+use Rattle.digits.specs.Text.{codes}
+use Rattle.digits.specs.Digits.{digits}
+use Rattle.desk.specs.declared.capture.Counts.{Counts}
+
+abbrev pub TAB : ℕ
+TAB = 9
+
+abbrev pub LF : ℕ
+LF = 10
+
+-- how many digits a number has: none in a list has more than five
+unfoldable pub width : ℕ → ℕ
+width n = cond (ltb n 10) 1 (cond (ltb n 100) 2 (cond (ltb n 1000) 3 (cond (ltb n 10000) 4 5)))
+
+-- without leading zeros
+unfoldable pub decimal : ℕ → List ℕ
+decimal n = digits (width n) n
+
+-- ---- columns: a name, and the bytes of a frame that stand below it
+
+pub record Column : Type 0 where
+  pub name : List ℕ
+  pub from : ℕ
+  pub to : ℕ
+
+-- the number is shown as in the request: its last three digits, the first two being zero
+unfoldable pub columns : List Column
+columns =
+    record { name = codes "from"; from = 6; to = 7 }
+    ∷ record { name = codes "number"; from = 9; to = 12 }
+    ∷ record { name = codes "bib"; from = 12; to = 17 }
+    ∷ record { name = codes "group"; from = 17; to = 20 }
+    ∷ record { name = codes "run"; from = 20; to = 23 }
+    ∷ record { name = codes "phys"; from = 23; to = 26 }
+    ∷ record { name = codes "log"; from = 26; to = 29 }
+    ∷ record { name = codes "info"; from = 29; to = 30 }
+    ∷ record { name = codes "time"; from = 30; to = 40 }
+    ∷ record { name = codes "date"; from = 40; to = 48 }
+    ∷ record { name = codes "status"; from = 5; to = 6 }
+    ∷ []
+
+-- ---- the heading
+
+abbrev pub heading : List ℕ
+heading = codes "seat\tfrom\tnumber\tbib\tgroup\trun\tphys\tlog\tinfo\ttime\tdate\tstatus\n"
+
+abbrev pub named : List Column → List ℕ
+named [] = LF ∷ []
+named (c ∷ cs) = TAB ∷ (c .name ++ named cs)
+
+-- it has the columns' names
+abbrev pub HeadingNamesColumns : Type 0
+HeadingNamesColumns = heading ≡ codes "seat" ++ named columns
+
+-- ---- rows
+
+abbrev pub shown : List ℕ → List Column → List ℕ
+shown f [] = []
+shown f (c ∷ cs) = TAB ∷ (slice (c .from) (c .to) f ++ shown f cs)
+
+unfoldable pub rowText : ℕ → List ℕ → List ℕ
+rowText s f = decimal s ++ shown f columns ++ (LF ∷ [])
+
+abbrev pub rowsText : ℕ → List (List ℕ) → List ℕ
+rowsText s [] = []
+rowsText s (f ∷ fs) = rowText s f ++ rowsText s fs
+
+-- ---- the end line
+
+abbrev pub countText : ℕ → List ℕ
+countText n = TAB ∷ decimal n
+
+unfoldable pub endText : Counts → List ℕ
+endText c = codes "end" ++ countText (c .opened) ++ countText (c .collected) ++ countText (c .dynamic) ++ countText (c .refused) ++ (LF ∷ [])
+
+abbrev pub tooLong : List ℕ
+tooLong = codes "input too long\n"

@@ -1,0 +1,111 @@
+// A capture to its list.
+mod line;
+mod rows;
+mod store;
+
+use desk::capture::CaptureAnswer;
+use desk::capture::Counts;
+use desk::capture::take_capture;
+use desk::state::reset;
+use line::put_end;
+use line::put_text;
+use rows::put_seats;
+use store::copy_bytes;
+use store::copy_marks;
+ghost use Prim.Native.Nat.{_*_, _≤_, _<_};
+ghost use lib.ListN.{length};
+ghost use Rattle.listing.specs.Listing.{Listed};
+ghost use Rattle.listing.specs.Inside.{Put, TakenAs, listLines, WroteAll};
+
+pub const HEADING: [u8; 62] =
+    *b"seat\tfrom\tnumber\tbib\tgroup\trun\tphys\tlog\tinfo\ttime\tdate\tstatus\n";
+
+// A longer capture is not listed.
+pub const MOST_INPUT: usize = 32768;
+
+const TOO_LONG: [u8; 15] = *b"input too long\n";
+
+// Written with so many bytes; or there is not room for them all.
+pub enum ListAnswer {
+    Written(usize),
+    Room,
+}
+
+// What is held after a capture, and the counts of its frames.
+struct Taken {
+    count: usize,
+    counts: Counts,
+}
+
+// Writes the list of a capture, kept on an emptied desk in lent cells and marks, to the first bytes of out. Where out is too short
+// nothing that is lent changes.
+pub fn list(capture: &[u8], cells: &mut [u8], marks: &mut [u32], out: &mut [u8]) -> ListAnswer
+    ensures { λ r. ⌜ Listed (now (cells .entry)) (now (marks .entry)) (now (capture .entry)) (now (out .entry)) r (now (cells .exit)) (now (marks .exit)) (now (out .exit)) ⌝ }
+{
+    if capture.len() > MOST_INPUT {
+        return put_all(out, &TOO_LONG);
+    }
+    let mut old_cells = [0u8; 13056];
+    let mut old_marks = [0u32; 256];
+    copy_bytes(cells, &mut old_cells);
+    copy_marks(marks, &mut old_marks);
+    let t = take(cells, marks, capture);
+    let mut scratch = [0u8; 1];
+    let size = put_list(&mut scratch, t, cells, marks);
+    if out.len() < size {
+        copy_bytes(&old_cells, cells);
+        copy_marks(&old_marks, marks);
+        return ListAnswer::Room;
+    }
+    put_list(out, t, cells, marks);
+    ListAnswer::Written(size)
+}
+
+fn take(cells: &mut [u8], marks: &mut [u32], capture: &[u8]) -> Taken
+    ensures { λ r. ⌜ TakenAs (now (cells .entry)) (now (marks .entry)) (now (capture .entry)) r (now (cells .exit)) (now (marks .exit)) ⌝ }
+{
+    let e = reset();
+    let state = e.desk;
+    let row = e.row;
+    let d = take_capture(state, row, cells, marks, capture);
+    let answer = d.answer;
+    let after = d.desk;
+    match answer {
+        CaptureAnswer::Taken(counts) => Taken {
+            count: after.count as usize,
+            counts,
+        },
+        // An empty desk is one, so this is never met.
+        CaptureAnswer::NoDesk => Taken {
+            count: 0,
+            counts: Counts {
+                opened: 0,
+                collected: 0,
+                dynamic: 0,
+                refused: 0,
+            },
+        },
+    }
+}
+
+// Heading, rows and end line.
+fn put_list(out: &mut [u8], t: Taken, cells: &[u8], marks: &[u32]) -> usize
+    requires { ⌜ (t .count ≤ 256) × ((t .count ≤ length (now marks)) × (t .count * 51 ≤ length (now cells))) ⌝ }
+    ensures { λ r. ⌜ Put (now (out .entry)) 0 (listLines (now (cells .entry)) (now (marks .entry)) t) r (now (out .exit)) ⌝ }
+{
+    let p = put_text(out, 0, &HEADING);
+    let count = t.count;
+    let counts = t.counts;
+    let q = put_seats(out, p, count, cells, marks);
+    put_end(out, q, counts)
+}
+
+fn put_all(out: &mut [u8], text: &[u8]) -> ListAnswer
+    requires { ⌜ length (now text) < 4294967296 ⌝ }
+    ensures { λ r. ⌜ WroteAll (now (text .entry)) (now (out .entry)) r (now (out .exit)) ⌝ }
+{
+    if out.len() < text.len() {
+        return ListAnswer::Room;
+    }
+    ListAnswer::Written(put_text(out, 0, text))
+}

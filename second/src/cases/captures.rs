@@ -1,0 +1,69 @@
+//! The captures that are listed. Those that every seed has come first, then the random ones.
+
+mod counts;
+mod cuts;
+mod full;
+mod mixes;
+mod noise;
+mod random;
+mod refused;
+mod seats;
+mod short;
+mod sizes;
+#[cfg(test)]
+mod tests;
+
+use super::desk::frames::{reply_with_bib, request, Key};
+use crate::random::Random;
+
+pub type Capture = Vec<u8>;
+
+/// Frames in the order they are heard.
+type Frames = Vec<Vec<u8>>;
+
+/// The captures of one seed. The first is document 01's example.
+pub fn all(seed: u64) -> Vec<Capture> {
+    let random = random::captures(&mut Random::new(seed, "captures"));
+    [of_every_seed(), random].concat()
+}
+
+fn of_every_seed() -> Vec<Capture> {
+    [
+        short::captures(),
+        mixes::captures(),
+        refused::captures(),
+        cuts::captures(),
+        noise::captures(),
+        seats::captures(),
+        counts::captures(),
+        full::captures(),
+        sizes::captures(),
+    ]
+    .concat()
+}
+
+/// Two requests that have nothing in common, in many of the captures.
+const ONE: Key = (b'1', 7);
+const OTHER: Key = (b'A', 12);
+
+/// A row of keys, all different. Neighbours share their number, every fourth its requester.
+fn key(place: usize) -> Key {
+    (b"1Aaz"[place % 4], 7 * (place / 4) as u32)
+}
+
+fn keys(count: usize) -> Vec<Key> {
+    (0..count).map(key).collect()
+}
+
+fn requests(keys: &[Key]) -> Frames {
+    keys.iter().map(|&key| request(key)).collect()
+}
+
+/// A reply to this key for each letter of the word. Their bibs fall, so that rows sorted by bib
+/// would stand in another order.
+fn replies(key: Key, word: &str) -> Frames {
+    word.bytes()
+        .enumerate()
+        .map(|(number, status)| reply_with_bib(status, key, 40 - number))
+        .collect()
+}

@@ -1,0 +1,148 @@
+//! Random captures, with everything in them that can befall a frame.
+
+use super::{key, keys, requests as requests_to, Capture};
+use crate::cases::desk::frames::{request, request_for, Key, E, R, Z};
+use crate::cases::frames::befall_at_random;
+use crate::cases::{dynamic, reply, request as requests};
+use crate::random::Random;
+use std::iter;
+
+const CAPTURES: usize = 60;
+
+/// The least length of the first capture, and how much more each next one has at the least. So all
+/// of them stay below 3,000 bytes, and all together have about as many with any seed.
+const SHORTEST: usize = 200;
+const STEP: usize = 46;
+
+/// How many keys a capture has. Seats are not enough for the last two.
+const NUMBERS_OF_KEYS: [usize; 6] = [2, 3, 5, 9, 17, 20];
+
+/// A capture has one request at its beginning for so many bytes, as far as its keys go.
+const BYTES_A_REQUEST: usize = 100;
+
+pub fn captures(random: &mut Random) -> Vec<Capture> {
+    (0..CAPTURES)
+        .map(|place| {
+            let length = SHORTEST + STEP * place + random.place(STEP);
+            capture(random, length)
+        })
+        .collect()
+}
+
+/// Some requests, then pieces up to this length. The last one is cut to fit, or LFs take its place.
+fn capture(random: &mut Random, length: usize) -> Capture {
+    let number_of_keys = random.pick(&NUMBERS_OF_KEYS);
+    let opened = number_of_keys.min(length / BYTES_A_REQUEST);
+    let mut capture = requests_to(&keys(opened)).concat();
+    let mut before = 0;
+    while capture.len() < length {
+        before = capture.len();
+        capture.extend(piece(random, number_of_keys));
+    }
+    if random.once_in(2) {
+        capture.truncate(before);
+    }
+    capture.resize(length, b'\n');
+    capture
+}
+
+/// One frame, good or not, or some bytes that are none.
+fn piece(random: &mut Random, number_of_keys: usize) -> Vec<u8> {
+    let own = key(random.place(number_of_keys));
+    match random.below(24) {
+        0 | 1 => request(own),
+        2..=14 => good_reply(random, own),
+        15 | 16 => dynamic::frame_of(&dynamic::random_record(random)),
+        17 => requests::frame_of(&requests::random_record(random)),
+        18 => stray(random, own),
+        19 => request_for(own, b'q'),
+        20 => damaged(random, own),
+        21 => begun(random, own),
+        22 => noise(random),
+        _ => random.pick(&[&b"\n"[..], b"\r", b"\r\n", b"\n\n"]).to_vec(),
+    }
+}
+
+/// A reply to this key, all its other fields at random.
+fn good_reply(random: &mut Random, (requester, number): Key) -> Vec<u8> {
+    let status = match random.below(12) {
+        0 => E,
+        1 => Z,
+        _ => R,
+    };
+    let mut record = iter::repeat_with(|| reply::random_record(random))
+        .find(|record| record.status == status)
+        .expect("each status comes");
+    record.requester = requester;
+    record.number = number.into();
+    reply::frame_of(&record)
+}
+
+fn stray(random: &mut Random, (requester, number): Key) -> Vec<u8> {
+    let number = number + random.pick(&[1, 2, 1_000, 65_536]);
+    good_reply(random, (requester, number))
+}
+
+/// A good frame of any kind.
+fn good_frame(random: &mut Random, own: Key) -> Vec<u8> {
+    match random.below(4) {
+        0 => request(own),
+        1 => dynamic::frame_of(&dynamic::random_record(random)),
+        _ => good_reply(random, own),
+    }
+}
+
+/// A frame that something has befallen; now and then it is a good one still.
+fn damaged(random: &mut Random, own: Key) -> Vec<u8> {
+    let mut frame = good_frame(random, own);
+    let numbers = match frame[0] {
+        0x11 => &requests::NUMBERS[..],
+        0x12 => &reply::NUMBERS,
+        _ => &dynamic::NUMBERS,
+    };
+    befall_at_random(&mut frame, numbers, random);
+    frame
+}
+
+/// A frame without its end.
+fn begun(random: &mut Random, own: Key) -> Vec<u8> {
+    let mut frame = good_frame(random, own);
+    frame.truncate(1 + random.place(frame.len() - 1));
+    frame
+}
+
+/// Any bytes, or lead bytes and CRs alone.
+fn noise(random: &mut Random) -> Vec<u8> {
+    let length = random.place(12);
+    if random.once_in(2) {
+        return random.bytes(length);
+    }
+    (0..length)
+        .map(|_| random.pick(b"\x11\x12\x13\r"))
+        .collect()
+}
+
+#[cfg(test)]
+mod tests {
+    use super::*;
+    use crate::cases::captures::tests::refusals;
+    use std::collections::BTreeSet;
+
+    #[test]
+    fn captures_are_sixty_and_short() {
+        for seed in [0, 1, 2, 3, u64::MAX] {
+            let captures = captures(&mut Random::new(seed, "test"));
+            assert_eq!(captures.len(), 60);
+            let mut lengths = captures.iter().map(Vec::len);
+            assert!(lengths.all(|length| (200..=3_000).contains(&length)));
+        }
+    }
+
+    /// But for FULL: no capture is long enough for it.
+    #[test]
+    fn every_refusal_of_a_whole_frame_comes() {
+        let captures = captures(&mut Random::new(1, "test"));
+        let expected = BTreeSet::from([2, 4, 5, 10, 11, 12, 13, 14, 15]);
+        assert_eq!(refusals(&captures), expected);
+    }
+}

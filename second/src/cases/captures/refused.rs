@@ -1,0 +1,204 @@
+//! Frames that come whole and are turned away, each with some that are not.
+
+use super::{replies, Capture, Frames, ONE, OTHER};
+use crate::cases::desk::frames::{
+    of_wrong_length, patched, reply, request, request_for, Key, E, R, REPLY_DAMAGES,
+    REQUEST_DAMAGES, Z,
+};
+use crate::cases::dynamic::{MINUS, MINUS_ZERO, NUMBERS, PLUS, WRONG_FIELDS};
+use crate::cases::frames::{with_number_edges, with_surround_faults};
+use crate::cases::replaced;
+use crate::dynamic::{at, ORDERS};
+
+pub fn captures() -> Vec<Capture> {
+    vec![
+        strays(),
+        numbers_above_999(),
+        damaged_requests(),
+        damaged_replies(ONE),
+        damaged_replies((b'z', 999)),
+        wrong_lengths(),
+        dynamic_requests(),
+        wrong_dynamic_requests(),
+        dynamic_edges(),
+        no_answer_due(),
+        after_the_end(),
+        out_of_place(),
+    ]
+}
+
+/// Replies that have only their number or only their requester from a request.
+fn strays() -> Capture {
+    let mut capture = [request(ONE), request(OTHER)].concat();
+    for stray in [
+        (b'1', 12),
+        (b'A', 7),
+        (b'a', 12),
+        (b'0', 7),
+        (b'1', 70),
+        (b'1', 0),
+        (b'z', 999),
+    ] {
+        for status in [R, E, Z] {
+            capture.extend(reply(status, stray));
+        }
+    }
+    capture.extend(replies(OTHER, "RE").concat());
+    capture.extend(replies(ONE, "Z").concat());
+    capture
+}
+
+/// No request has such a number, though some are like one's if they are cut to three digits or to
+/// sixteen bits.
+fn numbers_above_999() -> Capture {
+    let mut capture = [request(ONE), request((b'A', 999)), request((b'z', 0))].concat();
+    for requester in *b"1Az" {
+        for number in [
+            1_000, 1_007, 1_999, 7_000, 10_007, 65_536, 65_543, 66_535, 99_999,
+        ] {
+            capture.extend(reply(R, (requester, number)));
+        }
+    }
+    for key in [(b'z', 0), (b'A', 999), ONE] {
+        capture.extend(reply(E, key));
+    }
+    capture
+}
+
+/// A frame for each damage; then it comes undamaged.
+fn damaged_requests() -> Capture {
+    let frame = request(ONE);
+    let mut damaged: Frames = REQUEST_DAMAGES
+        .iter()
+        .map(|&damage| patched(&frame, damage))
+        .collect();
+    damaged.extend(with_surround_faults(&frame, b"\x10\x14\x91"));
+    [damaged.concat(), frame, reply(E, ONE)].concat()
+}
+
+/// Damaged replies to this key, with one request open. A good reply stands between any two, so that
+/// the bytes of a frame that has lost its lead byte or its CR end somewhere.
+fn damaged_replies(key: Key) -> Capture {
+    let frame = reply(R, key);
+    let mut damaged: Frames = REPLY_DAMAGES
+        .iter()
+        .map(|&damage| patched(&frame, damage))
+        .collect();
+    damaged.extend(with_surround_faults(&frame, b"\x10\x14\x92"));
+    let good = reply(R, ONE);
+    [request(ONE), good.clone(), damaged.join(&good[..]), good].concat()
+}
+
+/// Frames of each kind that are too short and too long, a lead byte with a CR, and a frame of each
+/// kind under the lead byte of another.
+fn wrong_lengths() -> Capture {
+    let frames = [request(ONE), reply(R, OTHER), PLUS.to_vec()];
+    let mut capture = request(OTHER);
+    for frame in &frames {
+        capture.extend(of_wrong_length(frame).concat());
+        capture.extend([frame[0], b'\r']);
+        for lead in [0x11, 0x12, 0x13] {
+            capture.extend(replaced(frame, 0, &[lead]));
+        }
+    }
+    let long = [&b"\x12"[..], &[b'0'; 300], b"\r"].concat();
+    [capture, long, reply(R, ONE)].concat()
+}
+
+/// Good ones, some of them before the first request and some of them twice.
+fn dynamic_requests() -> Capture {
+    let mut capture = [*PLUS, *MINUS, *MINUS_ZERO, *PLUS].concat();
+    capture.extend(request(ONE));
+    for &order in ORDERS {
+        capture.extend(replaced(PLUS, at::ORDER, &[order]));
+    }
+    capture.extend(reply(E, ONE));
+    capture.extend(replaced(PLUS, at::BIB, b"60000"));
+    capture
+}
+
+/// One for each wrong field, each before a good one; and those with something wrong around the
+/// fields.
+fn wrong_dynamic_requests() -> Capture {
+    let mut capture = Capture::new();
+    for (offset, wrong) in WRONG_FIELDS {
+        capture.extend(replaced(PLUS, offset, wrong));
+        capture.extend(MINUS);
+    }
+    let around = with_surround_faults(MINUS, b"\x10\x14\x93");
+    [capture, around.concat()].concat()
+}
+
+/// Both sides of every limit.
+fn dynamic_edges() -> Capture {
+    with_number_edges(MINUS, &NUMBERS).concat()
+}
+
+/// The letter that no answer is due to, with a free key and with one in use; and replies to it.
+fn no_answer_due() -> Capture {
+    [
+        request_for(ONE, b'q'),
+        reply(R, ONE),
+        request(OTHER),
+        request_for(OTHER, b'q'),
+        reply(R, OTHER),
+        request(ONE),
+        request_for(ONE, b'q'),
+        reply(Z, ONE),
+    ]
+    .concat()
+}
+
+/// Every status after an E, after a Z and after an E that came first.
+fn after_the_end() -> Capture {
+    let third = (b'z', 999);
+    [
+        request(ONE),
+        request(OTHER),
+        request(third),
+        replies(ONE, "REREZ").concat(),
+        replies(OTHER, "ZREZ").concat(),
+        replies(third, "EREZ").concat(),
+        replies(ONE, "R").concat(),
+    ]
+    .concat()
+}
+
+/// A Z after records, which go on.
+fn out_of_place() -> Capture {
+    [
+        request(ONE),
+        request(OTHER),
+        replies(ONE, "RZRZZE").concat(),
+        replies(OTHER, "RZ").concat(),
+    ]
+    .concat()
+}
+
+#[cfg(test)]
+mod tests {
+    use super::*;
+    use crate::cases::captures::tests::check_ends;
+
+    #[test]
+    fn what_is_turned_away() {
+        check_ends(
+            &captures(),
+            &[
+                [2, 3, 0, 21],
+                [3, 3, 0, 27],
+                // Frames that have lost their lead byte are no frames.
+                [1, 1, 0, 16 + 19],
+                [1, 49, 0, 25 + 19],
+                [1, 49, 0, 25 + 19],
+                [2, 2, 1, 3 * 6 + 1],
+                [1, 1, 11, 0],
+                [0, 0, 13, 13 + 19],
+                [0, 0, 34, 35],
+                [2, 2, 0, 4],
+                [3, 4, 0, 10],
+                [2, 4, 0, 4],
+            ],
+        );
+    }
+}
