@@ -2,7 +2,7 @@
 use Prim.Native.Nat.{ℕ, suc, _+_, _-_, _<_, _≤_}
 use mathlib.Core.List.{List, [], _∷_}
 use mathlib.Core.Bool.{Bool, true, false, cond}
-use mathlib.Core.Path.{_≡_, refl, ap, _∙_}
+use mathlib.Core.Path.{_≡_, refl, ap, _∙_, sym}
 use native.Mathlib.Omega.{arith}
 use lib.ListN.{length, getD, take, drop}
 use lib.Seq.{slice}
@@ -13,10 +13,9 @@ use Rattle.frames.specs.Kind.{read}
 use Rattle.frames.specs.Dynamic.{dynamic}
 use Rattle.frames.specs.Refusals.{readRefused}
 use Rattle.frames.specs.declared.refusals.ReadRefusal.{ReadRefusal}
-use Rattle.frames.specs.declared.refusals.ReadRefusal.the-variants.{Kind, Length, End, Address, Field}
 use Rattle.finder.specs.Pieces.{Piece, whole, cut, pieces, piecesFrom}
 use Rattle.finder.proofs.Demands.{frames-are-leads}
-use Rattle.finder.proofs.Step.{slice-is}
+use Rattle.finder.proofs.Step.{part-is}
 use Rattle.desk.specs.declared.opening.OpenRefusal.{OpenRefusal}
 use Rattle.desk.specs.declared.opening.OpenRefusal.the-variants.{Desk as open-no-desk, Frame as open-frame, NoAnswerDue, InUse, NoSeat}
 use Rattle.desk.specs.declared.reply.ReplyRefusal.{ReplyRefusal}
@@ -32,23 +31,16 @@ use Rattle.desk.specs.Calls.{openRefused, replyRefused, opens, replies, 
 use Rattle.desk.specs.Capture.{fateBy, dynamicFate, meets, meetsPiece, fates, afterAll, isOpened, isCollected, isDynamic, isRefused, howMany, countsOf, TookCapture, CountsAddUp}
 use Rattle.desk.specs.Inside.{Meets, oneMore}
 use Rattle.desk.proofs.Below.{by-test}
+use Rattle.desk.proofs.CallLaws.{read-refuses}
 use Rattle.desk.proofs.MixLaws.{stays-desk}
 
 -- ---- a refusal is a refused frame
 
 pub dynamic-refused : (g : ReadRefusal) → Refused ≡ dynamicFate (readRefused g)
-dynamic-refused Kind = refl
-dynamic-refused Length = refl
-dynamic-refused End = refl
-dynamic-refused Address = refl
-dynamic-refused (Field p) = refl
+dynamic-refused g = sym (ap dynamicFate (read-refuses g))
 
 read-fate : (good : Fate) (g : ReadRefusal) → Refused ≡ fateBy good (readRefused g)
-read-fate good Kind = refl
-read-fate good Length = refl
-read-fate good End = refl
-read-fate good Address = refl
-read-fate good (Field p) = refl
+read-fate good g = sym (ap (fateBy good) (read-refuses g))
 
 pub opening-refused : (g : OpenRefusal) → Refused ≡ fateBy Opened (openRefused g)
 opening-refused open-no-desk = refl
@@ -108,6 +100,20 @@ begins m s d = record { desk = d; rest = refl; opened = omega arith; collected =
 counts-four : (a b : Counts) → a .opened ≡ b .opened → a .collected ≡ b .collected → a .dynamic ≡ b .dynamic → a .refused ≡ b .refused → a ≡ b
 counts-four a b p q r s = λ i. record { opened = p i; collected = q i; dynamic = r i; refused = s i }
 
+-- a fate is counted once, and where it belongs
+record More (c d : Counts) (fate : Fate) : Type 0 where
+  opened : d .opened ≡ c .opened + cond (isOpened fate) 1 0
+  collected : d .collected ≡ c .collected + cond (isCollected fate) 1 0
+  dynamic : d .dynamic ≡ c .dynamic + cond (isDynamic fate) 1 0
+  refused : d .refused ≡ c .refused + cond (isRefused fate) 1 0
+  one : d .opened + d .collected + d .dynamic + d .refused ≡ c .opened + c .collected + c .dynamic + c .refused + 1
+
+more-than : (c : Counts) (fate : Fate) → More c (oneMore c fate) fate
+more-than c Opened = record { opened = refl; collected = omega arith; dynamic = omega arith; refused = omega arith; one = omega arith }
+more-than c Collected = record { opened = omega arith; collected = refl; dynamic = omega arith; refused = omega arith; one = omega arith }
+more-than c Dynamic = record { opened = omega arith; collected = omega arith; dynamic = refl; refused = omega arith; one = omega arith }
+more-than c Refused = record { opened = omega arith; collected = omega arith; dynamic = omega arith; refused = refl; one = omega arith }
+
 module _ (m₀ : Memory) (s : List ℕ) (at : ℕ) (m : Memory) (c : Counts) (g : Going m₀ s at m c) where
   module _ (none : piecesFrom s at ≡ []) where
     pub ends-counts : c ≡ countsOf (fates m₀ (pieces s))
@@ -133,39 +139,28 @@ module _ (m₀ : Memory) (s : List ℕ) (at : ℕ) (m : Memory) (c : Counts) (g 
     desk-more (whole start bytes) = meets-desk m bytes (g .desk)
     desk-more (cut start bytes) = g .desk
 
-    going-by : (fate : Fate) → meetsPiece m p .fate ≡ fate → Going m₀ s next (meetsPiece m p .after) (oneMore c fate)
-    unfolding afterAll
-    going-by Opened e =
-        let a = rw e at (fate-more isOpened) in
-        let b = rw e at (fate-more isCollected) in
-        let d = rw e at (fate-more isDynamic) in
-        let f = rw e at (fate-more isRefused) in
-        let x = g .opened in let y = g .collected in let z = g .dynamic in let w = g .refused in let v = g .few in
-        record { desk = desk-more p; rest = rw is at (g .rest); opened = omega arith; collected = omega arith; dynamic = omega arith; refused = omega arith; few = omega arith }
-    going-by Collected e =
-        let a = rw e at (fate-more isOpened) in
-        let b = rw e at (fate-more isCollected) in
-        let d = rw e at (fate-more isDynamic) in
-        let f = rw e at (fate-more isRefused) in
-        let x = g .opened in let y = g .collected in let z = g .dynamic in let w = g .refused in let v = g .few in
-        record { desk = desk-more p; rest = rw is at (g .rest); opened = omega arith; collected = omega arith; dynamic = omega arith; refused = omega arith; few = omega arith }
-    going-by Dynamic e =
-        let a = rw e at (fate-more isOpened) in
-        let b = rw e at (fate-more isCollected) in
-        let d = rw e at (fate-more isDynamic) in
-        let f = rw e at (fate-more isRefused) in
-        let x = g .opened in let y = g .collected in let z = g .dynamic in let w = g .refused in let v = g .few in
-        record { desk = desk-more p; rest = rw is at (g .rest); opened = omega arith; collected = omega arith; dynamic = omega arith; refused = omega arith; few = omega arith }
-    going-by Refused e =
-        let a = rw e at (fate-more isOpened) in
-        let b = rw e at (fate-more isCollected) in
-        let d = rw e at (fate-more isDynamic) in
-        let f = rw e at (fate-more isRefused) in
-        let x = g .opened in let y = g .collected in let z = g .dynamic in let w = g .refused in let v = g .few in
-        record { desk = desk-more p; rest = rw is at (g .rest); opened = omega arith; collected = omega arith; dynamic = omega arith; refused = omega arith; few = omega arith }
+    counted : (q : Fate → Bool) (n k total : ℕ) → n + howMany q (fates m (piecesFrom s at)) ≡ total → k ≡ n + cond (q (meetsPiece m p .fate)) 1 0 → k + howMany q (fates (meetsPiece m p .after) (piecesFrom s next)) ≡ total
+    counted q n k total h e =
+        let f = fate-more q in
+        by-test (q (meetsPiece m p .fate))
+        (λ b. let x = rw b at e in let y = rw b at f in omega (arith, h, x, y))
+        (λ b. let x = rw b at e in let y = rw b at f in omega (arith, h, x, y))
 
     pub goes : Going m₀ s next (meetsPiece m p .after) (oneMore c (meetsPiece m p .fate))
-    goes = going-by (meetsPiece m p .fate) refl
+    unfolding afterAll
+    goes =
+        let fate = meetsPiece m p .fate in
+        let o = more-than c fate in
+        let v = g .few in
+        record {
+          desk = desk-more p;
+          rest = rw is at (g .rest);
+          opened = counted isOpened _ _ _ (g .opened) (o .opened);
+          collected = counted isCollected _ _ _ (g .collected) (o .collected);
+          dynamic = counted isDynamic _ _ _ (g .dynamic) (o .dynamic);
+          refused = counted isRefused _ _ _ (g .refused) (o .refused);
+          few = omega (arith, v, o .one);
+        }
 
 -- ---- the counts add up
 
@@ -193,10 +188,6 @@ took-none m s d = record { told = rw d; memory = rw d }
 pub took-all : (m₀ : Memory) (s : List ℕ) (at : ℕ) (m : Memory) (c : Counts) → isDesk m₀ ≡ true → Going m₀ s at m c → piecesFrom s at ≡ [] → TookCapture m₀ s (Taken c) m
 took-all m₀ s at m c d g none =
     record { told = rw d (ap gives (ends-counts m₀ s at m c g none)); memory = rw d (ends-memory m₀ s at m c g none) }
-
--- the part that is lent of a capture
-pub part-is : (s : List ℕ) (a e : ℕ) → a < e → slice a e s ≡ take (e - a) (drop a s)
-part-is s a e l = ap (λ (n : ℕ). slice a n s) (let k : e ≡ a + (e - a) = omega arith in k) ∙ slice-is a (e - a) s
 
 -- a turn of the loop
 module _ (m₀ : Memory) (s : List ℕ) (at : ℕ) (m : Memory) (c : Counts) (g : Going m₀ s at m c) (a e : ℕ) (c′ : Counts) (less : at < e) where

@@ -2,7 +2,7 @@
 use Prim.Native.Nat.{ℕ, _+_}
 use mathlib.Core.List.{List, _++_}
 use mathlib.Core.Bool.{Bool, true, false}
-use mathlib.Core.Path.{_≡_, refl, ap, _∙_}
+use mathlib.Core.Path.{_≡_, refl, ap, _∙_, sym, subst}
 use native.Mathlib.Omega.{arith}
 use lib.ListN.{length, take, drop}
 use lib.Seq.{paste, take-all}
@@ -12,7 +12,6 @@ use Rattle.frames.specs.Kind.{read}
 use Rattle.frames.specs.Request.{request, requestTold}
 use Rattle.frames.specs.Refusals.{readRefused}
 use Rattle.frames.specs.declared.refusals.ReadRefusal.{ReadRefusal}
-use Rattle.frames.specs.declared.refusals.ReadRefusal.the-variants.{Kind, Length, End, Address, Field}
 use Rattle.frames.specs.declared.request.StaticRequest.{StaticRequest}
 use Rattle.frames.specs.declared.request.RequestRead.{RequestRead}
 use Rattle.frames.specs.declared.request.RequestRead.the-variants.{Request, Refused as not-request}
@@ -30,16 +29,13 @@ use Rattle.desk.specs.Call.{heard, heardTold}
 use Rattle.desk.specs.Memory.{Memory, capacity}
 use Rattle.desk.specs.Desk.{isDesk}
 use Rattle.desk.specs.Calls.{DESK, whatIsGiven, requestTried, openTried, callTried, replyTried, opens, opened, replies, taken, withCell, openRefused, replyRefused, Did}
+use Rattle.desk.proofs.CallLaws.{read-refuses}
 
 -- ---- a reader's refusal stands
 
 module _ {A B : Type 0} where
   given-refused : (g : ReadRefusal) (further : A → Told B) → readRefused g ≡ whatIsGiven (readRefused g) further
-  given-refused Kind further = refl
-  given-refused Length further = refl
-  given-refused End further = refl
-  given-refused Address further = refl
-  given-refused (Field p) further = refl
+  given-refused g further = read-refuses g ∙ sym (ap (λ (y : Told A). whatIsGiven y further) (read-refuses g))
 
 module _ (x : List ℕ) where
   pub request-read : (row : List Seat) (bits : ℕ) (a : RequestRead) (r : StaticRequest) → requestTold a ≡ read request x → a ≡ Request r → requestTried row bits r ≡ whatIsGiven (read request x) (requestTried row bits)
@@ -86,11 +82,7 @@ module _ (m : Memory) (f : List ℕ) where
 
   pub not-opened : (r : OpenRefusal) → openRefused r ≡ openTried m f → Did (openRefused r) m (opens m f)
   not-opened open-no-desk e = not-opened-by _ _ e
-  not-opened (open-frame Kind) e = not-opened-by _ _ e
-  not-opened (open-frame Length) e = not-opened-by _ _ e
-  not-opened (open-frame End) e = not-opened-by _ _ e
-  not-opened (open-frame Address) e = not-opened-by _ _ e
-  not-opened (open-frame (Field p)) e = not-opened-by _ _ e
+  not-opened (open-frame g) e = subst (λ (t : Told ℕ). Did t m (opens m f)) (sym (read-refuses g)) (not-opened-by _ _ (sym (read-refuses g) ∙ e))
   not-opened NoAnswerDue e = not-opened-by _ _ e
   not-opened InUse e = not-opened-by _ _ e
   not-opened NoSeat e = not-opened-by _ _ e
@@ -112,11 +104,7 @@ module _ (m : Memory) (f : List ℕ) where
 
   pub not-taken : (r : ReplyRefusal) → replyRefused r ≡ replyTried m f → Did (replyRefused r) m (replies m f)
   not-taken no-desk e = not-taken-by _ _ e
-  not-taken (Frame Kind) e = not-taken-by _ _ e
-  not-taken (Frame Length) e = not-taken-by _ _ e
-  not-taken (Frame End) e = not-taken-by _ _ e
-  not-taken (Frame Address) e = not-taken-by _ _ e
-  not-taken (Frame (Field p)) e = not-taken-by _ _ e
+  not-taken (Frame g) e = subst (λ (t : Told ℕ). Did t m (replies m f)) (sym (read-refuses g)) (not-taken-by _ _ (sym (read-refuses g) ∙ e))
   not-taken Stray e = not-taken-by _ _ e
   not-taken Ended e = not-taken-by _ _ e
   not-taken OutOfPlace e = not-taken-by _ _ e

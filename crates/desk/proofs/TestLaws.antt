@@ -14,7 +14,6 @@ use Rattle.frames.specs.Kind.{read}
 use Rattle.frames.specs.Reply.{reply}
 use Rattle.frames.specs.Refusals.{readRefused}
 use Rattle.frames.specs.declared.refusals.ReadRefusal.{ReadRefusal}
-use Rattle.frames.specs.declared.refusals.ReadRefusal.the-variants.{Kind, Length, End, Address, Field}
 use Rattle.desk.specs.declared.call.Heard.{Heard}
 use Rattle.desk.specs.declared.call.Heard.the-variants.{Refused as not-heard}
 use Rattle.desk.specs.declared.state.Seat.{Seat}
@@ -28,6 +27,7 @@ use Rattle.desk.specs.Seats.{seatAt, usedBit}
 use Rattle.desk.specs.Memory.{Memory, capacity, capacityOf, cellAt, markAt}
 use Rattle.desk.specs.Desk.{isZero, keyLegal, unusedZero, apartAt, apartBelow, markNames, markGood, cellKeyed, named, lastEnds, heldRight, endedRight, placed, sixteenSeats, noBitAbove, keysLegal, noKeyShared, unusedAllZero, countFits, marksName, cellsAreReplies, heldIsNamed, endsLast, endedIsLast, isDesk}
 use Rattle.desk.specs.Inside.{seatGood, seatGoodAt, noView, takes, turnOf, agrees, agreesAt, viewOf, takenAt, rowsHold}
+use Rattle.desk.proofs.CallLaws.{read-refuses}
 use Rattle.desk.proofs.Below.{and-true, and-l, and-r, past, eq-case, all-at, all-of, all-and, all-ext, count-more}
 
 -- ---- within a seat only the last may be E or Z, Z only alone: as each row is met
@@ -250,14 +250,7 @@ if-no {a = a} {x = x} {r = r} {d = d} b e t q = q ∙ sym (ap (λ (z : Bool). co
 pub turn-refused : (v : View) (seat : Seat) (g : Heard) (x : ReadRefusal) → g ≡ not-heard x
     → _≡_ {A = Turn} (record { good = false; view = record { held = v .held + 1; ended = 0 } }) (turnOf v seat (heardTold g))
 unfolding turnOf
-turn-refused v seat g x e = go x ∙ sym (ap (λ (y : Heard). turnOf v seat (heardTold y)) e)
-  where
-    go : (x : ReadRefusal) → _≡_ {A = Turn} (record { good = false; view = record { held = v .held + 1; ended = 0 } }) (turnOf v seat (readRefused x))
-    go Kind = refl
-    go Length = refl
-    go End = refl
-    go Address = refl
-    go (Field p) = refl
+turn-refused v seat g x e = sym (ap (turnOf v seat) (ap heardTold e ∙ read-refuses x))
 
 -- ---- the loop over the rows
 

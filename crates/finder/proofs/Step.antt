@@ -1,5 +1,5 @@
 -- What a caller of `next` goes by: an answer is the next piece, and the cursor moves to its end. Assumes nothing.
-use Prim.Native.Nat.{ℕ, zero, suc, _+_, _≤_, _<_}
+use Prim.Native.Nat.{ℕ, zero, suc, _+_, _-_, _≤_, _<_}
 use mathlib.Core.List.{List, [], _∷_}
 use mathlib.Core.Bool.{true, false≢true}
 use mathlib.Core.Path.{_≡_, refl, ap, subst, _∙_}
@@ -28,10 +28,14 @@ Told s at Nothing = piecesFrom s at ≡ []
 
 -- ---- the bytes of a piece
 
-pub slice-is : (a m : ℕ) (l : List ℕ) → slice a (a + m) l ≡ take m (drop a l)
+slice-is : (a m : ℕ) (l : List ℕ) → slice a (a + m) l ≡ take m (drop a l)
 slice-is zero m l = rw (zero-add m)
 slice-is (suc a) m [] = rw (take-nil {A = ℕ} (suc a + m), take-nil {A = ℕ} m)
 slice-is (suc a) m (x ∷ l) = rw (suc-add a m) (slice-is a m l)
+
+-- a part that is lent: the bytes from a up to e
+pub part-is : (s : List ℕ) (a e : ℕ) → a < e → slice a e s ≡ take (e - a) (drop a s)
+part-is s a e l = ap (λ (n : ℕ). slice a n s) (let k : e ≡ a + (e - a) = omega arith in k) ∙ slice-is a (e - a) s
 
 pub bytes-are : (s : List ℕ) (p : Piece) → Right s p → slice (startOf p) (endOf p) s ≡ bytesOf p
 bytes-are s (whole a f) r = slice-is a (length f) s ∙ r .0

@@ -9,7 +9,7 @@ use lib.ListN.{length, getD, take, drop, set, length-append, length-drop, length
 use lib.Seq.{slice, take-suc, take-all}
 use lib.Dec.{ltb, leb}
 use borrow.Author.Tests.{ltb-true, leb-true}
-use Rattle.finder.proofs.Step.{slice-is}
+use Rattle.finder.proofs.Step.{part-is}
 use Rattle.desk.specs.Below.{allBelow}
 use Rattle.desk.proofs.Below.{and-l, and-r, all-at}
 use Rattle.listing.specs.Text.{TAB, LF, width, decimal, rowText, Column, columns, shown, HeadingNamesColumns}
@@ -88,9 +88,6 @@ shown-more f i l =
     ap (shown f) (ap (λ (k : ℕ). take k columns) (add-one i) ∙ take-suc columns i none (omega arith))
     ∙ shown-last f (take i columns) (getD columns i none)
     ∙ rw (from-at i, to-at i)
-
-part-is : (s : List ℕ) (a e : ℕ) → a < e → slice a e s ≡ take (e - a) (drop a s)
-part-is s a e l = ap (λ (n : ℕ). slice a n s) (let k : e ≡ a + (e - a) = omega arith in k) ∙ slice-is a (e - a) s
 
 pub part-short : (f : List ℕ) (i : ℕ) → i < 11 → length (take (getD tos i 0 - getD froms i 0) (drop (getD froms i 0) f)) ≤ 10
 part-short f i l =
