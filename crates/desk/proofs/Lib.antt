@@ -11,3 +11,4 @@ pub mod CaptureLaws
 pub mod KeepsLaws
 pub mod LeavesLaws
 pub mod Unique
+pub mod SureLaws

@@ -32,7 +32,7 @@ use Rattle.desk.specs.Key.{requestKey}
 use Rattle.desk.specs.Call.{heard, inPlace, endedBy}
 use Rattle.desk.specs.Seats.{zeroSeat, seatAt, usedBit, seatWith, lowestClear}
 use Rattle.desk.specs.Memory.{Memory, capacity, capacityOf, markAt}
-use Rattle.desk.specs.Desk.{isDesk}
+use Rattle.desk.specs.Desk.{isDesk, sixteenSeats}
 
 -- ---- refusals, by number
 
@@ -171,6 +171,10 @@ emptyState = record { bits = 0; count = 0 }
 -- cells and marks stay
 abbrev pub emptied : Memory → Memory
 emptied m = record { row = emptyRow; bits = 0; count = 0; cells = m .cells; marks = m .marks }
+
+-- refused only if the row is not of sixteen seats; it looks at nothing else
+unfoldable pub resets : Memory → Outcome
+resets m = cond (sixteenSeats m) (record { answer = gives 0; after = emptied m }) (record { answer = refuses DESK 0; after = m })
 
 -- the ones of a number of 64 bits
 unfoldable pub seatsInUse : ℕ → ℕ

@@ -99,10 +99,19 @@ abbrev pub captureTold : CaptureAnswer → Told Counts
 captureTold (Taken c) = gives c
 captureTold NoDesk = refuses DESK 0
 
+-- the counts or the refusal, and the memory after the call
+pub record Captured : Type 0 where
+  pub answer : Told Counts
+  pub after : Memory
+
+abbrev pub captures : Memory → List ℕ → Captured
+captures m s =
+    record { answer = tried (isDesk m) DESK 0 (gives (countsOf (fates m (pieces s)))); after = cond (isDesk m) (afterAll m (pieces s)) m }
+
 -- what is promised of a capture s: the counts, and all of the memory
 pub record TookCapture (m : Memory) (s : List ℕ) (answer : CaptureAnswer) (after : Memory) : Type 0 where
-  pub told : captureTold answer ≡ tried (isDesk m) DESK 0 (gives (countsOf (fates m (pieces s))))
-  pub memory : after ≡ cond (isDesk m) (afterAll m (pieces s)) m
+  pub told : captureTold answer ≡ captures m s .answer
+  pub memory : after ≡ captures m s .after
 
 -- the four counts add up to the frames found, which are the lead bytes of the capture
 abbrev pub CountsAddUp : Type 0

@@ -36,6 +36,7 @@ enum Fate {
 }
 
 // Requests opened, replies collected, dynamic requests, frames refused.
+#[repr(C)]
 pub struct Counts {
     pub opened: usize,
     pub collected: usize,

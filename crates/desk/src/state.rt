@@ -21,6 +21,7 @@ pub struct Seat {
 }
 
 // The seats in use as bits, and how many cells are held.
+#[repr(C)]
 pub struct Desk {
     pub bits: u64,
     pub count: u32,

@@ -3,3 +3,4 @@ pub mod Writing
 pub mod Laws
 pub mod Forms
 pub mod Lists
+pub mod Sure

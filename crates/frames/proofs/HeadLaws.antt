@@ -1,15 +1,18 @@
 -- What is tried before the fields, and what is tried before a frame is written, test by test. Assumes nothing.
 use Prim.Native.Nat.{ℕ, _-_, _≤_, _<_}
 use mathlib.Core.List.{List, [], _∷_}
-use mathlib.Core.Bool.{Bool, true, false}
+use mathlib.Core.Bool.{Bool, true, false, _&&_}
 use mathlib.Core.Path.{_≡_, refl, sym}
 use native.Mathlib.Omega.{arith}
 use lib.Dec.{eqb}
 use lib.ListN.{length, getD}
 use borrow.Author.Tests.{eq-eqb, ne-eqb, le-leb, lt-leb}
-use Rattle.digits.specs.Told.{Told, gives, refuses, tried}
-use Rattle.frames.specs.Refusals.{KIND, LENGTH, END, ADDRESS, RECORD, ROOM}
-use Rattle.frames.specs.Kind.{leadIs, letterR, CR, headTold, andThen, writeTried}
+use Rattle.digits.specs.Told.{Told, gives, refuses, tried, Sure}
+use Rattle.digits.proofs.Sure.{sure-number, sure-gives, sure-tried}
+use Rattle.frames.specs.Refusals.{KIND, LENGTH, END, ADDRESS, FIELD, RECORD, ROOM}
+use Rattle.frames.specs.Rules.{isAddress}
+use Rattle.frames.specs.Layout.{firstWrong, values}
+use Rattle.frames.specs.Kind.{Kind, leadIs, letterR, CR, headTold, andThen, read, writeTried}
 
 -- ---- answers that gave something
 
@@ -21,6 +24,27 @@ module _ {A : Type 0} where
   pub then-gives : (t : Told (Unit {0})) (rest : Told A) (a : A) → andThen t rest ≡ gives a → (t ≡ gives tt) × (rest ≡ gives a)
   then-gives (gives x) rest a e = (refl, e)
   then-gives (refuses n o) rest a e = absurd (let z : _≡_ {A = ℕ} 0 1 = cc in omega arith)
+
+-- ---- refusals have a number
+
+sure-then : {A : Type 0} (t : Told (Unit {0})) (rest : Told A) → Sure t → Sure rest → Sure (andThen t rest)
+sure-then (gives x) rest s s′ = s′
+sure-then (refuses n o) rest s s′ = sure-number n o (s n o refl)
+
+sure-head : (lead size : ℕ) (s : List ℕ) → Sure (headTold lead size s)
+unfolding headTold
+sure-head lead size s =
+    sure-tried (leadIs lead s) KIND 0 _ (omega arith)
+    (sure-tried (eqb (length s) size) LENGTH 0 _ (omega arith)
+    (sure-tried (eqb (getD s (size - 1) 0) CR) END 0 _ (omega arith)
+    (sure-tried (eqb (getD s 1 0) letterR && isAddress (getD s 2 0)) ADDRESS 0 _ (omega arith)
+    (sure-gives tt))))
+
+pub sure-read : {R : Type 0} (k : Kind R) (s : List ℕ) → Sure (read k s)
+unfolding read
+sure-read k s =
+    let wrong = firstWrong (k .fields) 3 s in
+    sure-then (headTold (k .lead) (k .size) s) _ (sure-head (k .lead) (k .size) s) (sure-tried (eqb wrong 0) FIELD wrong _ (omega arith) (sure-gives (k .ofValues (values (k .fields) 3 s))))
 
 -- ---- the head of a frame
 

@@ -184,7 +184,7 @@ reply-wrong-is r =
 
 -- ---- a record's values, and back
 
-tail-fine : (r : StaticReply) → wrongIn reply r ≡ 0 → recordWrong (timed (timingKind (r .status) (r .information))) (timedValues (timingKind (r .status) (r .information)) (tailOf r)) ≡ 0
+pub tail-fine : (r : StaticReply) → wrongIn reply r ≡ 0 → recordWrong (timed (timingKind (r .status) (r .information))) (timedValues (timingKind (r .status) (r .information)) (tailOf r)) ≡ 0
 unfolding wrongIn
 tail-fine r e = let kind = timingKind (r .status) (r .information) in head-none r _ (head-wrong-is r (timedValues kind (tailOf r)) ∙ e)
 

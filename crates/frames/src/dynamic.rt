@@ -31,6 +31,7 @@ pub const DYNAMIC_LEAD: u8 = 19;
 pub const DYNAMIC_SIZE: usize = 46;
 
 // Letters by their code. Sign, time in ticks and days are those of Taux; the sign is kept where time and days are zero.
+#[repr(C)]
 pub struct DynamicRequest {
     pub requester: u8,
     pub order: u8,

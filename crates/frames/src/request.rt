@@ -28,6 +28,7 @@ pub const REQUEST_LEAD: u8 = 17;
 pub const REQUEST_SIZE: usize = 24;
 
 // Letters by their code. A number can hold more than its field can show.
+#[repr(C)]
 pub struct StaticRequest {
     pub requester: u8,
     pub number: u32,

@@ -49,6 +49,25 @@ module _ (cells marks s : List ℕ) where
   unfoldable pub listOf : List ℕ
   listOf = cond short (listText after counts) tooLong
 
+  -- ---- on an output of so many bytes
+
+  module _ (out : List ℕ) where
+    abbrev pub fits : Bool
+    fits = leb (length listOf) (length out)
+
+    -- the size of the list
+    abbrev pub listed : Told ℕ
+    listed = tried fits ROOM 0 (gives (length listOf))
+
+    abbrev pub outAfter : List ℕ
+    outAfter = cond fits (listOf ++ drop (length listOf) out) out
+
+    abbrev pub cellsAfter : List ℕ
+    cellsAfter = cond (fits && short) (after .cells) cells
+
+    abbrev pub marksAfter : List ℕ
+    marksAfter = cond (fits && short) (after .marks) marks
+
 -- ---- the call
 
 abbrev pub listTold : ListAnswer → Told ℕ
@@ -57,7 +76,7 @@ listTold Room = refuses ROOM 0
 
 -- what is promised of listing s to an output: the answer, and every byte and mark that is lent
 pub record Listed (lent-cells lent-marks s out : List ℕ) (answer : ListAnswer) (cells′ marks′ out′ : List ℕ) : Type 0 where
-  pub told : listTold answer ≡ tried (leb (length (listOf lent-cells lent-marks s)) (length out)) ROOM 0 (gives (length (listOf lent-cells lent-marks s)))
-  pub bytes : out′ ≡ cond (leb (length (listOf lent-cells lent-marks s)) (length out)) (listOf lent-cells lent-marks s ++ drop (length (listOf lent-cells lent-marks s)) out) out
-  pub cells : cells′ ≡ cond (leb (length (listOf lent-cells lent-marks s)) (length out) && short lent-cells lent-marks s) (after lent-cells lent-marks s .cells) lent-cells
-  pub marks : marks′ ≡ cond (leb (length (listOf lent-cells lent-marks s)) (length out) && short lent-cells lent-marks s) (after lent-cells lent-marks s .marks) lent-marks
+  pub told : listTold answer ≡ listed lent-cells lent-marks s out
+  pub bytes : out′ ≡ outAfter lent-cells lent-marks s out
+  pub cells : cells′ ≡ cellsAfter lent-cells lent-marks s out
+  pub marks : marks′ ≡ marksAfter lent-cells lent-marks s out

@@ -9,6 +9,7 @@ pub enum Running {
 }
 
 // The numbers that running time goes by. Taux is its sign (0 plus, 1 minus), days and time.
+#[repr(C)]
 pub struct RunningOf {
     pub bib: u32,
     pub tnow: u32,

@@ -1,0 +1,9 @@
+pub mod Rows
+pub mod Views
+pub mod Steps
+pub mod Outs
+pub mod LentLaws
+pub mod NumberLaws
+pub mod TimingLaws
+pub mod Tells
+pub mod Unique

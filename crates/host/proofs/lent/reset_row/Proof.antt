@@ -1,0 +1,14 @@
+-- `host::lent::reset_row` meets its contract. Assumes nothing.
+use Rattle.host.proofs.NumberLaws.{reset-is}
+use borrow.Author.Needs.{needs}
+use Rattle.host.proofs.lent.reset_row.Statement.{statement}
+use Rattle.host.proofs.lent.reset_row.Tie as tie
+
+reset-requires : tie.Need-reset-requires
+reset-requires c κs = search needs
+
+returns : tie.Need-returns
+returns c = reset-is (c .before .before .before .args .row) _ (c .before .before .before .args .desk) _ (search needs) (c .before .before .reset .ensures .0) (c .before .before .reset .ensures .1)
+
+pub reset-row-spec : {M : Type 1} → statement M
+reset-row-spec = tie.close (tie.spec reset-requires returns)

@@ -1,0 +1,262 @@
+/* Captures: the finder, and the example taken frame by frame, at once, and as a list. */
+#include <string.h>
+
+#include "check.h"
+#include "example.h"
+#include "made.h"
+#include "tests.h"
+
+enum { GUARD = 32, ROW = REI2_SEATS * sizeof(rei2_seat), CELLS = REI2_CELLS * REI2_CELL_SIZE };
+
+/* All that is lent, with guard bytes before, between and behind. */
+struct lent {
+    uint8_t before[GUARD];
+    rei2_seat seats[REI2_SEATS];
+    uint8_t behind_seats[GUARD];
+    uint8_t cells[CELLS];
+    uint8_t behind_cells[GUARD];
+    uint32_t marks[REI2_CELLS];
+    uint8_t behind_marks[GUARD];
+    uint8_t out[REI2_LONGEST_LIST];
+    uint8_t behind[GUARD];
+};
+
+/* What is lent, and what is to be in it. */
+static struct lent lent, wanted;
+
+static void fill_lent(void) {
+    fill(&lent, sizeof lent, 3);
+    memcpy(&wanted, &lent, sizeof lent);
+}
+
+static rei2_desk empty_desk(void) {
+    fill_lent();
+    rei2_desk_answer answer = rei2_reset(lent.seats, REI2_SEATS, (rei2_desk){77, 77});
+    SAYS(answer, REI2_DONE, 0);
+    memset(wanted.seats, 0, ROW);
+    return answer.desk;
+}
+
+static void is_as_wanted(void) {
+    SAME(&lent, &wanted, sizeof lent);
+}
+
+/* ---- the example */
+
+/* The three replies that the example's desk takes stand at these places of the capture. */
+static void want_example_cells(void) {
+    memcpy(wanted.cells, example_capture + 48, 3 * REI2_CELL_SIZE);
+    wanted.marks[0] = 0;
+    wanted.marks[1] = 1;
+    wanted.marks[2] = 0;
+}
+
+static void want_example(void) {
+    wanted.seats[0] = (rei2_seat){'1', 7, 2, 1};
+    wanted.seats[1] = (rei2_seat){'A', 12, 1, 1};
+    want_example_cells();
+}
+
+/* A frame of the example, and what it is answered. */
+struct step {
+    size_t start;
+    size_t end;
+    uint32_t number;
+    size_t seat;
+    rei2_seat seats[2];
+};
+
+static const struct step steps[] = {
+    {0, 24, REI2_DONE, 0, {{'1', 7, 0, 0}, {0, 0, 0, 0}}},
+    {24, 48, REI2_DONE, 1, {{'1', 7, 0, 0}, {'A', 12, 0, 0}}},
+    {48, 99, REI2_DONE, 0, {{'1', 7, 1, 0}, {'A', 12, 0, 0}}},
+    {99, 150, REI2_DONE, 1, {{'1', 7, 1, 0}, {'A', 12, 1, 1}}},
+    {150, 201, REI2_DONE, 0, {{'1', 7, 2, 1}, {'A', 12, 1, 1}}},
+    {201, 252, REI2_ENDED, 0, {{'1', 7, 2, 1}, {'A', 12, 1, 1}}},
+};
+enum { STEPS = sizeof steps / sizeof steps[0] };
+
+static rei2_desk_answer met(rei2_desk desk, const uint8_t *frame, size_t size) {
+    if (frame[0] == REI2_REQUEST_LEAD) {
+        return rei2_open(lent.seats, REI2_SEATS, desk, lent.cells, CELLS, lent.marks, REI2_CELLS, frame, size);
+    }
+    return rei2_reply(lent.seats, REI2_SEATS, desk, lent.cells, CELLS, lent.marks, REI2_CELLS, frame, size);
+}
+
+/* What a step changes: the seats, and with a reply that is taken a cell and its mark. */
+static void want_step(const struct step *step, uint32_t count) {
+    memcpy(wanted.seats, step->seats, sizeof step->seats);
+    if (example_capture[step->start] == REI2_REPLY_LEAD && step->number == REI2_DONE) {
+        memcpy(wanted.cells + count * REI2_CELL_SIZE, example_capture + step->start, REI2_CELL_SIZE);
+        wanted.marks[count] = (uint32_t)step->seat;
+    }
+}
+
+static void example_by_frames(void) {
+    rei2_desk desk = empty_desk();
+    size_t at = 0;
+    for (size_t i = 0; i < STEPS; i++) {
+        rei2_frame_answer found = rei2_next_frame(example_capture, EXAMPLE_CAPTURE, at);
+        CHECK(found.kind == REI2_WHOLE && found.start == steps[i].start && found.end == steps[i].end);
+        CHECK(found.next == found.end);
+        rei2_desk_answer answer = met(desk, example_capture + found.start, found.end - found.start);
+        SAYS(answer, steps[i].number, 0);
+        CHECK(answer.seat == steps[i].seat);
+        want_step(&steps[i], desk.count);
+        is_as_wanted();
+        desk = answer.desk;
+        at = found.next;
+    }
+    CHECK(rei2_next_frame(example_capture, EXAMPLE_CAPTURE, at).kind == REI2_NOTHING);
+    CHECK(desk.bits == 3 && desk.count == 3);
+    want_example();
+    is_as_wanted();
+}
+
+static rei2_captured_answer captured(rei2_desk desk, const uint8_t *capture, size_t size) {
+    return rei2_capture(lent.seats, REI2_SEATS, desk, lent.cells, CELLS, lent.marks, REI2_CELLS, capture, size);
+}
+
+static int counts_are(rei2_counts c, size_t opened, size_t collected, size_t dynamic, size_t refused) {
+    return c.opened == opened && c.collected == collected && c.dynamic == dynamic && c.refused == refused;
+}
+
+static void example_at_once(void) {
+    rei2_captured_answer answer = captured(empty_desk(), example_capture, EXAMPLE_CAPTURE);
+    SAYS(answer, REI2_DONE, 0);
+    CHECK(answer.desk.bits == 3 && answer.desk.count == 3);
+    CHECK(counts_are(answer.counts, 2, 3, 0, 1));
+    want_example();
+    is_as_wanted();
+}
+
+/* In two parts, the state handed on between them. */
+static void example_in_parts(void) {
+    rei2_captured_answer first = captured(empty_desk(), example_capture, 99);
+    CHECK(counts_are(first.counts, 2, 1, 0, 0));
+    rei2_captured_answer last = captured(first.desk, example_capture + 99, EXAMPLE_CAPTURE - 99);
+    SAYS(last, REI2_DONE, 0);
+    CHECK(counts_are(last.counts, 0, 2, 0, 1));
+    CHECK(last.desk.bits == 3 && last.desk.count == 3);
+    want_example();
+    is_as_wanted();
+}
+
+/* Cut and damaged frames, a dynamic request, and bytes between frames. */
+static void every_count(void) {
+    static uint8_t capture[256];
+    uint8_t *at = capture;
+    *at++ = '\r';
+    make_request(at, '1', "007");
+    at += REI2_REQUEST_SIZE;
+    memcpy(at, "\n\n\021R 2", 6);
+    at += 6;
+    make_dynamic(at);
+    at += REI2_DYNAMIC_SIZE;
+    memcpy(at, "\023\r\022\r\021R\r\021", 8);
+    at += 8;
+    rei2_captured_answer answer = captured(empty_desk(), capture, (size_t)(at - capture));
+    SAYS(answer, REI2_DONE, 0);
+    CHECK(counts_are(answer.counts, 1, 0, 1, 5));
+    wanted.seats[0] = (rei2_seat){'1', 7, 0, 0};
+    is_as_wanted();
+}
+
+/* ---- the list */
+
+static rei2_listed_answer list(const uint8_t *capture, size_t size, size_t room) {
+    return rei2_list(capture, size, lent.cells, CELLS, lent.marks, REI2_CELLS, lent.out, room);
+}
+
+static void is_listed(rei2_listed_answer answer, const void *text, size_t size) {
+    SAYS(answer, REI2_DONE, 0);
+    CHECK(answer.size == size);
+    memcpy(wanted.out, text, size);
+    is_as_wanted();
+}
+
+static void lists_nothing(rei2_listed_answer answer) {
+    SAYS(answer, REI2_ROOM, 0);
+    CHECK(answer.size == 0);
+    is_as_wanted();
+}
+
+static void example_list_is_stored(void) {
+    fill_lent();
+    lists_nothing(list(example_capture, EXAMPLE_CAPTURE, EXAMPLE_LIST - 1));
+    lists_nothing(list(example_capture, EXAMPLE_CAPTURE, 0));
+    want_example_cells();
+    is_listed(list(example_capture, EXAMPLE_CAPTURE, EXAMPLE_LIST), example_list, EXAMPLE_LIST);
+    is_listed(list(example_capture, EXAMPLE_CAPTURE, REI2_LONGEST_LIST), example_list, EXAMPLE_LIST);
+    rei2_listed_answer answer = rei2_list(example_capture, EXAMPLE_CAPTURE, lent.cells, CELLS, lent.marks, REI2_CELLS,
+                                          NULL, 0);
+    lists_nothing(answer);
+}
+
+/* The first line of every list. */
+enum { HEADING = 62 };
+
+/* With fewer cells than replies the others are refused. */
+static void example_in_one_cell(void) {
+    static const char one[] = "0\t1\t007\t00015\t000\t002\t000\t000\tP\t0000000000\t00000000\tR\nend\t2\t1\t0\t3\n";
+    fill_lent();
+    memcpy(wanted.cells, example_capture + 48, REI2_CELL_SIZE);
+    wanted.marks[0] = 0;
+    memcpy(wanted.out, example_list, HEADING);
+    memcpy(wanted.out + HEADING, one, sizeof one - 1);
+    rei2_listed_answer answer = rei2_list(example_capture, EXAMPLE_CAPTURE, lent.cells, 2 * REI2_CELL_SIZE - 1,
+                                          lent.marks, REI2_CELLS, lent.out, REI2_LONGEST_LIST);
+    SAYS(answer, REI2_DONE, 0);
+    CHECK(answer.size == HEADING + sizeof one - 1);
+    is_as_wanted();
+}
+
+/* A capture of the most bytes is listed, one more gives a line of its own. */
+static void long_input(void) {
+    static uint8_t noise[REI2_MOST_INPUT + 1], nothing[HEADING + 12];
+    memcpy(nothing, example_list, HEADING);
+    memcpy(nothing + HEADING, "end\t0\t0\t0\t0\n", 12);
+    fill_lent();
+    is_listed(list(noise, REI2_MOST_INPUT, REI2_LONGEST_LIST), nothing, sizeof nothing);
+    is_listed(list(NULL, 0, REI2_LONGEST_LIST), nothing, sizeof nothing);
+    fill_lent();
+    memcpy(noise, example_capture, EXAMPLE_CAPTURE);
+    lists_nothing(list(noise, REI2_MOST_INPUT + 1, 14));
+    is_listed(list(noise, REI2_MOST_INPUT + 1, 15), "input too long\n", 15);
+}
+
+/* ---- the finder */
+
+static void finds(const char *capture, size_t size, size_t at, rei2_frame_answer wants) {
+    rei2_frame_answer got = rei2_next_frame((const uint8_t *)capture, size, at);
+    CHECK(got.kind == wants.kind && got.start == wants.start && got.end == wants.end && got.next == wants.next);
+}
+
+static void finder(void) {
+    static const rei2_frame_answer nothing = {REI2_NOTHING, 0, 0, 0};
+    static const char capture[] = "ab\rc\021xy\r\022z\023\r\r\021";
+    enum { SIZE = sizeof capture - 1 };
+    finds(NULL, 0, 0, nothing);
+    finds(NULL, 0, SIZE_MAX, nothing);
+    finds(capture, 4, 0, nothing);
+    finds(capture, 5, 0, (rei2_frame_answer){REI2_CUT, 4, 5, 5});
+    finds(capture, 7, 0, (rei2_frame_answer){REI2_CUT, 4, 7, 7});
+    finds(capture, SIZE, 0, (rei2_frame_answer){REI2_WHOLE, 4, 8, 8});
+    finds(capture, SIZE, 4, (rei2_frame_answer){REI2_WHOLE, 4, 8, 8});
+    finds(capture, SIZE, 5, (rei2_frame_answer){REI2_CUT, 8, 10, 10});
+    finds(capture, SIZE, 10, (rei2_frame_answer){REI2_WHOLE, 10, 12, 12});
+    finds(capture, SIZE, 12, (rei2_frame_answer){REI2_CUT, 13, 14, 14});
+    finds(capture, SIZE, SIZE, nothing);
+    finds(capture, SIZE, SIZE_MAX, nothing);
+}
+
+void test_capture(void) {
+    finder();
+    example_by_frames();
+    example_at_once();
+    example_in_parts();
+    every_count();
+    example_list_is_stored();
+    example_in_one_cell();
+    long_input();
+}

@@ -1,0 +1,71 @@
+#include "check.h"
+
+#include <stdio.h>
+#include <string.h>
+
+static int passed, failed;
+static const char *tried;
+static int met[REI2_FULL + 1];
+
+/* Counts a check; says whether its failure is to be told, and tells where it stands. */
+static int fails(int good, struct place place) {
+    if (good) {
+        passed++;
+        return 0;
+    }
+    failed++;
+    printf("%s:%d: %s", place.file, place.line, place.text);
+    if (tried != NULL) {
+        printf(" [%s]", tried);
+    }
+    return 1;
+}
+
+void check(int good, struct place place) {
+    if (fails(good, place)) {
+        printf("\n");
+    }
+}
+
+void check_same(const void *got, const void *wanted, size_t size, struct place place) {
+    const uint8_t *a = got, *b = wanted;
+    size_t at = 0;
+    while (at < size && a[at] == b[at]) {
+        at++;
+    }
+    if (fails(at == size, place)) {
+        printf(": byte %d of %d is %d and not %d\n", (int)at, (int)size, a[at], b[at]);
+    }
+}
+
+void check_said(struct said got, struct said wanted, struct place place) {
+    if (got.number <= REI2_FULL) {
+        met[got.number] = 1;
+    }
+    if (fails(got.number == wanted.number && got.offset == wanted.offset, place)) {
+        printf(": says %u at %u and not %u at %u\n", got.number, got.offset, wanted.number, wanted.offset);
+    }
+}
+
+struct said said(struct said s) { return s; }
+struct said said_by_desk(rei2_desk_answer a) { return (struct said){a.number, a.offset}; }
+struct said said_captured(rei2_captured_answer a) { return (struct said){a.number, 0}; }
+struct said said_request(rei2_request_answer a) { return (struct said){a.number, a.offset}; }
+struct said said_reply(rei2_reply_answer a) { return (struct said){a.number, a.offset}; }
+struct said said_dynamic(rei2_dynamic_answer a) { return (struct said){a.number, a.offset}; }
+struct said said_written(rei2_written_answer a) { return (struct said){a.number, a.offset}; }
+struct said said_listed(rei2_listed_answer a) { return (struct said){a.number, 0}; }
+struct said said_running(rei2_running_answer a) { return (struct said){a.number, 0}; }
+
+void trying(const char *what) {
+    tried = what;
+}
+
+int was_said(uint32_t number) {
+    return number <= REI2_FULL && met[number];
+}
+
+int verdict(void) {
+    printf("c: %d passed, %d failed\n", passed, failed);
+    return passed == 0 || failed != 0;
+}

@@ -1,0 +1,64 @@
+/* Checks that count. A check that fails prints a line with file and line, and the test goes on. */
+#ifndef CHECK_H
+#define CHECK_H
+
+#include "rei2.h"
+
+/* Where a check stands, and what it was about. */
+struct place {
+    const char *file;
+    int line;
+    const char *text;
+};
+#define HERE(text) ((struct place){__FILE__, __LINE__, text})
+
+/* A fact holds. */
+#define CHECK(fact) check((fact) ? 1 : 0, HERE(#fact))
+
+/* Two runs of bytes are the same. */
+#define SAME(got, wanted, size) check_same(got, wanted, size, HERE(#got))
+
+/* An answer has this number and this offset; the number is noted as met. */
+#define SAYS(answer, number, offset) check_said(SAID(answer), (struct said){number, offset}, HERE(#answer))
+
+/* Number and offset of an answer; the offset is 0 where the answer has none. */
+struct said {
+    uint32_t number;
+    uint32_t offset;
+};
+#define SAID(answer)                         \
+    _Generic((answer),                       \
+        struct said: said,                   \
+        rei2_desk_answer: said_by_desk,      \
+        rei2_captured_answer: said_captured, \
+        rei2_request_answer: said_request,   \
+        rei2_reply_answer: said_reply,       \
+        rei2_dynamic_answer: said_dynamic,   \
+        rei2_written_answer: said_written,   \
+        rei2_listed_answer: said_listed,     \
+        rei2_running_answer: said_running)(answer)
+
+struct said said(struct said s);
+struct said said_by_desk(rei2_desk_answer a);
+struct said said_captured(rei2_captured_answer a);
+struct said said_request(rei2_request_answer a);
+struct said said_reply(rei2_reply_answer a);
+struct said said_dynamic(rei2_dynamic_answer a);
+struct said said_written(rei2_written_answer a);
+struct said said_listed(rei2_listed_answer a);
+struct said said_running(rei2_running_answer a);
+
+void check(int good, struct place place);
+void check_same(const void *got, const void *wanted, size_t size, struct place place);
+void check_said(struct said got, struct said wanted, struct place place);
+
+/* What is tried now, for the lines of checks that stand in a loop; null for nothing. */
+void trying(const char *what);
+
+/* Has a call answered with this number? */
+int was_said(uint32_t number);
+
+/* Prints the counts. Gives the exit status: 0 where checks ran and none failed. */
+int verdict(void);
+
+#endif

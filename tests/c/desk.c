@@ -1,0 +1,234 @@
+/* Openings and replies on a good desk: what they answer, in which order they refuse, what they leave of the memory. */
+#include <string.h>
+
+#include "made.h"
+#include "table.h"
+#include "tests.h"
+
+static struct table now;
+
+/* ---- openings */
+
+static void an_opening_takes_the_lowest_seat(void) {
+    table_emptied(&now);
+    now.desk.bits = 5;
+    now.memory.seats[0] = (rei2_seat){'1', 1, 0, 0};
+    now.memory.seats[2] = (rei2_seat){'1', 2, 0, 0};
+    rei2_desk_answer answer = table_opens(&now, 'Z', "042");
+    SAYS(answer, REI2_DONE, 0);
+    CHECK(answer.seat == 1 && answer.desk.bits == 7 && answer.desk.count == 0);
+    now.was.seats[1] = (rei2_seat){'Z', 42, 0, 0};
+    KEPT(&now);
+}
+
+/* A request whose byte at `at` is `byte`. */
+static rei2_desk_answer opens_with(size_t at, char byte) {
+    uint8_t frame[REI2_REQUEST_SIZE];
+    make_request(frame, '1', "007");
+    frame[at] = (uint8_t)byte;
+    return table_open(&now, frame, sizeof frame);
+}
+
+static void openings_are_refused_in_order(void) {
+    table_laid(&now);
+    REFUSED(&now, opens_with(0, REI2_REPLY_LEAD), REI2_KIND, 0);
+    REFUSED(&now, table_open(&now, (const uint8_t *)"\021R", 2), REI2_LENGTH, 0);
+    REFUSED(&now, opens_with(23, '\n'), REI2_END, 0);
+    REFUSED(&now, opens_with(1, 'r'), REI2_ADDRESS, 0);
+    REFUSED(&now, opens_with(22, 'C'), REI2_FIELD, 22);
+    REFUSED(&now, opens_with(12, 'q'), REI2_NO_ANSWER_DUE, 0);
+    REFUSED(&now, opens_with(12, 'P'), REI2_IN_USE, 0);
+    REFUSED(&now, table_opens(&now, 'a', "999"), REI2_IN_USE, 0);
+}
+
+static void sixteen_seats_and_no_more(void) {
+    static const char letters[] = "0123456789ABYZaz";
+    table_emptied(&now);
+    for (uint32_t i = 0; i < REI2_SEATS; i++) {
+        rei2_desk_answer answer = table_opens(&now, letters[i], "500");
+        SAYS(answer, REI2_DONE, 0);
+        CHECK(answer.seat == i);
+        CHECK(rei2_seats_in_use(answer.desk) == i + 1);
+        now.was.seats[i] = (rei2_seat){(uint8_t)letters[i], 500, 0, 0};
+        KEPT(&now);
+    }
+    CHECK(now.desk.bits == 0xffff);
+    REFUSED(&now, table_opens(&now, 'k', "500"), REI2_NO_SEAT, 0);
+    REFUSED(&now, table_opens(&now, 'z', "500"), REI2_IN_USE, 0);
+}
+
+/* ---- replies */
+
+static void a_reply_goes_to_the_next_cell(void) {
+    table_laid(&now);
+    rei2_desk_answer answer = table_takes(&now, 'E', 'A', "00012");
+    SAYS(answer, REI2_DONE, 0);
+    CHECK(answer.seat == 1 && answer.desk.bits == 15 && answer.desk.count == 5);
+    now.was.seats[1] = (rei2_seat){'A', 12, 2, 1};
+    memcpy(now.was.cells + 4 * REI2_CELL_SIZE, now.memory.input, REI2_CELL_SIZE);
+    now.was.marks[4] = 1;
+    KEPT(&now);
+}
+
+/* A reply to seat 1 whose byte at `at` is `byte`. */
+static rei2_desk_answer replies_with(size_t at, char byte) {
+    uint8_t frame[REI2_REPLY_SIZE];
+    make_reply(frame, 'R', 'A', "00012");
+    frame[at] = (uint8_t)byte;
+    return table_reply(&now, frame, sizeof frame);
+}
+
+static void replies_are_refused_in_order(void) {
+    table_laid(&now);
+    REFUSED(&now, replies_with(0, REI2_DYNAMIC_LEAD), REI2_KIND, 0);
+    REFUSED(&now, table_reply(&now, (const uint8_t *)"\022R", 2), REI2_LENGTH, 0);
+    REFUSED(&now, replies_with(50, '\n'), REI2_END, 0);
+    REFUSED(&now, replies_with(2, 'A'), REI2_ADDRESS, 0);
+    REFUSED(&now, replies_with(29, 'L'), REI2_FIELD, 29);
+    REFUSED(&now, replies_with(6, 'B'), REI2_STRAY, 0);
+    REFUSED(&now, replies_with(7, '1'), REI2_STRAY, 0);
+    REFUSED(&now, table_takes(&now, 'R', '1', "00007"), REI2_ENDED, 0);
+    REFUSED(&now, table_takes(&now, 'Z', '1', "00007"), REI2_ENDED, 0);
+    REFUSED(&now, table_takes(&now, 'Z', 'a', "00999"), REI2_ENDED, 0);
+    REFUSED(&now, table_takes(&now, 'Z', 'A', "00012"), REI2_OUT_OF_PLACE, 0);
+}
+
+static void a_full_desk_refuses_last(void) {
+    table_laid(&now);
+    SAYS(table_takes(&now, 'R', 'A', "00012"), REI2_DONE, 0);
+    SAYS(table_takes(&now, 'R', 'z', "00000"), REI2_DONE, 0);
+    REFUSED(&now, table_takes(&now, 'R', 'A', "00012"), REI2_FULL, 0);
+    REFUSED(&now, table_takes(&now, 'Z', 'A', "00012"), REI2_OUT_OF_PLACE, 0);
+    REFUSED(&now, table_takes(&now, 'R', '1', "00007"), REI2_ENDED, 0);
+    REFUSED(&now, table_takes(&now, 'R', '9', "00007"), REI2_STRAY, 0);
+    REFUSED(&now, replies_with(20, 'x'), REI2_FIELD, 20);
+    SAYS(table_opens(&now, 'c', "001"), REI2_DONE, 0);
+}
+
+/* A desk that is lent a cell and a mark more than it can hold, with one seat open. */
+enum { MORE = REI2_CELLS + 1 };
+static rei2_seat seats[REI2_SEATS];
+static uint8_t cells[MORE * REI2_CELL_SIZE];
+static uint32_t marks[MORE];
+
+static rei2_desk one_seat(void) {
+    uint8_t frame[REI2_REQUEST_SIZE];
+    make_request(frame, '1', "007");
+    rei2_desk desk = rei2_reset(seats, REI2_SEATS, (rei2_desk){1, 1}).desk;
+    return rei2_open(seats, REI2_SEATS, desk, cells, sizeof cells, marks, MORE, frame, sizeof frame).desk;
+}
+
+static rei2_desk_answer one_more(rei2_desk desk) {
+    uint8_t frame[REI2_REPLY_SIZE];
+    make_reply(frame, 'R', '1', "00007");
+    return rei2_reply(seats, REI2_SEATS, desk, cells, sizeof cells, marks, MORE, frame, sizeof frame);
+}
+
+static void no_more_than_256_cells(void) {
+    rei2_desk desk = one_seat();
+    for (uint32_t i = 0; i < REI2_CELLS; i++) {
+        rei2_desk_answer answer = one_more(desk);
+        SAYS(answer, REI2_DONE, 0);
+        desk = answer.desk;
+    }
+    SAYS(one_more(desk), REI2_FULL, 0);
+    CHECK(desk.count == REI2_CELLS && seats[0].held == REI2_CELLS && seats[0].ended == 0);
+    CHECK(cells[REI2_CELLS * REI2_CELL_SIZE] == 0);
+    CHECK(rei2_next_held(desk, cells, sizeof cells, marks, MORE, 0, 255).cell == 255);
+    CHECK(rei2_next_held(desk, cells, sizeof cells, marks, MORE, 0, 256).found == 0);
+    memcpy(cells + REI2_CELLS * REI2_CELL_SIZE, cells, REI2_CELL_SIZE);
+    seats[0].held = MORE;
+    desk.count = MORE;
+    SAYS(one_more(desk), REI2_DESK, 0);
+}
+
+/* ---- numbers of a desk */
+
+static void seats_in_use_are_all_ones(void) {
+    CHECK(rei2_seats_in_use((rei2_desk){0, 7}) == 0);
+    CHECK(rei2_seats_in_use((rei2_desk){0x8001, 0}) == 2);
+    CHECK(rei2_seats_in_use((rei2_desk){~(uint64_t)0, 0}) == 64);
+}
+
+static void capacity_is_the_least(void) {
+    CHECK(rei2_capacity(0, 0) == 0);
+    CHECK(rei2_capacity(50, 9) == 0);
+    CHECK(rei2_capacity(51, 9) == 1);
+    CHECK(rei2_capacity(5 * 51, 4) == 4);
+    CHECK(rei2_capacity(REI2_CELLS * REI2_CELL_SIZE - 1, 300) == 255);
+    CHECK(rei2_capacity(SIZE_MAX, SIZE_MAX) == REI2_CELLS);
+}
+
+/* ---- reading records back */
+
+static rei2_cell_answer held(uint32_t seat, size_t from) {
+    return rei2_next_held(now.desk, now.memory.cells, now.cells_len, now.memory.marks, now.marks_len, seat, from);
+}
+
+/* The cells of a seat are these, and then there are no more. */
+static void holds(uint32_t seat, const size_t *cells, size_t count) {
+    size_t from = 0;
+    for (size_t i = 0; i < count; i++) {
+        rei2_cell_answer answer = held(seat, from);
+        CHECK(answer.found == 1 && answer.cell == cells[i]);
+        from = answer.cell + 1;
+    }
+    CHECK(held(seat, from).found == 0 && held(seat, from).cell == 0);
+}
+
+static void records_are_read_back(void) {
+    table_laid(&now);
+    holds(0, (const size_t[]){0, 3}, 2);
+    holds(1, (const size_t[]){1}, 1);
+    holds(2, NULL, 0);
+    holds(3, (const size_t[]){2}, 1);
+    CHECK(held(0, 1).cell == 3 && held(0, 3).cell == 3);
+    CHECK(held(0, SIZE_MAX).found == 0);
+    CHECK(held(now.memory.marks[4], 4).found == 0);
+    CHECK(now.memory.cells[3 * REI2_CELL_SIZE + 5] == 'E');
+}
+
+/* No state is refused, and nothing is read that is not lent. */
+static void any_state_is_read_back(void) {
+    table_laid(&now);
+    now.desk.count = UINT32_MAX;
+    now.marks_len = 3;
+    holds(0, (const size_t[]){0}, 1);
+    now.cells_len = 2 * REI2_CELL_SIZE;
+    holds(3, NULL, 0);
+}
+
+/* ---- null where the count is 0 */
+
+static void nothing_lent(void) {
+    uint8_t frame[REI2_REPLY_SIZE];
+    rei2_desk desk = rei2_reset(seats, REI2_SEATS, (rei2_desk){9, 9}).desk;
+    SAYS(rei2_reset(NULL, 0, desk), REI2_DESK, 0);
+    SAYS(rei2_open(NULL, 0, desk, NULL, 0, NULL, 0, NULL, 0), REI2_DESK, 0);
+    SAYS(rei2_reply(NULL, 0, desk, NULL, 0, NULL, 0, NULL, 0), REI2_DESK, 0);
+    SAYS(rei2_capture(NULL, 0, desk, NULL, 0, NULL, 0, NULL, 0), REI2_DESK, 0);
+    SAYS(rei2_open(seats, REI2_SEATS, desk, NULL, 0, NULL, 0, NULL, 0), REI2_KIND, 0);
+    SAYS(rei2_reply(seats, REI2_SEATS, desk, NULL, 0, NULL, 0, NULL, 0), REI2_KIND, 0);
+    SAYS(rei2_capture(seats, REI2_SEATS, desk, NULL, 0, NULL, 0, NULL, 0), REI2_DONE, 0);
+    make_request(frame, '1', "007");
+    rei2_desk_answer answer = rei2_open(seats, REI2_SEATS, desk, NULL, 0, NULL, 0, frame, REI2_REQUEST_SIZE);
+    SAYS(answer, REI2_DONE, 0);
+    make_reply(frame, 'R', '1', "00007");
+    SAYS(rei2_reply(seats, REI2_SEATS, answer.desk, NULL, 0, NULL, 0, frame, sizeof frame), REI2_FULL, 0);
+    CHECK(rei2_next_held(answer.desk, NULL, 0, NULL, 0, 0, 0).found == 0);
+}
+
+void test_desk(void) {
+    an_opening_takes_the_lowest_seat();
+    openings_are_refused_in_order();
+    sixteen_seats_and_no_more();
+    a_reply_goes_to_the_next_cell();
+    replies_are_refused_in_order();
+    a_full_desk_refuses_last();
+    no_more_than_256_cells();
+    seats_in_use_are_all_ones();
+    capacity_is_the_least();
+    records_are_read_back();
+    any_state_is_read_back();
+    nothing_lent();
+}

@@ -1,0 +1,475 @@
+/* The three kinds of frame, read and written. */
+#include <string.h>
+
+#include "check.h"
+#include "made.h"
+#include "tests.h"
+
+/* ---- what the readers have in common */
+
+/* What a reading says, and whether its record is the one that stands beside a refusal. */
+struct reading {
+    struct said said;
+    int empty;
+};
+
+static int zero_request(rei2_static_request r) {
+    return r.requester == 0 && r.number == 0 && r.bib == 0 && r.information == 0 && r.channel == 0 && r.run == 0 &&
+           r.group == 0 && r.output == 0;
+}
+
+static int zero_timing(rei2_timing_numbers t) {
+    return t.kind == REI2_RAW && t.ticks == 0 && t.day == 0 && t.month == 0 && t.year == 0 && t.net == 0;
+}
+
+static int zero_reply(rei2_reply_record r) {
+    static const uint8_t zero[10];
+    int bytes = r.program == 0 && r.mode == 0 && r.status == 0 && r.requester == 0 && r.information == 0;
+    int numbers = r.number == 0 && r.bib == 0 && r.group == 0 && r.run == 0 && r.physical == 0 && r.channel == 0;
+    int raw = !memcmp(r.raw_time, zero, 10) && !memcmp(r.raw_date, zero, 8) && !memcmp(r.spare, zero, 2);
+    return bytes && numbers && raw && zero_timing(r.timing);
+}
+
+static int zero_dynamic(rei2_dynamic_request r) {
+    int place = r.bib == 0 && r.channel == 0 && r.run == 0;
+    int stop = r.stop_bib == 0 && r.stop_channel == 0 && r.stop_run == 0;
+    int taux = r.sign == 0 && r.time == 0 && r.days == 0;
+    return r.requester == 0 && r.order == 0 && place && stop && taux && r.period == 0 && r.output == 0;
+}
+
+static struct reading read_request(const uint8_t *frame, size_t size) {
+    rei2_request_answer a = rei2_read_request(frame, size);
+    return (struct reading){SAID(a), zero_request(a.request)};
+}
+
+static struct reading read_reply(const uint8_t *frame, size_t size) {
+    rei2_reply_answer a = rei2_read_reply(frame, size);
+    return (struct reading){SAID(a), zero_reply(a.reply)};
+}
+
+static struct reading read_dynamic(const uint8_t *frame, size_t size) {
+    rei2_dynamic_answer a = rei2_read_dynamic(frame, size);
+    return (struct reading){SAID(a), zero_dynamic(a.request)};
+}
+
+/* Where the fields begin; a 0 behind the last. */
+static const uint8_t request_fields[] = {3, 4, 7, 12, 13, 16, 19, 22, 0};
+static const uint8_t reply_fields[] = {3, 4, 5, 6, 7, 12, 17, 20, 23, 26, 29, 30, 40, 48, 0};
+static const uint8_t dynamic_fields[] = {3, 4, 5, 10, 13, 16, 21, 24, 27, 28, 38, 39, 44, 0};
+
+/* A kind: its reader, its size, its fields, and a good frame. */
+struct kind {
+    const char *name;
+    struct reading (*read)(const uint8_t *, size_t);
+    size_t size;
+    const uint8_t *fields;
+    uint8_t frame[REI2_REPLY_SIZE];
+};
+
+static struct kind kinds[] = {
+    {"request", read_request, REI2_REQUEST_SIZE, request_fields, {0}},
+    {"reply", read_reply, REI2_REPLY_SIZE, reply_fields, {0}},
+    {"dynamic", read_dynamic, REI2_DYNAMIC_SIZE, dynamic_fields, {0}},
+};
+enum { KINDS = sizeof kinds / sizeof kinds[0] };
+
+static void make_kinds(void) {
+    make_request(kinds[0].frame, '1', "007");
+    make_reply(kinds[1].frame, 'R', '1', "00007");
+    make_dynamic(kinds[2].frame);
+}
+
+static void is_refused(struct reading r, uint32_t number, uint32_t offset) {
+    SAYS(r.said, number, offset);
+    CHECK(r.empty);
+}
+
+/* Empty, too short, too long, and good. */
+static void lengths(const struct kind *kind) {
+    uint8_t longer[REI2_REPLY_SIZE + 1] = {0};
+    memcpy(longer, kind->frame, kind->size);
+    is_refused(kind->read(NULL, 0), REI2_KIND, 0);
+    is_refused(kind->read(longer, 0), REI2_KIND, 0);
+    is_refused(kind->read(longer, 1), REI2_LENGTH, 0);
+    is_refused(kind->read(longer, kind->size - 1), REI2_LENGTH, 0);
+    is_refused(kind->read(longer, kind->size + 1), REI2_LENGTH, 0);
+    struct reading good = kind->read(longer, kind->size);
+    SAYS(good.said, REI2_DONE, 0);
+    CHECK(!good.empty);
+}
+
+/* Where the field that a byte belongs to begins. */
+static uint32_t field_of(const struct kind *kind, size_t at) {
+    const uint8_t *field = kind->fields;
+    while (field[1] != 0 && field[1] <= at) {
+        field++;
+    }
+    return *field;
+}
+
+/* A byte that no field takes, at every place. */
+static void damage(const struct kind *kind) {
+    uint8_t frame[REI2_REPLY_SIZE];
+    for (size_t at = 0; at < kind->size; at++) {
+        memcpy(frame, kind->frame, sizeof frame);
+        frame[at] = 0x80;
+        struct reading r = kind->read(frame, kind->size);
+        if (at == 0) {
+            is_refused(r, REI2_KIND, 0);
+        } else if (at == kind->size - 1) {
+            is_refused(r, REI2_END, 0);
+        } else if (at < 3) {
+            is_refused(r, REI2_ADDRESS, 0);
+        } else {
+            is_refused(r, REI2_FIELD, field_of(kind, at));
+        }
+    }
+}
+
+/* Frames of the other kinds. */
+static void other_kinds(const struct kind *kind) {
+    for (size_t i = 0; i < KINDS; i++) {
+        struct reading r = kind->read(kinds[i].frame, kinds[i].size);
+        if (kind != &kinds[i]) {
+            is_refused(r, REI2_KIND, 0);
+        }
+    }
+}
+
+/* What is wrong first is told: the end before the address, the address before a field, a field before a later one. */
+static void in_order(const struct kind *kind) {
+    uint8_t frame[REI2_REPLY_SIZE];
+    memcpy(frame, kind->frame, sizeof frame);
+    frame[kind->size - 2] = 0x80;
+    frame[3] = 0x80;
+    is_refused(kind->read(frame, kind->size), REI2_FIELD, 3);
+    frame[1] = 'S';
+    is_refused(kind->read(frame, kind->size), REI2_ADDRESS, 0);
+    frame[kind->size - 1] = '\n';
+    is_refused(kind->read(frame, kind->size), REI2_END, 0);
+    is_refused(kind->read(frame, kind->size - 1), REI2_LENGTH, 0);
+}
+
+static void reading(void) {
+    for (size_t i = 0; i < KINDS; i++) {
+        trying(kinds[i].name);
+        lengths(&kinds[i]);
+        damage(&kinds[i]);
+        other_kinds(&kinds[i]);
+        in_order(&kinds[i]);
+    }
+    trying(NULL);
+}
+
+/* ---- what the writers have in common: an output with bytes behind the frame */
+
+enum { OUT = 64 };
+static uint8_t out[OUT], out_was[OUT];
+
+static void clear_out(void) {
+    fill(out, OUT, 7);
+    memcpy(out_was, out, OUT);
+}
+
+/* The frame was written, and nothing behind it. */
+static void wrote(rei2_written_answer answer, const uint8_t *frame, size_t size) {
+    SAYS(answer, REI2_DONE, 0);
+    CHECK(answer.size == size);
+    memcpy(out_was, frame, size);
+    SAME(out, out_was, OUT);
+    clear_out();
+}
+
+/* It was not, and no byte of the output changed. */
+static void wrote_not(rei2_written_answer answer, uint32_t number, uint32_t offset) {
+    SAYS(answer, number, offset);
+    CHECK(answer.size == 0);
+    SAME(out, out_was, OUT);
+    clear_out();
+}
+
+/* ---- the static request */
+
+static void request_record(void) {
+    rei2_static_request r = rei2_read_request(kinds[0].frame, REI2_REQUEST_SIZE).request;
+    CHECK(r.requester == '1' && r.number == 7 && r.bib == 0 && r.information == 'P');
+    CHECK(r.channel == 0 && r.run == 2 && r.group == 0 && r.output == 'S');
+}
+
+static void request_written(void) {
+    const uint8_t *frame = (const uint8_t *)"\021R z99959999*255250199T\r";
+    rei2_static_request r = rei2_read_request(frame, REI2_REQUEST_SIZE).request;
+    wrote(rei2_write_request(r, out, OUT), frame, REI2_REQUEST_SIZE);
+    wrote(rei2_write_request(r, out, REI2_REQUEST_SIZE), frame, REI2_REQUEST_SIZE);
+    wrote_not(rei2_write_request(r, out, REI2_REQUEST_SIZE - 1), REI2_ROOM, 0);
+    wrote_not(rei2_write_request(r, NULL, 0), REI2_ROOM, 0);
+}
+
+/* Each part wrong from the last to the first: the first wrong part is told, and RECORD before ROOM. */
+static void request_parts(void) {
+    rei2_static_request r = rei2_read_request(kinds[0].frame, REI2_REQUEST_SIZE).request;
+    r.output = 'C';
+    wrote_not(rei2_write_request(r, out, OUT), REI2_RECORD, 22);
+    r.group = 200;
+    wrote_not(rei2_write_request(r, out, OUT), REI2_RECORD, 19);
+    r.run = 251;
+    wrote_not(rei2_write_request(r, out, OUT), REI2_RECORD, 16);
+    r.channel = 250;
+    wrote_not(rei2_write_request(r, out, OUT), REI2_RECORD, 13);
+    r.information = 'U';
+    wrote_not(rei2_write_request(r, out, OUT), REI2_RECORD, 12);
+    r.bib = 60000;
+    wrote_not(rei2_write_request(r, out, OUT), REI2_RECORD, 7);
+    r.number = 1000;
+    wrote_not(rei2_write_request(r, out, OUT), REI2_RECORD, 4);
+    r.requester = '[';
+    wrote_not(rei2_write_request(r, out, OUT), REI2_RECORD, 3);
+    wrote_not(rei2_write_request(r, NULL, 0), REI2_RECORD, 3);
+}
+
+/* ---- the static reply */
+
+static const uint8_t clock_frame[] =
+    "\022R " "S" "O" "E" "A" "00012" "00041" "000" "001" "015" "255" "0" "2359599999" "29022024" "ab" "\r";
+static const uint8_t net_frame[] =
+    "\022R " "S" "O" "E" "A" "00012" "00041" "000" "001" "015" "255" "1" "2359590000" "-0000001" "  " "\r";
+static const uint8_t raw_frame[] =
+    "\022R " " " "~" "Z" "A" "99999" "59999" "199" "000" "999" "250" "0" "any bytes " "at all !" "~ " "\r";
+
+static rei2_reply_record reply_in(const uint8_t *frame) {
+    rei2_reply_answer answer = rei2_read_reply(frame, REI2_REPLY_SIZE);
+    SAYS(answer, REI2_DONE, 0);
+    return answer.reply;
+}
+
+static int no_raw(rei2_reply_record r) {
+    static const uint8_t zero[10];
+    return !memcmp(r.raw_time, zero, 10) && !memcmp(r.raw_date, zero, 8);
+}
+
+static int timing_is(rei2_timing_numbers t, rei2_timing_numbers w) {
+    return t.kind == w.kind && t.ticks == w.ticks && t.day == w.day && t.month == w.month && t.year == w.year &&
+           t.net == w.net;
+}
+
+static void reply_records(void) {
+    rei2_reply_record r = reply_in(clock_frame);
+    CHECK(r.program == 'S' && r.mode == 'O' && r.status == 'E' && r.requester == 'A' && r.number == 12 && r.bib == 41);
+    CHECK(r.group == 0 && r.run == 1 && r.physical == 15 && r.channel == 255 && r.information == '0');
+    CHECK(timing_is(r.timing, (rei2_timing_numbers){REI2_CLOCK, 863999999, 29, 2, 2024, 0}));
+    CHECK(no_raw(r) && r.spare[0] == 'a' && r.spare[1] == 'b');
+    r = reply_in(net_frame);
+    CHECK(timing_is(r.timing, (rei2_timing_numbers){REI2_NET, 0, 0, 0, 0, -10000}) && no_raw(r));
+    r = reply_in(raw_frame);
+    CHECK(r.program == ' ' && r.mode == '~' && r.number == 99999 && r.bib == 59999 && r.group == 199 && r.run == 0);
+    CHECK(r.physical == 999 && r.channel == 250);
+    CHECK(timing_is(r.timing, (rei2_timing_numbers){REI2_RAW, 0, 0, 0, 0, 0}));
+    SAME(r.raw_time, raw_frame + 30, 10);
+    SAME(r.raw_date, raw_frame + 40, 8);
+    SAME(r.spare, raw_frame + 48, 2);
+}
+
+static void reply_written(void) {
+    const uint8_t *const frames[] = {clock_frame, net_frame, raw_frame};
+    for (size_t i = 0; i < 3; i++) {
+        rei2_reply_record r = reply_in(frames[i]);
+        wrote(rei2_write_reply(r, out, OUT), frames[i], REI2_REPLY_SIZE);
+        wrote(rei2_write_reply(r, out, REI2_REPLY_SIZE), frames[i], REI2_REPLY_SIZE);
+        wrote_not(rei2_write_reply(r, out, REI2_REPLY_SIZE - 1), REI2_ROOM, 0);
+        wrote_not(rei2_write_reply(r, NULL, 0), REI2_ROOM, 0);
+    }
+}
+
+static void reply_refused(rei2_reply_record r, uint32_t offset) {
+    wrote_not(rei2_write_reply(r, out, OUT), REI2_RECORD, offset);
+}
+
+/* The parts before the time, from the last to the first. */
+static void reply_parts(void) {
+    rei2_reply_record r = reply_in(clock_frame);
+    r.information = 'L';
+    reply_refused(r, 29);
+    r.channel = 251;
+    reply_refused(r, 26);
+    r.physical = 1000;
+    reply_refused(r, 23);
+    r.run = 0;
+    reply_refused(r, 20);
+    r.group = 200;
+    reply_refused(r, 17);
+    r.bib = 60000;
+    reply_refused(r, 12);
+    r.number = 100000;
+    reply_refused(r, 7);
+    r.requester = '_';
+    reply_refused(r, 6);
+    r.status = 'r';
+    reply_refused(r, 5);
+    r.mode = 127;
+    reply_refused(r, 4);
+    r.program = 31;
+    reply_refused(r, 3);
+}
+
+/* Time and date that are none, and left-over raw bytes, from the last to the first. */
+static void reply_clock(void) {
+    rei2_reply_record r = reply_in(clock_frame);
+    r.raw_date[7] = 1;
+    reply_refused(r, 50);
+    r.raw_date[7] = 0;
+    r.raw_time[0] = ' ';
+    reply_refused(r, 50);
+    r.spare[1] = 0;
+    reply_refused(r, 48);
+    r.timing.year = 2023;
+    reply_refused(r, 40);
+    r.timing.ticks = 864000000;
+    reply_refused(r, 30);
+}
+
+static void reply_net(void) {
+    rei2_reply_record r = reply_in(net_frame);
+    r.raw_time[9] = '0';
+    reply_refused(r, 50);
+    r.spare[0] = 200;
+    reply_refused(r, 48);
+    r.timing.net = (int64_t)10000000 * 864000000;
+    reply_refused(r, 40);
+    r.timing.net = INT64_MIN;
+    reply_refused(r, 40);
+    r = reply_in(net_frame);
+    r.timing.net = (int64_t)9999999 * 864000000 + 863999999;
+    SAYS(rei2_write_reply(r, out, OUT), REI2_DONE, 0);
+    SAME(out + 30, "2359599999+9999999", 18);
+    clear_out();
+}
+
+static void reply_raw(void) {
+    rei2_reply_record r = reply_in(raw_frame);
+    r.spare[1] = '\r';
+    reply_refused(r, 48);
+    r.raw_date[0] = 0;
+    reply_refused(r, 40);
+    r.raw_time[9] = 127;
+    reply_refused(r, 30);
+}
+
+/* A timing of another kind, a code above 2, and numbers that the kind does not use. */
+static void reply_timing(void) {
+    const uint8_t *const frames[] = {clock_frame, net_frame, raw_frame};
+    for (uint32_t i = 0; i < 3; i++) {
+        rei2_reply_record good = reply_in(frames[i]), r = good;
+        for (uint32_t kind = 0; kind < 5; kind++) {
+            r.timing = (rei2_timing_numbers){kind, 0, 0, 0, 0, 0};
+            if (kind != i) {
+                reply_refused(r, 30);
+            }
+        }
+        r = good;
+        r.timing.kind = UINT32_MAX;
+        reply_refused(r, 30);
+        r.bib = 60000;
+        reply_refused(r, 12);
+    }
+}
+
+static void reply_left_over(void) {
+    rei2_reply_record r = reply_in(clock_frame);
+    r.timing.net = 1;
+    reply_refused(r, 30);
+    for (int i = 0; i < 2; i++) {
+        const uint8_t *frame = i == 0 ? net_frame : raw_frame;
+        r = reply_in(frame);
+        r.timing.ticks = 1;
+        reply_refused(r, 30);
+        r = reply_in(frame);
+        r.timing.day = 1;
+        reply_refused(r, 30);
+        r = reply_in(frame);
+        r.timing.month = 1;
+        reply_refused(r, 30);
+        r = reply_in(frame);
+        r.timing.year = 2024;
+        reply_refused(r, 30);
+    }
+    r = reply_in(raw_frame);
+    r.timing.net = -1;
+    reply_refused(r, 30);
+}
+
+/* ---- the dynamic request */
+
+static void dynamic_record(void) {
+    rei2_dynamic_request r = rei2_read_dynamic(kinds[2].frame, REI2_DYNAMIC_SIZE).request;
+    CHECK(r.requester == '1' && r.order == 'A' && r.bib == 41 && r.channel == 255 && r.run == 1);
+    CHECK(r.stop_bib == 60000 && r.stop_channel == 250 && r.stop_run == 5);
+    CHECK(r.sign == 1 && r.time == 37230405 && r.days == 9 && r.period == 99999 && r.output == 'S');
+}
+
+static void dynamic_written(void) {
+    rei2_dynamic_request r = rei2_read_dynamic(kinds[2].frame, REI2_DYNAMIC_SIZE).request;
+    wrote(rei2_write_dynamic(r, out, OUT), kinds[2].frame, REI2_DYNAMIC_SIZE);
+    wrote(rei2_write_dynamic(r, out, REI2_DYNAMIC_SIZE), kinds[2].frame, REI2_DYNAMIC_SIZE);
+    wrote_not(rei2_write_dynamic(r, out, REI2_DYNAMIC_SIZE - 1), REI2_ROOM, 0);
+    wrote_not(rei2_write_dynamic(r, NULL, 0), REI2_ROOM, 0);
+    r.time = 0;
+    r.days = 0;
+    SAYS(rei2_write_dynamic(r, out, OUT), REI2_DONE, 0);
+    SAME(out + 27, "100000000000", 12);
+    CHECK(rei2_read_dynamic(out, REI2_DYNAMIC_SIZE).request.sign == 1);
+    clear_out();
+}
+
+static void dynamic_refused(rei2_dynamic_request r, uint32_t offset) {
+    wrote_not(rei2_write_dynamic(r, out, OUT), REI2_RECORD, offset);
+}
+
+static void dynamic_parts(void) {
+    rei2_dynamic_request r = rei2_read_dynamic(kinds[2].frame, REI2_DYNAMIC_SIZE).request;
+    r.output = 's';
+    dynamic_refused(r, 44);
+    r.period = 0;
+    dynamic_refused(r, 39);
+    r.days = 10;
+    dynamic_refused(r, 38);
+    r.time = 864000000;
+    dynamic_refused(r, 28);
+    r.sign = 2;
+    dynamic_refused(r, 27);
+    r.stop_run = 251;
+    dynamic_refused(r, 24);
+    r.stop_channel = 251;
+    dynamic_refused(r, 21);
+    r.stop_bib = 0;
+    dynamic_refused(r, 16);
+    r.run = 251;
+    dynamic_refused(r, 13);
+    r.channel = 248;
+    dynamic_refused(r, 10);
+    r.bib = 60001;
+    dynamic_refused(r, 5);
+    r.order = 'C';
+    dynamic_refused(r, 4);
+    r.requester = 0;
+    dynamic_refused(r, 3);
+}
+
+void test_frames(void) {
+    make_kinds();
+    reading();
+    clear_out();
+    request_record();
+    request_written();
+    request_parts();
+    reply_records();
+    reply_written();
+    reply_parts();
+    reply_clock();
+    reply_net();
+    reply_raw();
+    reply_timing();
+    reply_left_over();
+    dynamic_record();
+    dynamic_written();
+    dynamic_parts();
+}

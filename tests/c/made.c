@@ -1,0 +1,30 @@
+#include "made.h"
+
+#include <string.h>
+
+void make_request(uint8_t *to, char requester, const char *number) {
+    memcpy(to, "\021R " "1" "007" "00000" "P" "000" "002" "000" "S" "\r", REI2_REQUEST_SIZE);
+    to[3] = (uint8_t)requester;
+    memcpy(to + 4, number, 3);
+}
+
+void make_reply(uint8_t *to, char status, char requester, const char *number) {
+    memcpy(to, "\022R " "S" "O" "R" "1" "00007" "00015" "000" "002" "000" "000" "P" "0000000000" "00000000" "  " "\r",
+           REI2_REPLY_SIZE);
+    to[5] = (uint8_t)status;
+    to[6] = (uint8_t)requester;
+    memcpy(to + 7, number, 5);
+}
+
+void make_dynamic(uint8_t *to) {
+    memcpy(to, "\023R " "1" "A" "00041" "255" "001" "60000" "250" "005" "1" "0102030405" "9" "99999" "S" "\r",
+           REI2_DYNAMIC_SIZE);
+}
+
+void fill(void *at, size_t size, uint32_t seed) {
+    uint8_t *bytes = at;
+    for (size_t i = 0; i < size; i++) {
+        seed = seed * 1664525u + 1013904223u;
+        bytes[i] = (uint8_t)(seed >> 24);
+    }
+}

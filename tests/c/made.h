@@ -1,0 +1,19 @@
+/* Frames made for the tests. */
+#ifndef MADE_H
+#define MADE_H
+
+#include "rei2.h"
+
+/* A good static request, REI2_REQUEST_SIZE bytes, with this key: the number as three digits. */
+void make_request(uint8_t *to, char requester, const char *number);
+
+/* A good static reply, REI2_REPLY_SIZE bytes, with raw timing and this key: the number as five digits. */
+void make_reply(uint8_t *to, char status, char requester, const char *number);
+
+/* A good dynamic request, REI2_DYNAMIC_SIZE bytes. */
+void make_dynamic(uint8_t *to);
+
+/* Bytes without a pattern, the same for the same seed. */
+void fill(void *at, size_t size, uint32_t seed);
+
+#endif

@@ -1,0 +1,38 @@
+/* Calls each exported function of libhost.a. With no word it runs the checks; with the word capture or list it writes
+   the example that it has, for tests/c/run to compare. */
+#include <string.h>
+#include <unistd.h>
+
+#include "check.h"
+#include "example.h"
+#include "tests.h"
+
+static int write_out(const uint8_t *bytes, size_t size) {
+    return write(1, bytes, size) != (ssize_t)size;
+}
+
+static void every_refusal_was_met(void) {
+    for (uint32_t number = REI2_DONE; number <= REI2_FULL; number++) {
+        CHECK(was_said(number));
+    }
+}
+
+static int run_all(void) {
+    test_frames();
+    test_times();
+    test_desk();
+    test_spoiled();
+    test_capture();
+    every_refusal_was_met();
+    return verdict();
+}
+
+int main(int words, char **word) {
+    if (words == 2 && strcmp(word[1], "capture") == 0) {
+        return write_out(example_capture, EXAMPLE_CAPTURE);
+    }
+    if (words == 2 && strcmp(word[1], "list") == 0) {
+        return write_out(example_list, EXAMPLE_LIST);
+    }
+    return run_all();
+}

@@ -1,0 +1,6 @@
+/* What the example needs of fcntl.h. */
+#ifndef STD_FCNTL_H
+#define STD_FCNTL_H
+#define O_RDONLY 0
+int open(const char *path, int flags, ...);
+#endif

@@ -1,0 +1,62 @@
+/* A desk with all that it is lent, and guard bytes before, between and behind, which no call may touch. */
+#ifndef TABLE_H
+#define TABLE_H
+
+#include "check.h"
+
+/* What is lent: six cells and a part of one more, six marks, and room for a capture. */
+enum { TABLE_CELLS = 6, TABLE_BYTES = TABLE_CELLS * REI2_CELL_SIZE + 7, TABLE_INPUT = 512, GUARD = 32 };
+
+struct memory {
+    uint8_t before[GUARD];
+    rei2_seat seats[REI2_SEATS + 1];
+    uint8_t behind_seats[GUARD];
+    uint8_t cells[TABLE_BYTES];
+    uint8_t behind_cells[GUARD];
+    uint32_t marks[TABLE_CELLS];
+    uint8_t behind_marks[GUARD];
+    uint8_t input[TABLE_INPUT];
+    uint8_t behind[GUARD];
+};
+
+/* The state, how many seats, bytes of cells and marks are lent, the memory, and what it was before the last call. */
+struct table {
+    rei2_desk desk;
+    size_t seats_len;
+    size_t cells_len;
+    size_t marks_len;
+    struct memory memory;
+    struct memory was;
+};
+
+/* A table with nothing but garbage in it, and all of the memory lent. */
+void table_of_garbage(struct table *table);
+
+/* An empty desk with garbage in cells and marks. */
+void table_emptied(struct table *table);
+
+/* A desk with four seats: 1 007 holds R and E, A 012 holds R, z 000 nothing, a 999 a Z. Two cells are free. */
+void table_laid(struct table *table);
+
+/* The calls. A frame or capture is copied to the table's input first, and then all memory to what it was. */
+rei2_desk_answer table_reset(struct table *table);
+rei2_desk_answer table_open(struct table *table, const uint8_t *frame, size_t size);
+rei2_desk_answer table_reply(struct table *table, const uint8_t *frame, size_t size);
+rei2_captured_answer table_capture(struct table *table, const uint8_t *capture, size_t size);
+
+/* Opens a good request or takes a good reply; where that was done the table has the state that came back. */
+rei2_desk_answer table_opens(struct table *table, char requester, const char *number);
+rei2_desk_answer table_takes(struct table *table, char status, char requester, const char *number);
+
+/* The memory is what it was. A test that expects a change makes it in what it was first. */
+#define KEPT(table) SAME(&(table)->memory, &(table)->was, sizeof(struct memory))
+
+/* Are two states the same? */
+int same_desk(rei2_desk a, rei2_desk b);
+
+/* Was the call refused with this number and offset, the state handed back, and no seat named? */
+#define REFUSED(table, answer, wanted_number, wanted_offset) \
+    table_refused(table, answer, wanted_number, wanted_offset, HERE(#answer))
+void table_refused(struct table *table, rei2_desk_answer answer, uint32_t number, uint32_t offset, struct place place);
+
+#endif

@@ -1,0 +1,65 @@
+//! What C sees: functions and structs, in the words of C.
+
+/// A parameter or a field. The type is spelled `size_t`, `const uint8_t *`, `uint8_t[10]`.
+#[derive(Clone, PartialEq)]
+pub struct Part {
+    pub name: String,
+    pub kind: String,
+}
+
+#[derive(PartialEq)]
+pub struct Function {
+    pub name: String,
+    pub result: String,
+    pub parameters: Vec<Part>,
+}
+
+#[derive(PartialEq)]
+pub struct Struct {
+    pub name: String,
+    pub fields: Vec<Part>,
+}
+
+/// A static assertion: of a struct's size, or of the offset of one field.
+pub struct Asserted {
+    pub name: String,
+    pub field: Option<String>,
+}
+
+/// All that one side declares, and what could not be read of it.
+#[derive(Default)]
+pub struct Declared {
+    pub functions: Vec<Function>,
+    pub structs: Vec<Struct>,
+    pub asserted: Vec<Asserted>,
+    pub faults: Vec<String>,
+}
+
+impl Declared {
+    /// Adds a function, or a fault where it is there already.
+    pub fn add_function(&mut self, function: Function) {
+        if self.functions.iter().any(|f| f.name == function.name) {
+            self.faults.push(format!("{}: stands twice", function.name));
+        }
+        self.functions.push(function);
+    }
+
+    /// The same for a struct.
+    pub fn add_struct(&mut self, found: Struct) {
+        if self.structs.iter().any(|s| s.name == found.name) {
+            self.faults.push(format!("{}: stands twice", found.name));
+        }
+        self.structs.push(found);
+    }
+}
+
+impl Part {
+    /// As C writes it.
+    pub fn shown(&self) -> String {
+        match self.kind.split_once('[') {
+            Some((element, length)) => format!("{element} {}[{length}", self.name),
+            None if self.kind.ends_with('*') => format!("{}{}", self.kind, self.name),
+            None => format!("{} {}", self.kind, self.name),
+        }
+    }
+}

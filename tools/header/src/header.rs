@@ -1,0 +1,111 @@
+//! Reads a C header: structs, functions and the assertions of their layout. What it cannot read is a fault and never
+//! passed over, since a declaration that is not seen would not be compared.
+
+use crate::declared::{Asserted, Declared, Function, Part, Struct};
+use crate::lex::{self, Language, Token};
+
+/// The macros of the header that assert a size and an offset.
+const SIZE: &str = "REI2_SIZE";
+const OFFSET: &str = "REI2_OFFSET";
+
+/// What the header declares.
+pub fn declared(text: &str) -> Declared {
+    let tokens = lex::tokens(text, Language::C);
+    let mut found = Declared::default();
+    let mut rest = tokens.as_slice();
+    while !rest.is_empty() {
+        let (item, after) = rest.split_at(item_length(rest));
+        if !is_linkage(item) && !read_item(item, &mut found) {
+            let start: Vec<Token> = item.iter().take(12).cloned().collect();
+            found.faults.push(format!("header, line {}: not read: {}", item[0].line, lex::shown(&start)));
+        }
+        rest = after;
+    }
+    found
+}
+
+/// Is it the beginning or the end of `extern "C" { .. }`?
+fn is_linkage(item: &[Token]) -> bool {
+    matches!(lex::shown(item).as_str(), "extern \"C\" {" | "}")
+}
+
+/// How many tokens the first item has: up to a `;` outside braces, or the beginning or end of a linkage.
+fn item_length(tokens: &[Token]) -> usize {
+    if tokens[0].text == "}" {
+        return 1;
+    }
+    if tokens.len() >= 3 && is_linkage(&tokens[..3]) {
+        return 3;
+    }
+    let mut depth = 0;
+    let end = tokens.iter().position(|token| {
+        depth += i32::from(token.text == "{") - i32::from(token.text == "}");
+        depth == 0 && token.text == ";"
+    });
+    end.map_or(tokens.len(), |i| i + 1)
+}
+
+/// Reads an item to what was found; says whether it could.
+fn read_item(item: &[Token], found: &mut Declared) -> bool {
+    let Some((_, body)) = item.split_last().filter(|(last, _)| last.text == ";") else {
+        return false;
+    };
+    let texts: Vec<&str> = body.iter().map(|token| token.text.as_str()).collect();
+    match texts.as_slice() {
+        ["enum", _, "{", .., "}"] | ["enum", "{", .., "}"] => true,
+        ["typedef", "struct", tag, "{", .., "}", name] if tag == name => {
+            let fields = body[4..body.len() - 2].split_inclusive(|token| token.text == ";");
+            let fields: Option<Vec<Part>> = fields.map(field).collect();
+            fields.map(|fields| found.add_struct(Struct { name: name.to_string(), fields })).is_some()
+        }
+        [SIZE, "(", name, ",", _, ")"] => {
+            found.asserted.push(Asserted { name: name.to_string(), field: None });
+            true
+        }
+        [OFFSET, "(", name, ",", field, ",", _, ")"] => {
+            found.asserted.push(Asserted { name: name.to_string(), field: Some(field.to_string()) });
+            true
+        }
+        _ => function(body).map(|function| found.add_function(function)).is_some(),
+    }
+}
+
+/// A field `type name;` or `type name[10];`.
+fn field(tokens: &[Token]) -> Option<Part> {
+    let texts: Vec<&str> = tokens.iter().map(|token| token.text.as_str()).collect();
+    match texts.as_slice() {
+        [kind, name, ";"] => Some(Part { name: name.to_string(), kind: kind.to_string() }),
+        [kind, name, "[", length, "]", ";"] => Some(Part { name: name.to_string(), kind: format!("{kind}[{length}]") }),
+        _ => None,
+    }
+}
+
+/// A function `type name(type name, ..)`.
+fn function(tokens: &[Token]) -> Option<Function> {
+    let open = tokens.iter().position(|token| token.text == "(")?;
+    let (before, rest) = tokens.split_at(open);
+    let [.., close] = rest else { return None };
+    let ([result], [name]) = before.split_at(before.len().checked_sub(1)?) else { return None };
+    if close.text != ")" || !lex::is_word(&name.text) {
+        return None;
+    }
+    let list = &rest[1..rest.len() - 1];
+    let parameters = if lex::shown(list) == "void" {
+        Vec::new()
+    } else {
+        list.split(|token| token.text == ",").map(parameter).collect::<Option<Vec<Part>>>()?
+    };
+    Some(Function { name: name.text.clone(), result: result.text.clone(), parameters })
+}
+
+/// A parameter `type name`, `type *name` or `const type *name`.
+fn parameter(tokens: &[Token]) -> Option<Part> {
+    let texts: Vec<&str> = tokens.iter().map(|token| token.text.as_str()).collect();
+    let (name, kind) = match texts.as_slice() {
+        [kind, name] => (name, kind.to_string()),
+        [kind, "*", name] => (name, format!("{kind} *")),
+        ["const", kind, "*", name] => (name, format!("const {kind} *")),
+        _ => return None,
+    };
+    lex::is_word(name).then(|| Part { name: name.to_string(), kind })
+}

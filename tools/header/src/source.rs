@@ -1,0 +1,81 @@
+//! A file of a crate: its tokens, and the paths that its `use` lines bring.
+
+use crate::lex::{self, Language, Token};
+use std::fs;
+use std::path::{Path, PathBuf};
+
+pub struct Source {
+    pub crate_name: String,
+    /// Its path below the crate's `src`, without `.rt`; `lib` is the root.
+    pub module: String,
+    pub tokens: Vec<Token>,
+}
+
+impl Source {
+    /// Reads `ROOT/CRATE/src/MODULE.rt`.
+    pub fn read(root: &Path, crate_name: &str, module: &str) -> Result<Source, String> {
+        let path = folder(root, crate_name).join(format!("{module}.rt"));
+        let text = fs::read_to_string(&path).map_err(|e| format!("{}: cannot be read: {e}", path.display()))?;
+        let tokens = lex::tokens(&text, Language::Rattle);
+        Ok(Source { crate_name: crate_name.to_string(), module: module.to_string(), tokens })
+    }
+
+    /// The crate and module in which a type that this file names is declared: where a `use` brings it from, or here.
+    pub fn home(&self, name: &str) -> (String, String) {
+        let Some(path) = self.used(name) else {
+            return (self.crate_name.clone(), self.module.clone());
+        };
+        let (first, rest) = path.split_first().expect("a path has a word");
+        let crate_name = if first == "crate" { &self.crate_name } else { first };
+        let module = if rest.is_empty() { "lib".to_string() } else { rest.join("/") };
+        (crate_name.clone(), module)
+    }
+
+    /// The path in front of `name` in the `use` that ends with it: `a::b` is `["a", "b"]`.
+    fn used(&self, name: &str) -> Option<Vec<String>> {
+        let uses = self.tokens.split(|token| token.text == ";");
+        uses.filter_map(|item| used_path(item).filter(|path| path.last().is_some_and(|last| last == name)))
+            .map(|mut path| {
+                path.pop();
+                path
+            })
+            .find(|path| !path.is_empty())
+    }
+}
+
+/// The words of the path of a `use` that ends an item; none of a `ghost use`.
+fn used_path(item: &[Token]) -> Option<Vec<String>> {
+    let at = item.iter().rposition(|token| token.text == "use")?;
+    let ghost = at > 0 && item[at - 1].text == "ghost";
+    let path = &item[at + 1..];
+    let plain = path.iter().all(|token| lex::is_word(&token.text) || token.text == ":");
+    let words = path.iter().filter(|token| token.text != ":").map(|token| token.text.clone());
+    (plain && !ghost).then(|| words.collect())
+}
+
+/// The folder of a crate's sources.
+fn folder(root: &Path, crate_name: &str) -> PathBuf {
+    root.join(crate_name).join("src")
+}
+
+/// The modules of a crate, by name.
+pub fn modules(root: &Path, crate_name: &str) -> Result<Vec<String>, String> {
+    let mut found = Vec::new();
+    collect(&folder(root, crate_name), "", &mut found)?;
+    found.sort();
+    Ok(found)
+}
+
+fn collect(folder: &Path, prefix: &str, found: &mut Vec<String>) -> Result<(), String> {
+    let unreadable = |e| format!("{}: cannot be read: {e}", folder.display());
+    for entry in folder.read_dir().map_err(unreadable)? {
+        let path = entry.map_err(unreadable)?.path();
+        let stem = path.file_stem().unwrap_or_default().to_string_lossy().into_owned();
+        if path.is_dir() {
+            collect(&path, &format!("{prefix}{stem}/"), found)?;
+        } else if path.extension().is_some_and(|e| e == "rt") {
+            found.push(format!("{prefix}{stem}"));
+        }
+    }
+    Ok(())
+}

@@ -1,0 +1,185 @@
+//! The file of a proof.
+
+use crate::frame;
+use crate::param::{Kind, Param};
+use crate::source::Call;
+use crate::text::{abbrev, capital, dash, joined, nest, spaced, step, tidy};
+use crate::uses::{callees, uses};
+
+/// What all is said over.
+pub const LOGIC: &str = "{M : Type 1} (𝓤 : URA M) (H : Heap 𝓤) (A : Atoms 𝓤)";
+pub const RUN: &str = "(at-mem : Memory → SProp 𝓤) (run : Routine → Fun 𝓤)";
+
+/// What the function ensures, as the walk takes it.
+pub const OUTER: &str = "outer.ended stayed";
+pub const CLAUSES: &str = "(outer.clauses 𝓤 H A at-mem run)";
+
+/// The text of a call's proof.
+pub fn proof(c: &Call) -> String {
+    let Call { crate_name, module, name, .. } = c;
+    let first = format!(
+        "-- `{crate_name}::{module}::{name}` meets its contract: a walk of its code. \
+         Written by tools/walks. Assumes nothing.\n"
+    );
+    let parts = [contracts(c), frame::walked(c), walks(c), meets(c), spec(c)];
+    tidy(&format!("{first}{}\n{}\n", uses(c), parts.join("\n\n")))
+}
+
+/// What a proof has for each parameter, and is the same for all of a kind.
+enum Clause {
+    /// What stays of it.
+    Stays,
+    /// How it goes.
+    Goes,
+    /// How it is spelled.
+    Spells,
+    /// How that tells it.
+    Tells,
+}
+
+/// A clause of all parameters.
+fn clauses(c: &Call, clause: Clause) -> String {
+    let refs = c.refs().len();
+    nest(&c.params, |p| match clause {
+        Clause::Stays => stays(p),
+        Clause::Goes => goes(p, refs),
+        Clause::Spells => spells(p),
+        Clause::Tells => tells(p),
+    })
+}
+
+fn stays(p: &Param) -> String {
+    let Param { lifetime, row, .. } = p;
+    match p.kind {
+        Kind::Value => format!("stay-none (λ _. {row}) yes"),
+        Kind::Mut => format!("gave-slice ({lifetime} ∷ []) tt (plain (λ _. {row}))"),
+        Kind::Shared => format!("stay-none-slice ({lifetime} ∷ []) tt (plain (λ _. {row})) yes"),
+    }
+}
+
+fn goes(p: &Param, refs: usize) -> String {
+    let Param { lifetime, row, .. } = p;
+    match p.kind {
+        Kind::Value => format!("goes-none 𝓤 H A W {refs} (λ _. {row}) yes (λ κs x f. refl)"),
+        Kind::Mut => format!("goes-gave-slice 𝓤 H A W {refs} {lifetime} tt (plain (λ _. {row}))"),
+        Kind::Shared => format!("goes-none-slice 𝓤 H A W {refs} ({lifetime} ∷ []) tt (plain (λ _. {row})) yes"),
+    }
+}
+
+fn spells(p: &Param) -> String {
+    let of = &p.of;
+    match p.kind {
+        Kind::Value => format!("LL.vals {of}D.the-type {of}L.the-laws"),
+        Kind::Mut | Kind::Shared => "slice-vals".to_string(),
+    }
+}
+
+fn tells(p: &Param) -> String {
+    let Param { of, named, row, .. } = p;
+    let lifetime = step(p.lifetime);
+    match p.kind {
+        Kind::Value => format!("LL.tells {of}D.the-type {of}L.the-laws"),
+        Kind::Mut => format!("mut-slice-tells {named} (κs{lifetime}) {row}"),
+        Kind::Shared => format!("shr-slice-tells {named} (κs{lifetime}) {row}"),
+    }
+}
+
+/// What stays, and the contracts of the core and the refuser.
+fn contracts(c: &Call) -> String {
+    let contract = |name: &str, of: &str| {
+        let value = format!("tripleOf 𝓤 H A {of}.signature ({of}.spec 𝓤 H A at-mem run)");
+        abbrev(&format!("{name} 𝓤 H A at-mem run"), &format!("{LOGIC} {RUN} → Contract 𝓤"), &value)
+    };
+    let kind = "Stays (outer.ended .signature .params) (outer.ended .kept)";
+    let stayed = abbrev("stayed", kind, &clauses(c, Clause::Stays));
+    [stayed, contract("Core", "core"), contract("Refused", "refuser")].join("\n\n")
+}
+
+/// The triples of the callees in a table.
+fn triples(c: &Call, table: &str) -> String {
+    joined(&callees(c), " → ", |(alias, _)| {
+        format!("Triple 𝓤 ({table} #{alias}) ({} 𝓤 H A at-mem run)", capital(alias))
+    })
+}
+
+/// Their names.
+fn known(c: &Call) -> String {
+    spaced(&callees(c), |(alias, _)| format!("known-{alias}"))
+}
+
+/// From the walk to the function's code.
+fn walks(c: &Call) -> String {
+    let (triples, known, code) = (triples(c, "C"), known(c), "(WpFn 𝓤 H C Λ code.function)");
+    let lifetimes = spaced(&c.refs(), |p| format!("(κs{i}) (qs{i})", i = step(p.lifetime)));
+    let mut lines = vec![
+        format!("module _ {LOGIC} (W : Given 𝓤 H A) {RUN} where"),
+        format!(
+            "  walks : (C : Calls 𝓤 H) (Λ : Loops 𝓤 H) → FmC 𝓤 H (W .laws) C → {triples} \
+             → Walks 𝓤 H A {OUTER} {code} {CLAUSES}"
+        ),
+        format!("  walks C Λ fm {known} = walked 𝓤 H A {OUTER} {CLAUSES} {code}"),
+        format!("      (λ κs. {})", clauses(c, Clause::Spells)),
+        format!("      (λ κs. {})", clauses(c, Clause::Tells)),
+        "      (λ κs qs bounds a g are. via 𝓤 _ (fst∗ 𝓤 _ (emp 𝓤)) (walk 𝓤 H A W at-mem run".to_string(),
+        format!("      {lifetimes}"),
+    ];
+    lines.extend(c.params.iter().map(|p| format!("      {}", taken(p))));
+    lines.push(format!("      C Λ fm {known}))"));
+    lines.join("\n")
+}
+
+/// A parameter, taken from all.
+fn taken(p: &Param) -> String {
+    let (a, are) = (format!("a{}", step(p.index)), format!("are{}", step(p.index)));
+    if p.is_ref() {
+        format!("({a} .ptr .0) ({a} .ptr .1) ({a} .name) ({a} .now) ({are} .0 .1)")
+    } else {
+        format!("({a}) ({are})")
+    }
+}
+
+/// The function meets its contract, over any tables.
+fn meets(c: &Call) -> String {
+    let (triples, known, goes) = (triples(c, "𝓣 .C"), known(c), clauses(c, Clause::Goes));
+    let code = "(WpFn 𝓤 H (𝓣 .C) (𝓣 .Λ) code.function)";
+    [
+        format!("meets : {LOGIC} → Given 𝓤 H A → {RUN} (𝓣 : Tables 𝓤 H) → {triples}"),
+        format!("    → Meets 𝓤 H A outer.signature {code} (outer.spec 𝓤 H A at-mem run)"),
+        format!("meets 𝓤 H A W at-mem run 𝓣 {known} ="),
+        format!("    walk-meets 𝓤 H A {OUTER} W {goes} {CLAUSES}"),
+        format!(
+            "    {code} (WpFn-mono 𝓤 H (W .laws) 𝓣 code.function) \
+             (walks 𝓤 H A W at-mem run (𝓣 .C) (𝓣 .Λ) (fmOf 𝓤 H (W .laws) 𝓣) {known})"
+        ),
+    ]
+    .join("\n")
+}
+
+/// The function's theorem.
+fn spec(c: &Call) -> String {
+    let name = dash(&c.name);
+    let tables = "tables 𝓤 H 𝓜 𝓡 code.env";
+    let run = "(𝓜 .mem) (𝓡 .run)";
+    let cites = joined(&callees(c), "\n    ", |(alias, function)| cites(c, alias, function));
+    [
+        format!("pub {name}-spec : {{M : Type 1}} → stated.statement M"),
+        "unfolding code.routine tablesOf".to_string(),
+        format!("{name}-spec 𝓤 H 𝓜 𝓖 𝓡 ="),
+        format!("    entered 𝓤 H (tripleOf 𝓤 H (𝓖 .A) outer.signature (outer.spec 𝓤 H (𝓖 .A) {run}))"),
+        format!("    ({tables} .C) ({tables} .Λ) #self code.function (code.unfolded 𝓤 H 𝓜 𝓡)"),
+        format!("    (meets 𝓤 H (𝓖 .A) (givenOf 𝓤 H 𝓜 𝓖) {run} (tablesOf 𝓤 H 𝓜 ({tables}))"),
+        format!("    {cites})"),
+    ]
+    .join("\n")
+}
+
+/// A callee's theorem, as the function calls it.
+fn cites(c: &Call, alias: &str, function: &str) -> String {
+    let Call { crate_name, module, .. } = c;
+    let contract = format!("({} 𝓤 H (𝓖 .A) (𝓜 .mem) (𝓡 .run))", capital(alias));
+    let called = format!("code.calls-{crate_name}·{module}·{}", dash(function));
+    format!(
+        "(cited 𝓤 H {contract} 𝓜 𝓡 code.env #{alias} {alias}-def.routine {called} \
+         ({alias}-thm.met 𝓤 H 𝓜 𝓖 𝓡))"
+    )
+}

@@ -1,0 +1,171 @@
+//! The part of a proof that is over the parameters: what is had of them at entry and at exit, and the walk between.
+
+use crate::file::{CLAUSES, LOGIC, OUTER, RUN};
+use crate::param::{owned, Param};
+use crate::source::Call;
+use crate::steps::{body, exit_steps, refuse_steps};
+use crate::text::{abbrev, capital, indented, list, nest, product, spaced};
+use crate::uses::callees;
+
+/// What is had at entry, as the walk has it.
+const ENTRY: &str = "(tokens ∷ ‵ (owns rows a vals) ∷ [])";
+
+/// The walk over the parameters, with all that it needs.
+pub fn walked(c: &Call) -> String {
+    let lifetimes = spaced(&c.refs(), |p| format!("({} : Lft) ({} : Share)", p.k, p.q));
+    let head = format!("module _ {LOGIC} (W : Given 𝓤 H A) {RUN}\n    {lifetimes}\n    {} where", bound(c));
+    let mut parts: Vec<String> = c.params.iter().map(names).collect();
+    parts.extend([frame(c), exits(c), refuses(c), handed(c), walk(c)]);
+    format!("{head}\n{}", indented(&parts.join("\n\n"), "  "))
+}
+
+/// The parameters, as the proof is over them.
+fn bound(c: &Call) -> String {
+    spaced(&c.params, |p| {
+        let Param { b, o, g, v, denot, room, row, is, of, .. } = p;
+        if p.is_ref() {
+            format!("({b} {o} : ℕ) ({g} : GName) ({v} : {denot}) ({room} : Room {row} (length {v}))")
+        } else {
+            format!("({v} : {denot}) ({is} : Is {row} {v} (LL.vals {of}D.the-type {of}L.the-laws {v}))")
+        }
+    })
+}
+
+/// What is owned of a parameter.
+fn names(p: &Param) -> String {
+    let Param { b, o, g, v, s, x, own, denot, of, .. } = p;
+    if !p.is_ref() {
+        return abbrev(s, "Val", &format!("LL.val {of}D.the-type {of}L.the-laws {v}"));
+    }
+    let reference = format!("record {{ ptr = ({b}, {o}); name = {g}; now = l }}");
+    [
+        abbrev(s, "Val", &format!("sliceVal ({b}, {o}) (length {v})")),
+        abbrev(&format!("{x} l"), &format!("{denot} → RefT ({denot})"), &reference),
+        abbrev(own, "Fml", &format!("{} .own ({x} {v}) ({s} ∷ [])", p.slice_type())),
+    ]
+    .join("\n\n")
+}
+
+/// The type of a parameter, and the parameter.
+fn arg_type(p: &Param) -> String {
+    if p.is_ref() {
+        format!("RefT ({})", p.denot)
+    } else {
+        p.denot.clone()
+    }
+}
+
+fn arg(p: &Param) -> String {
+    if p.is_ref() {
+        format!("{} {}", p.x, p.v)
+    } else {
+        p.v.clone()
+    }
+}
+
+/// What is had at entry and what is asked at exit.
+fn frame(c: &Call) -> String {
+    let refs = c.refs();
+    let walk_of = format!("walkOf 𝓤 H A {OUTER} {CLAUSES}");
+    let (shares, lifetimes) = (nest(&refs, |p| p.q.clone()), nest(&refs, |p| p.k.clone()));
+    let tokens = spaced(&refs, |p| format!("{} ⊛", p.token()));
+    let rows = list(&c.params, |p| if p.is_ref() { p.slice_type() } else { p.row.clone() });
+    [
+        abbrev("Arg", "Type 0", &product(&c.params, arg_type)),
+        abbrev("a", "Arg", &nest(&c.params, arg)),
+        abbrev("Vals", "Type 0", &product(&c.params, |_| "List Val".to_string())),
+        abbrev("vals", "Vals", &nest(&c.params, |p| format!("{} ∷ []", p.s))),
+        abbrev("bound", &format!("{walk_of} .Ghost"), &format!("(({lifetimes}, {shares}, tt, a, vals), tt)")),
+        abbrev("Post", "Val → SProp 𝓤", &format!("{walk_of} .post bound")),
+        abbrev("tokens", "Item 𝓤", &format!("{tokens} ‵ ftrue")),
+        abbrev("rows", "List RattleType", &rows),
+        abbrev("refusal", &c.result, &format!("refusal-{} {}", c.law(), c.state().v)),
+    ]
+    .join("\n\n")
+}
+
+/// The way out with what was done.
+fn exits(c: &Call) -> String {
+    let Call { result, kind, .. } = c;
+    let muts = c.muts();
+    let values = spaced(&c.params, |p| p.v.clone());
+    let (at_exit, lengths) = (spaced(&muts, |p| p.z.clone()), spaced(&muts, |p| p.len.clone()));
+    let typed = spaced(&muts, |p| format!("({} : {})", p.z, p.denot));
+    let equal = spaced(&muts, |p| format!("({} : length {} ≡ length {})", p.len, p.z, p.v));
+    let had = format!("(tokens ∷ {})", list(&c.refs(), |p| format!("‵ ({})", p.had())));
+    let lasts = nest(&c.params, |p| if p.changes() { &p.z } else { "tt" }.to_string());
+    let kept = nest(&c.params, |p| if p.changes() { &p.len } else { "tt" }.to_string());
+    [
+        format!(
+            "exits : (r : {result}) (v : Val) {typed} {equal} → Is {result}D.the-row r (v ∷ []) \
+             → {kind}Lent {values} r {at_exit}"
+        ),
+        format!("    → ent 𝓤 (⋆ 𝓤 H A {had}) (Post v)"),
+        format!("exits r v {at_exit} {lengths} is said ="),
+        format!("    qed W {had} ∵"),
+        format!(
+            "    suffices ! _ (ends-at 𝓤 H A {OUTER} {CLAUSES} W bound v r {lasts} {kept}) \
+             $ says ! said $ frame ! $ nothing ! $"
+        ),
+        format!("    {} frame ! $", exit_steps(c)),
+        format!("    {} $ done !", owned(result, "r", "is")),
+    ]
+    .join("\n")
+}
+
+/// The way out with nothing done.
+fn refuses(c: &Call) -> String {
+    let Call { result, kind, .. } = c;
+    let seats = &c.seats().v;
+    let (values, unchanged) = (spaced(&c.params, |p| p.v.clone()), spaced(&c.muts(), |p| p.v.clone()));
+    let equal = spaced(&c.muts(), |_| "refl".to_string());
+    let said = format!("(λ (x : {result}). {kind}Lent {values} x {unchanged})");
+    let refused = format!("(refused-{} {values} e)", c.law());
+    [
+        format!(
+            "refuses : (r : {result}) (v : Val) → Is {result}D.the-row r (v ∷ []) → r ≡ refusal \
+             → Dec.eqb (length {seats}) seatCount ≡ false → ent 𝓤 (⋆ 𝓤 H A {ENTRY}) (Post v)"
+        ),
+        "refuses r v is same e =".to_string(),
+        format!("    qed W {ENTRY} ∵ {}", refuse_steps(c)),
+        format!("    by ! (exits r v {unchanged} {equal} is (subst {said} (sym same) {refused}))"),
+    ]
+    .join("\n")
+}
+
+/// What the refuser and the core are handed.
+fn handed(c: &Call) -> String {
+    let (state, refs) = ([c.state()], c.core_refs());
+    let spelled = |p: &Param| if p.is_seats { format!("rowVal {} ∷ []", p.v) } else { format!("{} ∷ []", p.s) };
+    let shares = nest(&refs, |p| p.q.clone());
+    let (refused_vals, vals) = (nest(&state, |p| spelled(p)), nest(&c.params, spelled));
+    let core_type = product(&c.params, |p| if p.is_seats { p.denot.clone() } else { arg_type(p) });
+    let core_args = nest(&c.params, |p| if p.is_seats { p.v.clone() } else { arg(p) });
+    let ghost = |contract: &str| format!("{contract} 𝓤 H A at-mem run .Ghost");
+    [
+        abbrev("RefusedArg", "Type 0", &product(&state, |p| p.denot.clone())),
+        abbrev("refused-args", "RefusedArg", &nest(&state, |p| p.v.clone())),
+        abbrev("to-refused", &ghost("Refused"), &format!("((tt, tt, tt, refused-args, {refused_vals}), tt)")),
+        abbrev("κs′", &format!("Lfts {}", refs.len()), &nest(&refs, |p| p.k.clone())),
+        abbrev("CoreArg", "Type 0", &core_type),
+        abbrev("args", "CoreArg", &core_args),
+        abbrev("to-core", &ghost("Core"), &format!("((κs′, {shares}, tt, args, {vals}), tt)")),
+    ]
+    .join("\n\n")
+}
+
+/// The walk, over what the callees do.
+fn walk(c: &Call) -> String {
+    let known = spaced(&callees(c), |(alias, _)| {
+        format!("(known-{alias} : Triple 𝓤 (C #{alias}) ({} 𝓤 H A at-mem run))", capital(alias))
+    });
+    let values = list(&c.params, |p| p.s.clone());
+    [
+        format!("module _ (C : Calls 𝓤 H) (Λ : Loops 𝓤 H) (fm : FmC 𝓤 H (W .laws) C) {known} where"),
+        format!("  walk : ent 𝓤 (⋆ 𝓤 H A {ENTRY}) (WpFn 𝓤 H C Λ code.function ({values}) Post)"),
+        "  walk =".to_string(),
+        format!("      qed W {ENTRY} ∵ enter ! C Λ code.function ({values}) _ $"),
+        indented(&body(c), "      "),
+    ]
+    .join("\n")
+}

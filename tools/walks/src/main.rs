@@ -1,0 +1,95 @@
+//! Writes the proofs of the calls of a Rattle module that work on a lent row of seats.
+//!
+//! `walks ROOT CRATE MODULE` writes ROOT/crates/CRATE/proofs/MODULE/F/Proof.antt for each such call F of
+//! ROOT/crates/CRATE/src/MODULE.rt. With `--check` it writes nothing and says whether the files are what it writes.
+//! Exit status: 0 if it wrote them or they are as written, 1 if a file is not, 2 if it cannot tell.
+//!
+//! The prover does not walk a function that takes a slice of structs, so the walks of such calls are written here.
+//! They differ only in the calls' parameters. A call is read from the source and has this form and no other:
+//!
+//! ```text
+//! pub extern "C" fn F(seats: &mut [Seat], desk: Desk, cells: &mut [u8], frame: &[u8], ..) -> Answer
+//!     ensures { λ r. ⌜ XLent (each parameter at entry) r (each `&mut` parameter at exit) ⌝ }
+//! {
+//!     if seats.len() != SEATS {
+//!         return REFUSER(desk);
+//!     }
+//!     let row = load(seats);
+//!     let out = CORE(row, desk, cells, frame);    the parameters in their order, row for seats
+//!     store(seats, out.row);
+//!     out.answer
+//! }
+//! ```
+//!
+//! A parameter is a struct, or a slice of structs, of `u8` or of `u32`. CORE ensures CoreX (each parameter at entry) r
+//! (each other `&mut` parameter at exit). The crate's proofs/LentLaws has `done-x`, from CoreX to XLent, and
+//! `refused-x`, XLent where the row is not of sixteen seats. proofs/Outs takes apart what CORE hands back.
+
+mod file;
+mod frame;
+mod lex;
+mod param;
+mod source;
+mod steps;
+mod text;
+mod uses;
+mod walk;
+
+use std::fs;
+use std::path::Path;
+use std::process::ExitCode;
+
+fn main() -> ExitCode {
+    let words: Vec<String> = std::env::args_os().skip(1).map(|word| word.to_string_lossy().into_owned()).collect();
+    let words: Vec<&str> = words.iter().map(String::as_str).collect();
+    let answer = match words.as_slice() {
+        [root, crate_name, module] => write(Path::new(root), crate_name, module),
+        [root, crate_name, module, "--check"] => check(Path::new(root), crate_name, module),
+        _ => Err("usage: walks ROOT CRATE MODULE [--check]".to_string()),
+    };
+    answer.unwrap_or_else(|what| {
+        eprintln!("walks: {what}");
+        ExitCode::from(2)
+    })
+}
+
+/// A file that the program writes: its path, as seen from the root, and its text.
+struct Written {
+    path: String,
+    text: String,
+}
+
+/// The proofs of the module's calls.
+fn proofs(root: &Path, crate_name: &str, module: &str) -> Result<Vec<Written>, String> {
+    let path = format!("crates/{crate_name}/src/{module}.rt");
+    let source = fs::read_to_string(root.join(&path)).map_err(|e| format!("{path}: cannot be read: {e}"))?;
+    let calls = source::calls(crate_name, module, &source)?;
+    if calls.is_empty() {
+        return Err(format!("{path} has no call on lent seats"));
+    }
+    let path = |name: &str| format!("crates/{crate_name}/proofs/{module}/{name}/Proof.antt");
+    Ok(calls.iter().map(|call| Written { path: path(&call.name), text: file::proof(call) }).collect())
+}
+
+fn write(root: &Path, crate_name: &str, module: &str) -> Result<ExitCode, String> {
+    let proofs = proofs(root, crate_name, module)?;
+    for Written { path, text } in &proofs {
+        let place = root.join(path);
+        let folder = place.parent().unwrap_or(root);
+        let done = fs::create_dir_all(folder).and_then(|()| fs::write(&place, text));
+        done.map_err(|e| format!("{path}: cannot be written: {e}"))?;
+    }
+    println!("walks: {} walks written", proofs.len());
+    Ok(ExitCode::SUCCESS)
+}
+
+fn check(root: &Path, crate_name: &str, module: &str) -> Result<ExitCode, String> {
+    let proofs = proofs(root, crate_name, module)?;
+    let differs = |proof: &&Written| fs::read(root.join(&proof.path)).ok().as_deref() != Some(proof.text.as_bytes());
+    if let Some(proof) = proofs.iter().find(differs) {
+        eprintln!("walks: {} is not what this program writes", proof.path);
+        return Ok(ExitCode::FAILURE);
+    }
+    println!("walks: {} walks are as written", proofs.len());
+    Ok(ExitCode::SUCCESS)
+}

@@ -1,0 +1,427 @@
+//! The steps of a call: from its entry to its two returns, and those of the two ways out.
+
+use crate::param::{lawful, Kind, Param};
+use crate::source::Call;
+use crate::text::{joined, product, spaced, step};
+use crate::walk::{copy, field, local, operands, Walk};
+use std::collections::BTreeMap;
+
+/// The steps from the function's entry to its two returns.
+pub fn body(c: &Call) -> String {
+    let at = Places::new(c);
+    let mut steps = Steps { c, w: Walk::new(at.all, &["tokens", "owned"]), at };
+    steps.enters();
+    steps.refused();
+    steps.loads();
+    steps.hands_over();
+    steps.calls();
+    steps.stores();
+    steps.returns();
+    steps.w.text()
+}
+
+/// The steps from what is had of each slice to what the parameters own at exit.
+pub fn exit_steps(c: &Call) -> String {
+    let names = c.refs().into_iter().map(|p| p.name.as_str());
+    let mut w = Walk::new(0, &["true"].into_iter().chain(names).collect::<Vec<_>>());
+    let mut args = "true".to_string();
+    for p in c.params.iter().rev() {
+        if !p.is_ref() {
+            w.swap(&p.owned(), 0, &[&p.name]);
+        }
+        w.front(&[&p.name, &args]);
+        args = format!("args from {}", p.name);
+        w.swap("fjoin !", 2, &[&args]);
+    }
+    w.text()
+}
+
+/// The steps from what is owned at entry to what is had of each slice where nothing was done.
+pub fn refuse_steps(c: &Call) -> String {
+    let mut w = Walk::new(0, &["tokens", "owned"]);
+    w.front(&["owned"]);
+    w.split_all("fsplit", &named("own", c.params.iter()), "true");
+    for p in c.muts() {
+        let Param { row, k, q, g, b, o, v, named, .. } = p;
+        let gives_up = format!("gives-up {row} {k} {k} {q} {g} {b} {o} {v} 𝓤 H A W {named} {named}");
+        w.front(&[&own(p)]);
+        w.swap(&format!("use1 W (‵ (finally {row} {g} {v})) ({gives_up})"), 1, &[&own(p)]);
+    }
+    let kept: Vec<String> = ["tokens".to_string()].into_iter().chain(named("own", c.refs())).collect();
+    w.keep(&strs(&kept));
+    w.text()
+}
+
+/// The list that the core leaves in a slice.
+fn last(p: &Param) -> String {
+    format!("(zs{})", step(p.index))
+}
+
+// Names of items in the context.
+
+fn own(p: &Param) -> String {
+    format!("own {}", p.name)
+}
+
+fn token(p: &Param) -> String {
+    format!("token {}", p.name)
+}
+
+fn named<'a>(what: &str, params: impl IntoIterator<Item = &'a Param>) -> Vec<String> {
+    params.into_iter().map(|p| format!("{what} {}", p.name)).collect()
+}
+
+fn strs(names: &[String]) -> Vec<&str> {
+    names.iter().map(String::as_str).collect()
+}
+
+/// The locals of a call, by the order in which the compiler makes them. A slice that is lent again has two: its pointer
+/// and itself.
+struct Places {
+    row: usize,
+    out: usize,
+    length: usize,
+    test: usize,
+    /// The seats, for the load.
+    view: (usize, usize),
+    /// Each slice that the core may change, by its parameter's place.
+    lent: BTreeMap<usize, (usize, usize)>,
+    unit: usize,
+    /// The seats, for the store.
+    again: (usize, usize),
+    /// How many there are.
+    all: usize,
+}
+
+impl Places {
+    fn new(c: &Call) -> Places {
+        let count = c.params.len();
+        let first = count + 7;
+        let lent = c.core_muts().into_iter().enumerate().map(|(j, p)| (p.index, (first + 2 * j, first + 2 * j + 1)));
+        let lent: BTreeMap<_, _> = lent.collect();
+        let unit = first + 2 * lent.len();
+        Places {
+            row: count + 1,
+            out: count + 2,
+            length: count + 3,
+            test: count + 4,
+            view: (count + 5, count + 6),
+            lent,
+            unit,
+            again: (unit + 1, unit + 2),
+            all: unit + 3,
+        }
+    }
+
+    /// The local of a parameter.
+    fn of(&self, p: &Param) -> usize {
+        p.index + 1
+    }
+
+    /// The local that is handed to the core for a parameter.
+    fn handed(&self, p: &Param) -> usize {
+        let lent = self.lent.get(&p.index).map(|(_, slice)| *slice);
+        lent.unwrap_or(if p.is_seats { self.row } else { self.of(p) })
+    }
+}
+
+/// A call that was made, in the names of the proof.
+struct Made<'a> {
+    callee: &'a str,
+    /// The struct that it makes.
+    result: &'a str,
+    /// The tokens that it gives back.
+    tokens: &'a str,
+    lifetimes: &'a str,
+    args: &'a str,
+    /// The type of the last lists.
+    lasts: &'a str,
+    /// What it ensures.
+    said: &'a str,
+}
+
+struct Steps<'a> {
+    c: &'a Call,
+    w: Walk,
+    at: Places,
+}
+
+impl Steps<'_> {
+    /// From the entry to the test of the row's length.
+    fn enters(&mut self) {
+        let Steps { c, w, at } = self;
+        let seats = c.seats();
+        w.allocate();
+        w.line("");
+        for p in &c.params {
+            let init = w.init(at.of(p), &p.typed());
+            w.say(&format!("pass1 ! {init} $"));
+        }
+        w.say("pass0 ! $");
+        let length = field(w.cell(at.of(seats)), 1);
+        w.assign(at.length, &format!("(of-opd ! {length})"), &format!("(tt, record {{ fits = {} .0 }})", seats.room));
+        let test = format!("(bin ! {} (lit ! tt) tt)", copy(w.cell(at.length)));
+        w.assign(at.test, &test, "(tt, tt)");
+        w.line(&format!("guards ! {}", copy(w.cell(at.test))));
+    }
+
+    /// The branch of a row that is not of sixteen seats.
+    fn refused(&mut self) {
+        let before = self.w.mark();
+        self.calls_refuser();
+        let Steps { c, w, .. } = self;
+        w.swap("drop !", 1, &[]);
+        w.front(&["result"]);
+        w.swap("split !", 1, &["no token", "made"]);
+        w.swap("drop !", 1, &[]);
+        w.line("");
+        w.binds(&facts(&c.result), 1, &[]);
+        w.lands(0, &lawful(&c.result, "r", "is"));
+        w.line(&format!("returns-within ! Post refl (look ! {} refl) $", w.cell(0)));
+        w.free();
+        let differs = format!("(is-false (Dec.eqb (length {}) seatCount) differs)", c.seats().v);
+        w.ends(&format!("by ! (refuses r w is e {differs})"), before.parens);
+        w.back(before);
+    }
+
+    fn calls_refuser(&mut self) {
+        let Steps { c, w, at } = self;
+        w.line("-- not a row of sixteen seats: refused, and nothing is changed");
+        w.opens("(λ differs.");
+        w.line("");
+        w.swap("nothing !", 0, &["no arg"]);
+        w.swap(&c.state().owned(), 0, &["arg"]);
+        w.swap("fjoin !", 2, &["args"]);
+        w.swap("nothing !", 0, &["no token"]);
+        w.swap("join !", 2, &["entry"]);
+        w.swap("use1 W (raw (Refused 𝓤 H A at-mem run .pre to-refused)) (∗emp 𝓤 _)", 1, &["entry"]);
+        w.line("");
+        let handed = operands(&[copy(w.cell(at.of(c.state())))]);
+        let called = "calls-at ! fm (Refused 𝓤 H A at-mem run) known-refused to-refused";
+        w.binds(&format!("{called} {handed} (λ w."), 1, &["post"]);
+        self.after_call(&Made {
+            callee: "refuser",
+            result: &self.c.result,
+            tokens: "‵ ftrue",
+            lifetimes: "tt",
+            args: "refused-args",
+            lasts: &product(&["Unit {0}"], |unit| unit.to_string()),
+            said: "r ≡ refusal",
+        });
+    }
+
+    /// From the callee's post to its result r, the last lists zs, and the fact e that it ensures.
+    fn after_call(&mut self, made: &Made) {
+        let Made { callee, result, tokens, lifetimes, args, lasts, said } = made;
+        let w = &mut self.w;
+        w.line("");
+        let had = format!("(({tokens}) ⊛ ‵ ({result}D.the-row .own r (w ∷ [])))");
+        let clauses = format!("{callee}.ended ({callee}.clauses 𝓤 H A at-mem run)");
+        let ensured = format!("raw (ensured 𝓤 H A {clauses} {lifetimes} {args} tt r)");
+        let post = format!("(later (some (λ (r : {result}). {had} ⊛ {ensured})))");
+        w.swap(&format!("use1 W {post} (id⊢ 𝓤 _)"), 1, &["post"]);
+        w.say("await ! tt $");
+        w.binds("pick ! (λ r.", 1, &["post"]);
+        w.swap("split !", 1, &["result", "ensures"]);
+        w.front(&["ensures"]);
+        w.line("");
+        let lists = format!("‵ (lasts {callee}.ended {lifetimes} {args} zs)");
+        let some = format!("(some (λ (zs : {lasts}). {lists} ⊛ raw (fact 𝓤 ({said}))))");
+        w.swap(&format!("use1 W {some} (id⊢ 𝓤 _)"), 1, &["said"]);
+        w.binds("pick ! (λ zs.", 1, &["said"]);
+        w.swap("split !", 1, &["lasts", "fact"]);
+        w.front(&["fact"]);
+        w.line("");
+        w.binds(&format!("heard ! ({said}) (λ e."), 1, &[]);
+    }
+
+    /// The parameters are taken apart, and the row is loaded.
+    fn loads(&mut self) {
+        let Steps { c, w, at } = self;
+        let s = c.seats();
+        let (v, test) = (&s.v, format!("Dec.eqb (length {}) seatCount", s.v));
+        w.line("-- a row of sixteen seats");
+        w.opens("(λ same.");
+        w.line(&format!("let whole-row : {test} ≡ true = is-true ({test}) same in"));
+        let full = format!("Dec.eqb→eq (length {v}) seatCount (subst Dec.T (sym whole-row) tt)");
+        w.line(&format!("let full : length {v} ≡ seatCount = {full} in"));
+        w.reborrow(at.of(s), at.view, &s.typed());
+        w.line("");
+        takes_apart(c, w);
+        w.line("");
+        w.front(&[&own(s), &token(s)]);
+        let handed = operands(&[copy(w.cell(at.view.1))]);
+        w.opens(&format!("loads {} ! fm known-load (λ i j. {handed}) (λ is-row.", lent_seats(s)));
+        let laws = "SeatD.the-row (LL.lawful SeatD.the-type SeatL.the-laws 𝓤 H A W) seatCount";
+        w.lands(at.row, &format!("(array-lawful 𝓤 H A W {laws} .typed {v} _ is-row .0)"));
+    }
+
+    /// The core is handed each `&mut` slice for good, a copy of each `&` slice, the structs, and the tokens.
+    fn hands_over(&mut self) {
+        let Steps { c, w, at } = self;
+        for p in c.core_muts() {
+            w.reborrow(at.of(p), at.lent[&p.index], &p.typed());
+        }
+        w.line("-- the call by value");
+        w.line("");
+        let mut args = "true".to_string();
+        for p in c.params.iter().rev() {
+            if p.is_seats {
+                w.swap(&owned_row(p), 0, &["arg"]);
+            } else if p.kind == Kind::Value {
+                w.swap(&p.owned(), 0, &["arg"]);
+            } else {
+                w.front(&[&own(p)]);
+                w.rename("arg");
+            }
+            w.front(&["arg", &args]);
+            args = format!("args from {}", p.name);
+            w.swap("fjoin !", 2, &[&args]);
+        }
+        let tokens = w.join_all("join", &named("token", c.core_refs()), "no token", "tokens");
+        w.front(&[&tokens, &args]);
+        w.swap("join !", 2, &["entry"]);
+        w.swap("use1 W (raw (Core 𝓤 H A at-mem run .pre to-core)) (∗emp 𝓤 _)", 1, &["entry"]);
+    }
+
+    /// The core is called, and what it gives back is taken apart.
+    fn calls(&mut self) {
+        let Steps { c, w, at } = self;
+        let handed: Vec<String> = c.params.iter().map(|p| copy(w.cell(at.handed(p)))).collect();
+        let called = "calls-at ! fm (Core 𝓤 H A at-mem run) known-core to-core";
+        w.line("");
+        w.binds(&format!("{called} {} (λ w.", operands(&handed)), 1, &["post"]);
+        let c = self.c;
+        let tokens = [joined(&c.core_refs(), "", |p| format!("{} ⊛ ", p.token())), "‵ ftrue".to_string()].concat();
+        let changed = |p: &Param| p.changes() && !p.is_seats;
+        let lasts = product(&c.params, |p| if changed(p) { p.denot.clone() } else { "Unit {0}".to_string() });
+        let values = spaced(&c.params, |p| p.v.clone());
+        let said = format!("Core{} {values} r{}", c.kind, joined(&c.core_muts(), "", |p| format!(" {}", last(p))));
+        self.after_call(&Made {
+            callee: "core",
+            result: &c.made,
+            tokens: &tokens,
+            lifetimes: "κs′",
+            args: "args",
+            lasts: &lasts,
+            said: &said,
+        });
+        self.takes_back();
+    }
+
+    /// The last lists and the result of the core.
+    fn takes_back(&mut self) {
+        let Steps { c, w, at } = self;
+        for p in &c.params {
+            w.swap("fsplit !", 1, &[&format!("last {}", p.name), "lasts"]);
+            if p.changes() && !p.is_seats {
+                w.swap("fsplit !", 1, &[&format!("final {}", p.name), "its length"]);
+                w.front(&["its length"]);
+                w.binds(&format!("feqL ! (λ {}.", p.len), 1, &[]);
+            }
+            w.front(&["lasts"]);
+        }
+        w.front(&["result"]);
+        w.swap("split !", 1, &["tokens back", "made"]);
+        w.front(&["made"]);
+        w.line("");
+        let made = &c.made;
+        w.binds(&facts(made), 1, &[]);
+        w.lands(at.out, &lawful(made, "r", "is"));
+        let cell = format!("(λ (u : Val). ‵ (fat fullShare {made}L.mir {} 0 u))", local(at.out));
+        let place = w.cell(at.out);
+        w.say(&format!("rewrite ! {place} {cell} (ap only ({made}L.lowers .val-is r (w ∷ []) is)) refl $"));
+    }
+
+    /// The row is stored.
+    fn stores(&mut self) {
+        let Steps { c, w, at } = self;
+        let s = c.seats();
+        w.line("-- the row is stored");
+        w.reborrow(at.of(s), at.again, &s.typed());
+        w.line("");
+        w.front(&[&own(s), &token(s)]);
+        // one item less stands before the locals when the operands are read
+        let handed = operands(&[copy(w.cell(at.again.1) - 1), field(w.cell(at.out) - 1, 0)]);
+        let row_is = is_part(c, "row");
+        w.line(&format!("stores {} (r .row) {row_is} ! fm known-store (λ i. {handed}) $", lent_seats(s)));
+        w.rename(&format!("final {}", s.name));
+        w.lands(at.unit, "(tt, tt)");
+    }
+
+    /// The answer is returned.
+    fn returns(&mut self) {
+        let Steps { c, w, at } = self;
+        let answer_is = is_part(c, "answer");
+        let answer = field(w.cell(at.out), 1);
+        w.assign(0, &format!("(of-opd ! {answer})"), &lawful(&c.result, "(r .answer)", &answer_is));
+        w.line(&format!("returns ! (look ! {} refl) $", w.cell(0)));
+        w.free();
+        w.line("");
+        gathers(c, w);
+        let finals = spaced(&c.muts(), |p| if p.is_seats { "(r .row)".to_string() } else { last(p) });
+        let row_length = format!("({} .1 .0 .1 ∙ sym full)", is_part(c, "row"));
+        let lengths = spaced(&c.muts(), |p| if p.is_seats { &row_length } else { &p.len }.clone());
+        let (values, lasts) = (spaced(&c.params, |p| p.v.clone()), spaced(&c.core_muts(), |p| last(p)));
+        let said = format!("(done-{} {values} r {lasts} e)", c.law());
+        w.ends(&format!("by ! (exits (r .answer) _ {finals} {lengths} {answer_is} {said})"), 0);
+    }
+}
+
+/// What is owned becomes an item for each parameter, and two for each `&` slice; the tokens become an item for each.
+fn takes_apart(c: &Call, w: &mut Walk) {
+    w.front(&["owned"]);
+    w.split_all("fsplit", &named("own", &c.params), "true");
+    for p in &c.params {
+        if p.kind == Kind::Value {
+            w.front(&[&own(p)]);
+            w.swap("drop !", 1, &[]);
+        }
+        if p.kind == Kind::Shared {
+            let Param { own: had, named, k, row, x, v, s, .. } = p;
+            let twice = format!("(shr-slice-copy 𝓤 H A W {named} {k} {row} .twice ({x} {v}) ({s} ∷ []))");
+            w.front(&[&own(p)]);
+            w.swap(&format!("use1 W (‵ {had} ⊛ ‵ {had}) {twice}"), 1, &["both"]);
+            w.swap("split !", 1, &[&own(p), &format!("copy {}", p.name)]);
+        }
+    }
+    w.front(&["tokens"]);
+    w.split_all("split", &named("token", c.refs()), "no token");
+}
+
+/// All tokens become one item, and what is had of each slice at exit comes after it.
+fn gathers(c: &Call, w: &mut Walk) {
+    w.front(&["tokens back"]);
+    if c.core_refs().is_empty() {
+        w.rename("no token");
+    }
+    w.split_all("split", &named("token", c.core_refs()), "no token");
+    let tokens = w.join_all("join", &named("token", c.refs()), "no token", "tokens");
+    let had = |p: &Param| format!("{} {}", if p.changes() { "final" } else { "copy" }, p.name);
+    let kept: Vec<String> = [tokens].into_iter().chain(c.refs().into_iter().map(had)).collect();
+    w.keep(&strs(&kept));
+}
+
+/// The step from a struct that is owned to the fact that its value is in its row.
+fn facts(of: &str) -> String {
+    format!("facts ! {of}D.the-row (Is {of}D.the-row) (shows 𝓤 H A {of}D.the-row) r (w ∷ []) (λ is.")
+}
+
+/// That a field of what the core made is in its row.
+fn is_part(c: &Call, field: &str) -> String {
+    format!("({}-{field}-is r (w ∷ []) is)", c.out())
+}
+
+/// What the load and the store are told of the seats.
+fn lent_seats(s: &Param) -> String {
+    let Param { k, q, b, o, g, v, room, .. } = s;
+    format!("𝓤 H A W at-mem run {k} {q} {b} {o} {g} {v} {room} full")
+}
+
+/// The step that makes the loaded row owned.
+fn owned_row(s: &Param) -> String {
+    let array = "(Array SeatD.the-row seatCount)";
+    let seat = "(LL.makes SeatD.the-type SeatL.the-plain 𝓤 H A)";
+    let makes = format!("(array-makes 𝓤 H A W SeatD.the-row {seat} seatCount)");
+    format!("owned ! {array} (Is {array}) {makes} {} _ is-row", s.v)
+}
