@@ -30,21 +30,29 @@ const WRONG: &str = "wrong";
 /// The answers to a whole file, or a complaint that names the first line that is not a case. In
 /// that case there are no answers at all, so half a file of them is never taken for a whole one.
 pub fn file(input: &[u8]) -> Result<String, String> {
-    let mut session = Session::default();
     let mut text = String::new();
-    for (index, line) in input.split_inclusive(|&code| code == b'\n').enumerate() {
-        let answer = case_of_line(line)
-            .and_then(|case| session.answer(case))
-            .map_err(|NotACase(reason)| {
-                let shown = line.strip_suffix(b"\n").unwrap_or(line).escape_ascii();
-                format!("line {} is not a case ({reason}): {shown}", index + 1)
-            })?;
-        for answer_line in answer {
-            text.push_str(&answer_line);
-            text.push('\n');
-        }
+    for answer_line in by_case(input)?.iter().flatten() {
+        text.push_str(answer_line);
+        text.push('\n');
     }
     Ok(text)
+}
+
+/// The same, for each case the lines that answer it, without their LF.
+pub fn by_case(input: &[u8]) -> Result<Vec<Vec<String>>, String> {
+    let mut session = Session::default();
+    let lines = input.split_inclusive(|&code| code == b'\n');
+    lines
+        .enumerate()
+        .map(|(index, line)| {
+            case_of_line(line)
+                .and_then(|case| session.answer(case))
+                .map_err(|NotACase(reason)| {
+                    let shown = line.strip_suffix(b"\n").unwrap_or(line).escape_ascii();
+                    format!("line {} is not a case ({reason}): {shown}", index + 1)
+                })
+        })
+        .collect()
 }
 
 fn case_of_line(line: &[u8]) -> Result<&str, NotACase> {

@@ -1,8 +1,9 @@
 //! Makes the file of cases. Each subject adds its own; the file is the same for the same seed. The
 //! captures to be listed stand apart from it, each by itself.
 
+pub mod bulk;
 pub mod captures;
-mod desk;
+pub mod desk;
 mod digits;
 mod dynamic;
 mod finder;

@@ -6,6 +6,7 @@
 #![forbid(unsafe_code)]
 
 mod answers;
+mod bulk;
 mod cases;
 mod desk;
 mod digits;
@@ -29,7 +30,8 @@ use std::path::Path;
 use std::process::ExitCode;
 
 const USAGE: &str = "usage: second cases SEED | second answers < CASES | \
-                     second captures SEED DIR | second list < CAPTURE | second lists FILE..";
+                     second captures SEED DIR | second list < CAPTURE | second lists FILE.. | \
+                     second bulk RUN ROOM [OPTION..]";
 
 /// The exit status of every complaint: wrong usage, a line that is no case, input or output that fails.
 const COMPLAINT: u8 = 2;
@@ -40,8 +42,14 @@ fn main() -> ExitCode {
         .map(|argument| argument.to_string_lossy().into_owned())
         .collect();
     let words: Vec<&str> = arguments.iter().map(String::as_str).collect();
-    match run(&words).and_then(|output| print(&output)) {
-        Ok(()) => ExitCode::SUCCESS,
+    let outcome = match words.as_slice() {
+        ["bulk", options @ ..] => bulk::run(options),
+        words => run(words)
+            .and_then(|output| print(&output))
+            .map(|()| ExitCode::SUCCESS),
+    };
+    match outcome {
+        Ok(status) => status,
         Err(complaint) => {
             eprintln!("second: {complaint}");
             ExitCode::from(COMPLAINT)

@@ -8,9 +8,9 @@ use lib.ListN.{length}
 use lib.Dec.{eqb, leb}
 use borrow.Author.Tests.{eqb-true, eq-eqb}
 use Rattle.digits.specs.Told.{Told, gives, refuses}
-use Rattle.frames.specs.Refusals.{KIND, LENGTH, END, ADDRESS, FIELD, readRefused}
+use Rattle.frames.specs.Refusals.{readRefused}
+use Rattle.frames.proofs.RefusalLaws.{read-refuses}
 use Rattle.frames.specs.declared.refusals.ReadRefusal.{ReadRefusal}
-use Rattle.frames.specs.declared.refusals.ReadRefusal.the-variants.{Kind as kind, Length, End, Address, Field}
 use Rattle.frames.specs.declared.request.StaticRequest.{StaticRequest}
 use Rattle.frames.specs.declared.reply.StaticReply.{StaticReply}
 use Rattle.frames.specs.Rules.{upTo, isRequester}
@@ -40,30 +40,8 @@ module _ {A B : Type 0} where
   given (gives a) further b e = record { one = a; is = refl; rest = e }
   given (refuses n o) further b e = absurd (let z : _≡_ {A = ℕ} 0 1 = cc in omega arith)
 
--- ---- a reader's refusal: its number and its offset
+-- ---- a reader's refusal stands
 
-abbrev numberOf : ReadRefusal → ℕ
-numberOf kind = KIND
-numberOf Length = LENGTH
-numberOf End = END
-numberOf Address = ADDRESS
-numberOf (Field p) = FIELD
-
-abbrev offsetOf : ReadRefusal → ℕ
-offsetOf kind = 0
-offsetOf Length = 0
-offsetOf End = 0
-offsetOf Address = 0
-offsetOf (Field p) = p .field
-
-pub read-refuses : {A : Type 0} (g : ReadRefusal) → readRefused {A = A} g ≡ refuses (numberOf g) (offsetOf g)
-read-refuses kind = refl
-read-refuses Length = refl
-read-refuses End = refl
-read-refuses Address = refl
-read-refuses (Field p) = refl
-
--- it stands
 pub called-refused : (g : ReadRefusal) → readRefused g ≡ called (readRefused g)
 called-refused g = read-refuses g ∙ sym (ap called (read-refuses g))
 

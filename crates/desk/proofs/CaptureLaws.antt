@@ -16,6 +16,7 @@ use Rattle.frames.specs.declared.refusals.ReadRefusal.{ReadRefusal}
 use Rattle.finder.specs.Pieces.{Piece, whole, cut, pieces, piecesFrom}
 use Rattle.finder.proofs.Demands.{frames-are-leads}
 use Rattle.finder.proofs.Step.{part-is}
+use Rattle.frames.proofs.RefusalLaws.{read-refuses}
 use Rattle.desk.specs.declared.opening.OpenRefusal.{OpenRefusal}
 use Rattle.desk.specs.declared.opening.OpenRefusal.the-variants.{Desk as open-no-desk, Frame as open-frame, NoAnswerDue, InUse, NoSeat}
 use Rattle.desk.specs.declared.reply.ReplyRefusal.{ReplyRefusal}
@@ -31,7 +32,6 @@ use Rattle.desk.specs.Calls.{openRefused, replyRefused, opens, replies, 
 use Rattle.desk.specs.Capture.{fateBy, dynamicFate, meets, meetsPiece, fates, afterAll, isOpened, isCollected, isDynamic, isRefused, howMany, countsOf, TookCapture, CountsAddUp}
 use Rattle.desk.specs.Inside.{Meets, oneMore}
 use Rattle.desk.proofs.Below.{by-test}
-use Rattle.desk.proofs.CallLaws.{read-refuses}
 use Rattle.desk.proofs.MixLaws.{stays-desk}
 
 -- ---- a refusal is a refused frame

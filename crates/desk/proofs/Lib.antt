@@ -10,5 +10,6 @@ pub mod MixLaws
 pub mod CaptureLaws
 pub mod KeepsLaws
 pub mod LeavesLaws
+pub mod CellLaws
 pub mod Unique
 pub mod SureLaws

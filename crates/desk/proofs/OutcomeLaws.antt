@@ -15,6 +15,7 @@ use Rattle.frames.specs.declared.refusals.ReadRefusal.{ReadRefusal}
 use Rattle.frames.specs.declared.request.StaticRequest.{StaticRequest}
 use Rattle.frames.specs.declared.request.RequestRead.{RequestRead}
 use Rattle.frames.specs.declared.request.RequestRead.the-variants.{Request, Refused as not-request}
+use Rattle.frames.proofs.RefusalLaws.{read-refuses}
 use Rattle.desk.specs.declared.state.Seat.{Seat}
 use Rattle.desk.specs.declared.call.Call.{Call}
 use Rattle.desk.specs.declared.call.Heard.{Heard}
@@ -29,7 +30,6 @@ use Rattle.desk.specs.Call.{heard, heardTold}
 use Rattle.desk.specs.Memory.{Memory, capacity}
 use Rattle.desk.specs.Desk.{isDesk}
 use Rattle.desk.specs.Calls.{DESK, whatIsGiven, requestTried, openTried, callTried, replyTried, opens, opened, replies, taken, withCell, openRefused, replyRefused, Did}
-use Rattle.desk.proofs.CallLaws.{read-refuses}
 
 -- ---- a reader's refusal stands
 

@@ -12,8 +12,8 @@ use borrow.Author.Tests.{eqb-true, eq-eqb, ne-eqb, lt-ltb, ltb-true, le-leb, leb
 use Rattle.digits.specs.Told.{gives}
 use Rattle.frames.specs.Kind.{read}
 use Rattle.frames.specs.Reply.{reply}
-use Rattle.frames.specs.Refusals.{readRefused}
 use Rattle.frames.specs.declared.refusals.ReadRefusal.{ReadRefusal}
+use Rattle.frames.proofs.RefusalLaws.{read-refuses}
 use Rattle.desk.specs.declared.call.Heard.{Heard}
 use Rattle.desk.specs.declared.call.Heard.the-variants.{Refused as not-heard}
 use Rattle.desk.specs.declared.state.Seat.{Seat}
@@ -27,7 +27,6 @@ use Rattle.desk.specs.Seats.{seatAt, usedBit}
 use Rattle.desk.specs.Memory.{Memory, capacity, capacityOf, cellAt, markAt}
 use Rattle.desk.specs.Desk.{isZero, keyLegal, unusedZero, apartAt, apartBelow, markNames, markGood, cellKeyed, named, lastEnds, heldRight, endedRight, placed, sixteenSeats, noBitAbove, keysLegal, noKeyShared, unusedAllZero, countFits, marksName, cellsAreReplies, heldIsNamed, endsLast, endedIsLast, isDesk}
 use Rattle.desk.specs.Inside.{seatGood, seatGoodAt, noView, takes, turnOf, agrees, agreesAt, viewOf, takenAt, rowsHold}
-use Rattle.desk.proofs.CallLaws.{read-refuses}
 use Rattle.desk.proofs.Below.{and-true, and-l, and-r, past, eq-case, all-at, all-of, all-and, all-ext, count-more}
 
 -- ---- within a seat only the last may be E or Z, Z only alone: as each row is met

@@ -5,9 +5,8 @@ use mathlib.Core.Bool.{cond}
 use mathlib.Core.Path.{_≡_, refl, sym, ap, _∙_}
 use lib.Dec.{eqb}
 use Rattle.digits.specs.Told.{Told, gives, refuses}
-use Rattle.frames.specs.declared.refusals.ReadRefusal.{ReadRefusal}
 use Rattle.frames.specs.declared.refusals.ReadRefusal.the-variants.{Kind, Length, End, Address, Field}
-use Rattle.frames.specs.Refusals.{KIND, LENGTH, END, ADDRESS}
+use Rattle.frames.proofs.RefusalLaws.{readBack}
 use Rattle.desk.specs.declared.opening.OpenDone.{OpenDone}
 use Rattle.desk.specs.declared.opening.OpenRefusal.the-variants.{Desk as open-no-desk, Frame as open-frame, NoAnswerDue, InUse, NoSeat}
 use Rattle.desk.specs.declared.opening.OpenAnswer.{OpenAnswer}
@@ -25,11 +24,6 @@ use Rattle.desk.specs.Capture.{captureTold, TookCapture}
 use Rattle.desk.specs.Calls.{DESK, NO-ANSWER-DUE, IN-USE, STRAY, ENDED, OUT-OF-PLACE, FULL, Outcome, openTold, replyTold, Did}
 
 -- ---- what was told leads back to the answer: each refusal has a number and an offset of its own
-
-abbrev readBack : ℕ → ℕ → ReadRefusal
-readBack number offset =
-    cond (eqb number KIND) Kind (cond (eqb number LENGTH) Length (cond (eqb number END) End
-    (cond (eqb number ADDRESS) Address (Field (record { field = offset })))))
 
 abbrev openBack : Told ℕ → OpenAnswer
 openBack (gives s) = Opened s

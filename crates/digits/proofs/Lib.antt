@@ -4,3 +4,4 @@ pub mod Laws
 pub mod Forms
 pub mod Lists
 pub mod Sure
+pub mod Tables

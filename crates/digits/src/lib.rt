@@ -4,7 +4,7 @@ ghost use Prim.Native.Nat.{_+_};
 ghost use lib.ListN.{getD, set};
 ghost use lib.Seq.{sets};
 ghost use Rattle.digits.specs.Digits.{numberAt, numberText};
-ghost use Rattle.digits.specs.Text.{oneOf};
+ghost use Rattle.digits.specs.Text.{oneOf, inSet};
 
 // What stands where a number is looked for.
 pub enum Number {
@@ -66,6 +66,19 @@ pub fn one_of(list: &[u8], b: u8) -> bool
             return true;
         }
         i += 1;
+    }
+    false
+}
+
+// Whether a byte is in a set that is two numbers: bit b of low, and from 64 on bit b - 64 of high. It takes no walk along a list.
+pub fn in_set(low: u64, high: u64, b: u8) -> bool
+    ensures { λ r. ⌜ r ≡ inSet low high b ⌝ }
+{
+    if b < 64 {
+        return (low >> b) % 2 == 1;
+    }
+    if b < 128 {
+        return (high >> (b - 64)) % 2 == 1;
     }
     false
 }

@@ -1,3 +1,4 @@
+pub mod RefusalLaws
 pub mod HeadLaws
 pub mod RuleLaws
 pub mod LayoutLaws

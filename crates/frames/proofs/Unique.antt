@@ -7,7 +7,7 @@ use native.Mathlib.Omega.{arith}
 use lib.Dec.{eqb}
 use Rattle.digits.specs.Told.{Told, gives, refuses}
 use Rattle.frames.specs.declared.refusals.ReadRefusal.{ReadRefusal}
-use Rattle.frames.specs.declared.refusals.ReadRefusal.the-variants.{Kind as kind, Length, End, Address, Field}
+use Rattle.frames.specs.declared.refusals.ReadRefusal.the-variants.{Kind as kind}
 use Rattle.frames.specs.declared.refusals.ReadVerdict.{ReadVerdict}
 use Rattle.frames.specs.declared.refusals.ReadVerdict.the-variants.{Read, Refused as turned}
 use Rattle.frames.specs.declared.refusals.WriteRefusal.the-variants.{Record, Room}
@@ -21,38 +21,29 @@ use Rattle.frames.specs.declared.dynamic.DynamicRead.{DynamicRead}
 use Rattle.frames.specs.declared.dynamic.DynamicRead.the-variants.{Request as Running, Refused as not-running}
 use Rattle.frames.specs.declared.reply.StaticReply.{StaticReply}
 use Rattle.frames.specs.declared.reply.ReplyRead.{ReplyRead}
-use Rattle.frames.specs.Refusals.{KIND, LENGTH, END, ADDRESS, RECORD, readRefused, writeTold}
+use Rattle.frames.specs.Refusals.{RECORD, readRefused, writeTold}
 use Rattle.frames.specs.Kind.{Kind, read, Wrote}
 use Rattle.frames.specs.Request.{request, requestTold}
 use Rattle.frames.specs.Dynamic.{dynamic, dynamicTold}
 use Rattle.frames.specs.Reply.{reply, toldBy, ReadAs}
+use Rattle.frames.proofs.RefusalLaws.{numberOf, offsetOf, read-refuses, readBack, read-back}
 
--- ---- what was told leads back to the refusal: each has a number and an offset of its own
+-- ---- what was told leads back to the refusal
 
 module _ (A : Type 0) where
   refusalIn : Told A → ReadRefusal
   refusalIn (gives a) = kind
-  refusalIn (refuses number offset) =
-      cond (eqb number KIND) kind (cond (eqb number LENGTH) Length (cond (eqb number END) End
-      (cond (eqb number ADDRESS) Address (Field (record { field = offset })))))
+  refusalIn (refuses number offset) = readBack number offset
 
   refusal-in : (f : ReadRefusal) → refusalIn (readRefused f) ≡ f
   unfolding refusalIn
-  refusal-in kind = refl
-  refusal-in Length = refl
-  refusal-in End = refl
-  refusal-in Address = refl
-  refusal-in (Field p) = refl
+  refusal-in f = ap refusalIn (read-refuses f) ∙ read-back f
 
   same-refusal : (f g : ReadRefusal) → readRefused {A = A} f ≡ readRefused g → f ≡ g
   same-refusal f g e = sym (refusal-in f) ∙ ap refusalIn e ∙ refusal-in g
 
   not-given : (a : A) (f : ReadRefusal) → gives a ≡ readRefused f → ⊥
-  not-given a kind e = let z : _≡_ {A = ℕ} 0 1 = cc in omega arith
-  not-given a Length e = let z : _≡_ {A = ℕ} 0 1 = cc in omega arith
-  not-given a End e = let z : _≡_ {A = ℕ} 0 1 = cc in omega arith
-  not-given a Address e = let z : _≡_ {A = ℕ} 0 1 = cc in omega arith
-  not-given a (Field p) e = let z : _≡_ {A = ℕ} 0 1 = cc in omega arith
+  not-given a f e = let h : gives a ≡ refuses (numberOf f) (offsetOf f) = e ∙ read-refuses f in let z : _≡_ {A = ℕ} 0 1 = cc in omega arith
 
 -- ---- readers
 

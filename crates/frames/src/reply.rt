@@ -20,6 +20,7 @@ use crate::timing::seen_at;
 use crate::timing::spare_at;
 use crate::timing::timing_wrong;
 use digits::byte_at;
+use digits::in_set;
 use digits::one_of;
 use digits::put_byte;
 use digits::put_number;
@@ -33,6 +34,11 @@ ghost use Rattle.frames.specs.Reply.{isStatus, isLetter, isChannel, leas
 pub const REPLY_LEAD: u8 = 18;
 
 pub const REPLY_SIZE: usize = 51;
+
+// The 33 letters of a reply, as a set.
+const LETTERS_LOW: u64 = 0x3ff_0000_0000_0000;
+
+const LETTERS_HIGH: u64 = 0xa9_0f82_019f_0f82;
 
 // Letters, program and mode by their code. Raw time and date are zero where the timing is not raw.
 pub struct StaticReply {
@@ -218,7 +224,7 @@ fn is_status(b: u8) -> bool
 fn is_letter(b: u8) -> bool
     ensures { λ r. ⌜ r ≡ isLetter b ⌝ }
 {
-    one_of(b"0123456789AQPaSsTKRGHhIiJjpkugWwX", b)
+    in_set(LETTERS_LOW, LETTERS_HIGH, b)
 }
 
 fn is_channel(v: u32) -> bool

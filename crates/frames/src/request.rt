@@ -11,7 +11,7 @@ use crate::refusals::ReadRefusal;
 use crate::refusals::ReadVerdict;
 use crate::refusals::WriteAnswer;
 use digits::byte_at;
-use digits::one_of;
+use digits::in_set;
 use digits::put_byte;
 use digits::put_number;
 ghost use mathlib.Core.Path.{_≡_};
@@ -26,6 +26,11 @@ ghost use Rattle.frames.specs.Request.{isInformation, isChannel, request
 pub const REQUEST_LEAD: u8 = 17;
 
 pub const REQUEST_SIZE: usize = 24;
+
+// The 41 letters of a request's information, as a set.
+const INFORMATION_LOW: u64 = 0x3ff_0400_0000_0000;
+
+const INFORMATION_HIGH: u64 = 0xbb_1f9e_019f_1f82;
 
 // Letters by their code. A number can hold more than its field can show.
 #[repr(C)]
@@ -111,7 +116,7 @@ fn request_wrong(r: StaticRequest) -> u8
 fn is_information(b: u8) -> bool
     ensures { λ r. ⌜ r ≡ isInformation b ⌝ }
 {
-    one_of(b"0123456789AQPaSsTKLtR*GHhIiJjpkugWwXlbcdq", b)
+    in_set(INFORMATION_LOW, INFORMATION_HIGH, b)
 }
 
 fn is_channel(v: u32) -> bool

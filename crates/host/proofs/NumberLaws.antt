@@ -1,5 +1,5 @@
 -- From what the calls below answer to the numbers of the host's answers. Assumes nothing.
-use mathlib.Core.Path.{_≡_, refl, ap, _∙_}
+use mathlib.Core.Path.{_≡_, refl, sym, ap, _∙_}
 use mathlib.Core.List.{List, []}
 use Prim.Native.Nat.{ℕ}
 use lib.ListN.{length}
@@ -14,7 +14,7 @@ use Rattle.desk.specs.declared.opening.OpenRefusal.the-variants.{Desk as open-n
 use Rattle.desk.specs.declared.reply.ReplyRefusal.{ReplyRefusal}
 use Rattle.desk.specs.declared.reply.ReplyRefusal.the-variants.{Desk as no-desk, Frame, Stray, Ended, OutOfPlace, Full}
 use Rattle.frames.specs.declared.refusals.ReadRefusal.{ReadRefusal}
-use Rattle.frames.specs.declared.refusals.ReadRefusal.the-variants.{Kind as kind, Length, End, Address, Field}
+use Rattle.frames.proofs.RefusalLaws.{read-refuses}
 use Rattle.frames.specs.declared.refusals.ReadVerdict.the-variants.{Read, Refused}
 use Rattle.frames.specs.declared.request.StaticRequest.{StaticRequest}
 use Rattle.frames.specs.declared.dynamic.DynamicRequest.{DynamicRequest}
@@ -44,28 +44,15 @@ use Rattle.host.specs.Reply.{shown, replyAnswer}
 
 -- ---- a reader's refusal has its number and offset whatever is read
 
-module _ (A : Type 0) where
-  pub same-number : (g : ReadRefusal) → numberIn {A = ℕ} (readRefused g) ≡ numberIn {A = A} (readRefused g)
-  same-number kind = refl
-  same-number Length = refl
-  same-number End = refl
-  same-number Address = refl
-  same-number (Field p) = refl
+module _ (A : Type 0) (g : ReadRefusal) where
+  same-number : numberIn {A = ℕ} (readRefused g) ≡ numberIn {A = A} (readRefused g)
+  same-number = ap numberIn (read-refuses g) ∙ sym (ap numberIn (read-refuses g))
 
-  pub same-offset : (g : ReadRefusal) → offsetIn {A = ℕ} (readRefused g) ≡ offsetIn {A = A} (readRefused g)
-  same-offset kind = refl
-  same-offset Length = refl
-  same-offset End = refl
-  same-offset Address = refl
-  same-offset (Field p) = refl
+  same-offset : offsetIn {A = ℕ} (readRefused g) ≡ offsetIn {A = A} (readRefused g)
+  same-offset = ap offsetIn (read-refuses g) ∙ sym (ap offsetIn (read-refuses g))
 
-module _ {A : Type 0} where
-  pub no-value : (zero : A) (g : ReadRefusal) → zero ≡ valueIn zero (readRefused g)
-  no-value zero kind = refl
-  no-value zero Length = refl
-  no-value zero End = refl
-  no-value zero Address = refl
-  no-value zero (Field p) = refl
+no-value : {A : Type 0} (zero : A) (g : ReadRefusal) → zero ≡ valueIn zero (readRefused g)
+no-value zero g = sym (ap (valueIn zero) (read-refuses g))
 
 -- ---- beside a refusal stands a zero
 

@@ -4,4 +4,5 @@ pub mod RowLaws
 pub mod StoreLaws
 pub mod ListLaws
 pub mod SizeLaws
+pub mod CountLaws
 pub mod Unique

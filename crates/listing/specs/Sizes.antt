@@ -1,16 +1,27 @@
--- How long a list can be, and that its numbers are shown whole.
-use Prim.Native.Nat.{ℕ, _<_, _≤_}
+-- How long a list can be, how many rows it has, and that its numbers are shown whole.
+use Prim.Native.Nat.{ℕ, zero, suc, _+_, _<_, _≤_}
 use mathlib.Core.List.{List}
 use mathlib.Core.Path.{_≡_}
 use lib.ListN.{length}
 use Rattle.digits.specs.declared.Number.the-variants.{Is}
 use Rattle.digits.specs.Digits.{numberAt}
+use Rattle.desk.specs.Limits.{seatCount}
+use Rattle.desk.specs.Memory.{Memory, heldBy}
 use Rattle.listing.specs.Text.{width, decimal}
-use Rattle.listing.specs.Listing.{mostInput, counts, listOf}
+use Rattle.listing.specs.Listing.{mostInput, after, counts, listOf}
 
 -- an output of 14,170 bytes has room for every list
 abbrev pub ListFits : Type 0
 ListFits = (cells marks s : List ℕ) → length (listOf cells marks s) ≤ 14170
+
+-- the rows that a list has of the seats below n
+unfoldable pub rowsIn : Memory → ℕ → ℕ
+rowsIn m zero = 0
+rowsIn m (suc n) = rowsIn m n + length (heldBy m n)
+
+-- a list has as many rows as it tells replies collected
+abbrev pub RowsAreCollected : Type 0
+RowsAreCollected = (cells marks s : List ℕ) → rowsIn (after cells marks s) seatCount ≡ counts cells marks s .collected
 
 -- what is shown reads as the number
 abbrev pub NumbersRead : Type 0

@@ -1,5 +1,6 @@
 //! The captures that are listed. Those that every seed has come first, then the random ones.
 
+pub mod bulk;
 mod counts;
 mod cuts;
 mod full;

@@ -1,6 +1,7 @@
 //! Scripts of a desk. The first of them begins before anything is lent; each of the others begins
 //! by lending.
 
+pub mod bulk;
 mod clauses;
 pub mod frames;
 mod looks;

@@ -130,17 +130,23 @@ fn add_periods(cases: &mut Cases) {
 
 fn add_random_frames(cases: &mut Cases, random: &mut Random) {
     for _ in 0..200 {
-        let mut frame = frame_of(&random_record(random));
-        for _ in 0..number_of_faults(random) {
-            match random.below(5) {
-                0 => put(&mut frame, at::ORDER, &[random.pick(ORDERS)]),
-                1 => put(&mut frame, at::TIME, random.pick(&TIMES)),
-                2 => put(&mut frame, at::PERIOD, b"00000"),
-                _ => befall_at_random(&mut frame, &NUMBERS, random),
-            }
-        }
+        let frame = random_frame(random);
         add_read(cases, &frame);
     }
+}
+
+/// A good frame that nothing or some things have befallen.
+pub fn random_frame(random: &mut Random) -> Vec<u8> {
+    let mut frame = frame_of(&random_record(random));
+    for _ in 0..number_of_faults(random) {
+        match random.below(5) {
+            0 => put(&mut frame, at::ORDER, &[random.pick(ORDERS)]),
+            1 => put(&mut frame, at::TIME, random.pick(&TIMES)),
+            2 => put(&mut frame, at::PERIOD, b"00000"),
+            _ => befall_at_random(&mut frame, &NUMBERS, random),
+        }
+    }
+    frame
 }
 
 pub fn random_record(random: &mut Random) -> Dynamic {
@@ -193,8 +199,12 @@ fn record_of(frame: &[u8; LENGTH]) -> Dynamic {
     Dynamic::read(frame).expect("a good frame")
 }
 
+fn write_case(room: usize, record: &Dynamic) -> String {
+    format!("write-dynamic {room} {}", record.text())
+}
+
 fn add_write(cases: &mut Cases, room: usize, record: &Dynamic) {
-    cases.add(format!("write-dynamic {room} {}", record.text()));
+    cases.add(write_case(room, record));
 }
 
 fn add_writes(cases: &mut Cases) {
@@ -305,17 +315,22 @@ fn add_several_wrong_to_write(cases: &mut Cases) {
 
 fn add_random_writes(cases: &mut Cases, random: &mut Random) {
     for _ in 0..200 {
-        let mut record = random_record(random);
-        for _ in 0..number_of_faults(random) {
-            spoil_at_random(&mut record, random);
-        }
-        let room = match random.below(3) {
-            0 => random.pick(&ROOMS),
-            1 => LENGTH + random.place(8),
-            _ => random.place(101),
-        };
-        add_write(cases, room, &record);
+        cases.add(random_write(random));
     }
+}
+
+/// A record that nothing or some parts are spoiled of, to a room that may be too small.
+pub fn random_write(random: &mut Random) -> String {
+    let mut record = random_record(random);
+    for _ in 0..number_of_faults(random) {
+        spoil_at_random(&mut record, random);
+    }
+    let room = match random.below(3) {
+        0 => random.pick(&ROOMS),
+        1 => LENGTH + random.place(8),
+        _ => random.place(101),
+    };
+    write_case(room, &record)
 }
 
 fn spoil_at_random(record: &mut Dynamic, random: &mut Random) {

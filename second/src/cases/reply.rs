@@ -3,6 +3,9 @@
 mod reads;
 mod writes;
 
+pub use reads::random_frame;
+pub use writes::random_write;
+
 use super::frames::{time_text, Number, REQUESTERS};
 use super::Cases;
 use crate::frame::Kind;

@@ -196,12 +196,18 @@ fn add_letters(cases: &mut Cases) {
 
 fn add_random_frames(cases: &mut Cases, random: &mut Random) {
     for _ in 0..300 {
-        let mut frame = frame_of(&random_record(random));
-        for _ in 0..random.below(3) {
-            befall_at_random(&mut frame, &NUMBERS, random);
-        }
+        let frame = random_frame(random);
         add_read(cases, &frame);
     }
+}
+
+/// A good frame that nothing, one thing or two have befallen.
+pub fn random_frame(random: &mut Random) -> Vec<u8> {
+    let mut frame = frame_of(&random_record(random));
+    for _ in 0..random.below(3) {
+        befall_at_random(&mut frame, &NUMBERS, random);
+    }
+    frame
 }
 
 pub fn random_record(random: &mut Random) -> Request {
@@ -237,8 +243,12 @@ pub fn frame_of(record: &Request) -> Vec<u8> {
 /// No room, one byte too little, just enough, and more.
 const ROOMS: [u64; 4] = [0, 23, 24, 30];
 
+fn write_case(room: u64, record: &Request) -> String {
+    format!("write-request {room} {}", record.text())
+}
+
 fn add_write(cases: &mut Cases, room: u64, record: &Request) {
-    cases.add(format!("write-request {room} {}", record.text()));
+    cases.add(write_case(room, record));
 }
 
 fn add_write_to_all_rooms(cases: &mut Cases, record: &Request) {
@@ -369,17 +379,22 @@ fn spoil(record: &mut Request, offset: usize) {
 
 fn add_random_writes(cases: &mut Cases, random: &mut Random) {
     for _ in 0..200 {
-        let mut record = random_record(random);
-        for _ in 0..random.below(3) {
-            spoil_at_random(&mut record, random);
-        }
-        let room = match random.below(3) {
-            0 => random.pick(&ROOMS),
-            1 => 24 + random.below(8),
-            _ => random.below(101),
-        };
-        add_write(cases, room, &record);
+        cases.add(random_write(random));
     }
+}
+
+/// A record that nothing, one part or two are spoiled of, to a room that may be too small.
+pub fn random_write(random: &mut Random) -> String {
+    let mut record = random_record(random);
+    for _ in 0..random.below(3) {
+        spoil_at_random(&mut record, random);
+    }
+    let room = match random.below(3) {
+        0 => random.pick(&ROOMS),
+        1 => 24 + random.below(8),
+        _ => random.below(101),
+    };
+    write_case(room, &record)
 }
 
 fn spoil_at_random(record: &mut Request, random: &mut Random) {

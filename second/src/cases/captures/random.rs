@@ -1,11 +1,10 @@
 //! Random captures, with everything in them that can befall a frame.
 
 use super::{key, keys, requests as requests_to, Capture};
-use crate::cases::desk::frames::{request, request_for, Key, E, R, Z};
+use crate::cases::desk::frames::{random_reply, request, request_for, Key, E, R, Z};
 use crate::cases::frames::befall_at_random;
 use crate::cases::{dynamic, reply, request as requests};
 use crate::random::Random;
-use std::iter;
 
 const CAPTURES: usize = 60;
 
@@ -30,7 +29,7 @@ pub fn captures(random: &mut Random) -> Vec<Capture> {
 }
 
 /// Some requests, then pieces up to this length. The last one is cut to fit, or LFs take its place.
-fn capture(random: &mut Random, length: usize) -> Capture {
+pub fn capture(random: &mut Random, length: usize) -> Capture {
     let number_of_keys = random.pick(&NUMBERS_OF_KEYS);
     let opened = number_of_keys.min(length / BYTES_A_REQUEST);
     let mut capture = requests_to(&keys(opened)).concat();
@@ -64,18 +63,13 @@ fn piece(random: &mut Random, number_of_keys: usize) -> Vec<u8> {
 }
 
 /// A reply to this key, all its other fields at random.
-fn good_reply(random: &mut Random, (requester, number): Key) -> Vec<u8> {
+fn good_reply(random: &mut Random, own: Key) -> Vec<u8> {
     let status = match random.below(12) {
         0 => E,
         1 => Z,
         _ => R,
     };
-    let mut record = iter::repeat_with(|| reply::random_record(random))
-        .find(|record| record.status == status)
-        .expect("each status comes");
-    record.requester = requester;
-    record.number = number.into();
-    reply::frame_of(&record)
+    random_reply(random, status, own)
 }
 
 fn stray(random: &mut Random, (requester, number): Key) -> Vec<u8> {

@@ -42,6 +42,15 @@ pub fn seats_of_rows(capture: &[u8]) -> Vec<usize> {
         .collect()
 }
 
+/// How many frames of these captures are taken, and how many refused.
+pub fn taken_and_refused(captures: &[Capture]) -> (usize, usize) {
+    let ends = captures.iter().map(|capture| end(capture));
+    ends.fold((0, 0), |(taken, all_refused), counts| {
+        let [opened, collected, dynamic, refused] = counts;
+        (taken + opened + collected + dynamic, all_refused + refused)
+    })
+}
+
 /// The numbers of all refusals that whole frames of these captures meet.
 pub fn refusals(captures: &[Capture]) -> BTreeSet<u8> {
     captures

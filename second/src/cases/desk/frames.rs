@@ -1,8 +1,10 @@
 //! The frames that scripts open requests and reply with, spelled out here and not by the writers
 //! under comparison.
 
-use crate::cases::replaced;
+use crate::cases::{self, replaced};
+use crate::random::Random;
 use crate::reply;
+use std::iter;
 
 /// Requester and number.
 pub type Key = (u8, u32);
@@ -37,6 +39,24 @@ pub fn reply_with_bib(status: u8, (requester, number): Key, bib: usize) -> Vec<u
     frame.extend(format!("{number:05}{bib:05}").bytes());
     frame.extend(b"000002000000P000000000000000000  \r");
     frame
+}
+
+/// A reply with this status to this key, all its other fields at random.
+pub fn random_reply(random: &mut Random, status: u8, (requester, number): Key) -> Vec<u8> {
+    let mut record = iter::repeat_with(|| cases::reply::random_record(random))
+        .find(|record| record.status == status)
+        .expect("each status comes");
+    record.requester = requester;
+    record.number = number.into();
+    cases::reply::frame_of(&record)
+}
+
+/// A request with this key, all its other fields at random. To one in 41 no answer is due.
+pub fn random_request(random: &mut Random, (requester, number): Key) -> Vec<u8> {
+    let mut record = cases::request::random_record(random);
+    record.requester = requester;
+    record.number = number.into();
+    cases::request::frame_of(&record)
 }
 
 /// Something to put at a place of a frame.

@@ -20,7 +20,7 @@ pub fn add_all(cases: &mut Cases, random: &mut Random) {
     }
 }
 
-fn add_script(cases: &mut Cases, random: &mut Random) {
+pub fn add_script(cases: &mut Cases, random: &mut Random) {
     let cells = random.pick(&[0, 1, 2, 3, 3, 4, 4, 5, 6]);
     let bytes = cells * CELL + random.pick(&[0, 0, 0, 1, 50]);
     let marks = random.pick(&[cells, cells, cells + 1, 3]);
@@ -119,7 +119,7 @@ fn add_spoils(script: &mut Script, random: &mut Random) {
 }
 
 /// A change that as a rule leaves no desk.
-fn random_change(desk: &Desk, random: &mut Random) -> Change {
+pub fn random_change(desk: &Desk, random: &mut Random) -> Change {
     match random.below(10) {
         0 | 1 if !desk.marks.is_empty() => {
             let place = random.place(desk.marks.len());

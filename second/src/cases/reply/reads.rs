@@ -260,7 +260,7 @@ fn add_random_frames(cases: &mut Cases, random: &mut Random) {
     }
 }
 
-fn random_frame(random: &mut Random) -> Vec<u8> {
+pub fn random_frame(random: &mut Random) -> Vec<u8> {
     let mut frame = frame_of(&random_record(random));
     for _ in 0..number_of_faults(random) {
         match random.below(5) {

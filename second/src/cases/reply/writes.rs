@@ -72,12 +72,20 @@ fn timed_records() -> [Reply; 3] {
     [clock_record(1, 29, 2, 2024), record_of(NET), record_of(RAW)]
 }
 
+fn write_case(room: usize, record: &Reply) -> String {
+    format!("write-reply {room} {}", record.text())
+}
+
+fn value_case(record: &Reply) -> String {
+    format!("write-reply-value {}", record.text())
+}
+
 fn add_write(cases: &mut Cases, room: usize, record: &Reply) {
-    cases.add(format!("write-reply {room} {}", record.text()));
+    cases.add(write_case(room, record));
 }
 
 fn add_value(cases: &mut Cases, record: &Reply) {
-    cases.add(format!("write-reply-value {}", record.text()));
+    cases.add(value_case(record));
 }
 
 /// To just enough room, and as a value.
@@ -372,19 +380,25 @@ fn add_several_wrong(cases: &mut Cases) {
 
 fn add_random_writes(cases: &mut Cases, random: &mut Random) {
     for _ in 0..200 {
-        let mut record = random_record(random);
-        for _ in 0..number_of_faults(random) {
-            spoil_at_random(&mut record, random);
-        }
-        let room = match random.below(3) {
-            0 => random.pick(&ROOMS),
-            1 => LENGTH + random.place(8),
-            _ => random.place(101),
-        };
-        match random.below(2) {
-            0 => add_write(cases, room, &record),
-            _ => add_value(cases, &record),
-        }
+        cases.add(random_write(random));
+    }
+}
+
+/// A record that nothing or some parts are spoiled of, to a room that may be too small or as a
+/// value.
+pub fn random_write(random: &mut Random) -> String {
+    let mut record = random_record(random);
+    for _ in 0..number_of_faults(random) {
+        spoil_at_random(&mut record, random);
+    }
+    let room = match random.below(3) {
+        0 => random.pick(&ROOMS),
+        1 => LENGTH + random.place(8),
+        _ => random.place(101),
+    };
+    match random.below(2) {
+        0 => write_case(room, &record),
+        _ => value_case(&record),
     }
 }
 

@@ -1,18 +1,18 @@
--- `frames::reply::is_letter` meets its contract. Assumes nothing.
+-- `frames::reply::is_letter` meets its contract: set and list agree at each of the 256 bytes, which is computed. Assumes nothing.
+use mathlib.Core.Path.{refl, _∙_}
+use Rattle.digits.specs.Text.{oneOf, inSet}
+use Rattle.frames.specs.Reply.{isLetter}
 use borrow.Author.Needs.{needs}
 use Rattle.frames.proofs.reply.is_letter.Statement.{statement}
 use Rattle.frames.proofs.reply.is_letter.Tie as tie
-use Rattle.frames.specs.Reply.{isLetter}
+use Rattle.digits.proofs.Tables.{agreed}
 
-slice-aggregate-one-of : tie.Need-slice-aggregate-one-of
-slice-aggregate-one-of c = search needs
-
-one-of-requires : tie.Need-one-of-requires
-one-of-requires c κs = search needs
+in-set-requires : tie.Need-in-set-requires
+in-set-requires c κs = search needs
 
 returns : tie.Need-returns
-unfolding isLetter
-returns c = cc
+unfolding inSet isLetter oneOf
+returns c = c .in-set .ensures ∙ agreed (inSet _ _) isLetter 256 refl (c .before .args .b) (c .before .fits .b .fits)
 
 pub is-letter-spec : {M : Type 1} → statement M
-is-letter-spec = tie.close (tie.spec slice-aggregate-one-of one-of-requires returns)
+is-letter-spec = tie.close (tie.spec in-set-requires returns)

@@ -1,0 +1,9 @@
+//! Links the proved library: on x86-64 the archive itself, elsewhere what bench/native makes of its module.
+fn main() {
+    let root = concat!(env!("CARGO_MANIFEST_DIR"), "/..");
+    let native = std::env::var("CARGO_CFG_TARGET_ARCH").is_ok_and(|arch| arch == "x86_64");
+    let folder = if native { "target/staticlib" } else { "target/bench/native" };
+    println!("cargo:rustc-link-search=native={root}/{folder}");
+    println!("cargo:rustc-link-lib=static=host");
+    println!("cargo:rerun-if-changed={root}/{folder}/libhost.a");
+}

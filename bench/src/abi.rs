@@ -1,0 +1,103 @@
+//! The structs of include/rei2.h, and its sixteen calls as both sides have them.
+
+use crate::plain;
+
+pub const SEATS: usize = 16;
+pub const CELLS: usize = 256;
+pub const CELL_SIZE: usize = 51;
+
+pub const CLOCK: u32 = 0;
+pub const NET: u32 = 1;
+pub const RAW: u32 = 2;
+
+/// Declares structs as C lays them out.
+macro_rules! structs {
+    ($($name:ident { $($field:ident: $type:ty),* $(,)? })*) => {$(
+        #[repr(C)]
+        #[derive(Clone, Copy, Debug, Default, PartialEq)]
+        pub struct $name { $(pub $field: $type),* }
+    )*};
+}
+
+structs! {
+    Desk { bits: u64, count: u32 }
+    Seat { requester: u32, number: u32, held: u32, ended: u32 }
+    DeskAnswer { desk: Desk, number: u32, offset: u32, seat: usize }
+    Counts { opened: usize, collected: usize, dynamic: usize, refused: usize }
+    CapturedAnswer { desk: Desk, number: u32, counts: Counts }
+    StaticRequest {
+        requester: u8, number: u32, bib: u32, information: u8, channel: u32, run: u32, group: u32, output: u8,
+    }
+    RequestAnswer { number: u32, offset: u32, request: StaticRequest }
+    TimingNumbers { kind: u32, ticks: u32, day: u32, month: u32, year: u32, net: i64 }
+    ReplyRecord {
+        program: u8, mode: u8, status: u8, requester: u8, number: u32, bib: u32, group: u32, run: u32, physical: u32,
+        channel: u32, information: u8, timing: TimingNumbers, raw_time: [u8; 10], raw_date: [u8; 8], spare: [u8; 2],
+    }
+    ReplyAnswer { number: u32, offset: u32, reply: ReplyRecord }
+    DynamicRequest {
+        requester: u8, order: u8, bib: u32, channel: u32, run: u32, stop_bib: u32, stop_channel: u32, stop_run: u32,
+        sign: u32, time: u32, days: u32, period: u32, output: u8,
+    }
+    DynamicAnswer { number: u32, offset: u32, request: DynamicRequest }
+    WrittenAnswer { number: u32, offset: u32, size: usize }
+    FrameAnswer { kind: u32, start: usize, end: usize, next: usize }
+    CellAnswer { found: u32, cell: usize }
+    RunningOf { bib: u32, tnow: u32, tev: u32, sign: u32, days: u32, time: u32 }
+    RunningAnswer { number: u32, ticks: i64 }
+    ListedAnswer { number: u32, size: usize }
+}
+
+/// Declares the calls, and the two sides as tables of pointers to them. Both sides have the same types, and are called
+/// through the pointers, so neither is inlined.
+macro_rules! calls {
+    ($($call:ident $exported:ident($($name:ident: $type:ty),* $(,)?) -> $answer:ty;)*) => {
+        extern "C" { $(fn $exported($($name: $type),*) -> $answer;)* }
+
+        pub struct Side { $(pub $call: unsafe extern "C" fn($($type),*) -> $answer),* }
+
+        pub static PROVED: Side = Side { $($call: $exported),* };
+        pub static PLAIN: Side = Side { $($call: plain::calls::$call),* };
+    };
+}
+
+// An answer of more than 16 bytes is stored where the first argument points, and that pointer comes back. On x86-64 this
+// is what C does where a function returns such a struct.
+calls! {
+    reset rei2_reset(answer: *mut DeskAnswer, seats: *mut Seat, seats_len: usize, desk: Desk) -> *mut DeskAnswer;
+    open rei2_open(
+        answer: *mut DeskAnswer, seats: *mut Seat, seats_len: usize, desk: Desk, cells: *const u8, cells_len: usize,
+        marks: *const u32, marks_len: usize, frame: *const u8, frame_len: usize,
+    ) -> *mut DeskAnswer;
+    reply rei2_reply(
+        answer: *mut DeskAnswer, seats: *mut Seat, seats_len: usize, desk: Desk, cells: *mut u8, cells_len: usize,
+        marks: *mut u32, marks_len: usize, frame: *const u8, frame_len: usize,
+    ) -> *mut DeskAnswer;
+    capture rei2_capture(
+        answer: *mut CapturedAnswer, seats: *mut Seat, seats_len: usize, desk: Desk, cells: *mut u8, cells_len: usize,
+        marks: *mut u32, marks_len: usize, capture: *const u8, capture_len: usize,
+    ) -> *mut CapturedAnswer;
+    seats_in_use rei2_seats_in_use(desk: Desk) -> u32;
+    capacity rei2_capacity(cells: usize, marks: usize) -> usize;
+    next_held rei2_next_held(
+        desk: Desk, cells: *const u8, cells_len: usize, marks: *const u32, marks_len: usize, seat: u32, from: usize,
+    ) -> CellAnswer;
+    read_request rei2_read_request(
+        answer: *mut RequestAnswer, frame: *const u8, frame_len: usize,
+    ) -> *mut RequestAnswer;
+    write_request rei2_write_request(record: StaticRequest, out: *mut u8, out_len: usize) -> WrittenAnswer;
+    read_reply rei2_read_reply(answer: *mut ReplyAnswer, frame: *const u8, frame_len: usize) -> *mut ReplyAnswer;
+    write_reply rei2_write_reply(record: ReplyRecord, out: *mut u8, out_len: usize) -> WrittenAnswer;
+    read_dynamic rei2_read_dynamic(
+        answer: *mut DynamicAnswer, frame: *const u8, frame_len: usize,
+    ) -> *mut DynamicAnswer;
+    write_dynamic rei2_write_dynamic(record: DynamicRequest, out: *mut u8, out_len: usize) -> WrittenAnswer;
+    next_frame rei2_next_frame(
+        answer: *mut FrameAnswer, capture: *const u8, capture_len: usize, at: usize,
+    ) -> *mut FrameAnswer;
+    list rei2_list(
+        capture: *const u8, capture_len: usize, cells: *mut u8, cells_len: usize, marks: *mut u32, marks_len: usize,
+        out: *mut u8, out_len: usize,
+    ) -> ListedAnswer;
+    running_time rei2_running_time(of: RunningOf) -> RunningAnswer;
+}

@@ -1,0 +1,209 @@
+//! Well formed records, and the frames, desks and captures made of them.
+
+use crate::abi::*;
+use crate::plain;
+use crate::random::Random;
+
+pub const REQUEST_SIZE: usize = 24;
+pub const REPLY_SIZE: usize = 51;
+pub const DYNAMIC_SIZE: usize = 46;
+
+const REQUESTERS: &[u8] = b"0123456789ABCDEFGHIJKLMNOPQRSTUVWXYZabcdefghijklmnopqrstuvwxyz";
+const OUTPUTS: &[u8] = b"SABT";
+const REQUEST_LETTERS: &[u8] = b"0123456789AQPaSsTKLtR*GHhIiJjpkugWwXlbcd";
+const CLOCK_LETTERS: &[u8] = b"0KSsa";
+const NET_LETTERS: &[u8] = b"123";
+const RAW_LETTERS: &[u8] = b"456789AQPTRGHhIiJjpkugWwX";
+const LAST_TICK: u32 = 863_999_999;
+
+/// Requester and number.
+pub type Key = (u8, u32);
+
+pub fn request(random: &mut Random) -> StaticRequest {
+    StaticRequest {
+        requester: random.one_of(REQUESTERS),
+        number: random.between(0, 999),
+        bib: random.between(0, 59_999),
+        information: random.one_of(REQUEST_LETTERS),
+        channel: random.between(0, 240),
+        run: random.between(0, 250),
+        group: random.between(0, 199),
+        output: random.one_of(OUTPUTS),
+    }
+}
+
+/// A reply with status R and a timing of this kind.
+pub fn reply(random: &mut Random, kind: u32) -> ReplyRecord {
+    let mut record = ReplyRecord {
+        program: random.raw::<1>()[0],
+        mode: random.raw::<1>()[0],
+        status: b'R',
+        requester: random.one_of(REQUESTERS),
+        number: random.between(0, 999),
+        bib: random.between(0, 59_999),
+        group: random.between(0, 199),
+        run: random.between(1, 250),
+        physical: random.between(0, 999),
+        channel: random.between(0, 240),
+        information: random.one_of([CLOCK_LETTERS, NET_LETTERS, RAW_LETTERS][kind as usize]),
+        timing: TimingNumbers { kind, ..TimingNumbers::default() },
+        spare: random.raw(),
+        ..ReplyRecord::default()
+    };
+    match kind {
+        CLOCK => record.timing = clock_timing(random),
+        NET => record.timing.net = net_value(random),
+        _ => (record.raw_time, record.raw_date) = (random.raw(), random.raw()),
+    }
+    record
+}
+
+fn clock_timing(random: &mut Random) -> TimingNumbers {
+    TimingNumbers {
+        kind: CLOCK,
+        ticks: random.between(0, LAST_TICK),
+        day: random.between(1, 28),
+        month: random.between(1, 12),
+        year: random.between(2000, 2099),
+        net: 0,
+    }
+}
+
+/// Up to nine million days on both sides of zero.
+fn net_value(random: &mut Random) -> i64 {
+    let days = i64::from(random.between(0, 18_000_000)) - 9_000_000;
+    days * 864_000_000 + i64::from(random.between(0, LAST_TICK))
+}
+
+pub fn dynamic(random: &mut Random) -> DynamicRequest {
+    DynamicRequest {
+        requester: random.one_of(REQUESTERS),
+        order: random.one_of(b"ABabTt"),
+        bib: random.between(0, 60_000),
+        channel: random.between(0, 240),
+        run: random.between(0, 250),
+        stop_bib: random.between(1, 60_000),
+        stop_channel: random.between(0, 240),
+        stop_run: random.between(0, 250),
+        sign: random.between(0, 1),
+        time: random.between(0, LAST_TICK),
+        days: random.between(0, 9),
+        period: random.between(1, 99_999),
+        output: random.one_of(OUTPUTS),
+    }
+}
+
+pub fn running_of(random: &mut Random) -> RunningOf {
+    RunningOf {
+        bib: random.between(1, 59_999),
+        tnow: random.between(0, LAST_TICK),
+        tev: random.between(0, LAST_TICK),
+        sign: random.between(0, 1),
+        days: random.between(0, 9),
+        time: random.between(0, LAST_TICK),
+    }
+}
+
+pub fn request_frame(record: &StaticRequest) -> Vec<u8> {
+    let mut frame = vec![0; REQUEST_SIZE];
+    assert!(plain::request::write(record, &mut frame).is_ok(), "{record:?}");
+    frame
+}
+
+pub fn reply_frame(record: &ReplyRecord) -> Vec<u8> {
+    let mut frame = vec![0; REPLY_SIZE];
+    assert!(plain::reply::write(record, &mut frame).is_ok(), "{record:?}");
+    frame
+}
+
+pub fn dynamic_frame(record: &DynamicRequest) -> Vec<u8> {
+    let mut frame = vec![0; DYNAMIC_SIZE];
+    assert!(plain::dynamic::write(record, &mut frame).is_ok(), "{record:?}");
+    frame
+}
+
+/// The key of a seat, another one for each seat.
+pub fn key_of_seat(seat: usize) -> Key {
+    (REQUESTERS[(7 * seat + 10) % REQUESTERS.len()], 61 * seat as u32 + 7)
+}
+
+pub fn request_with(random: &mut Random, (requester, number): Key) -> Vec<u8> {
+    request_frame(&StaticRequest { requester, number, ..request(random) })
+}
+
+/// A reply of any timing with this key and status R.
+pub fn reply_with(random: &mut Random, (requester, number): Key) -> Vec<u8> {
+    let kind = random.between(CLOCK, RAW);
+    reply_frame(&ReplyRecord { requester, number, ..reply(random, kind) })
+}
+
+/// A desk with all that is lent to it.
+#[derive(Clone)]
+pub struct Lent {
+    pub desk: Desk,
+    pub seats: [Seat; SEATS],
+    pub cells: Vec<u8>,
+    pub marks: Vec<u32>,
+}
+
+impl Lent {
+    /// So many seats in use, and so many cells held by them in turn.
+    pub fn with(random: &mut Random, used: usize, held: usize) -> Self {
+        let mut lent = Lent::empty();
+        lent.desk = Desk { bits: (1 << used) - 1, count: held as u32 };
+        for (place, seat) in lent.seats[..used].iter_mut().enumerate() {
+            let (requester, number) = key_of_seat(place);
+            *seat = Seat { requester: requester.into(), number, held: 0, ended: 0 };
+        }
+        for cell in 0..held {
+            let seat = cell % used;
+            lent.cells[cell * CELL_SIZE..][..CELL_SIZE].copy_from_slice(&reply_with(random, key_of_seat(seat)));
+            lent.marks[cell] = seat as u32;
+            lent.seats[seat].held += 1;
+        }
+        lent
+    }
+
+    pub fn empty() -> Self {
+        Lent {
+            desk: Desk::default(),
+            seats: Default::default(),
+            cells: vec![0xee; CELLS * CELL_SIZE],
+            marks: vec![0xeeee_eeee; CELLS],
+        }
+    }
+}
+
+/// One request and 642 replies to it: 32,766 bytes.
+pub fn full_capture(random: &mut Random) -> Vec<u8> {
+    let key = key_of_seat(0);
+    let mut bytes = request_with(random, key);
+    for _ in 0..642 {
+        bytes.extend(reply_with(random, key));
+    }
+    bytes
+}
+
+/// Sixteen requests, then replies to them, dynamic requests and damaged frames, with line feeds between: 32,768 bytes, the
+/// last frame cut off.
+pub fn mixed_capture(random: &mut Random) -> Vec<u8> {
+    let mut bytes = Vec::new();
+    for seat in 0..SEATS {
+        bytes.extend(request_with(random, key_of_seat(seat)));
+    }
+    while bytes.len() < 32_768 {
+        let seat = random.below(SEATS);
+        let mut frame = match random.below(8) {
+            0 => dynamic_frame(&dynamic(random)),
+            _ => reply_with(random, key_of_seat(seat)),
+        };
+        if random.below(8) == 0 {
+            let place = random.below(frame.len());
+            frame[place] = random.between(0, 255) as u8;
+        }
+        bytes.extend(frame);
+        bytes.push(b'\n');
+    }
+    bytes.truncate(32_768);
+    bytes
+}

@@ -1,0 +1,212 @@
+//! The calls in the shape that C gives them. No pointer is null here, with no elements either.
+#![allow(clippy::missing_safety_doc, clippy::too_many_arguments)]
+
+use super::refusal::{Refusal, DESK};
+use super::{desk, dynamic, finder, listing, reply, request, times};
+use crate::abi::*;
+use std::slice::{from_raw_parts, from_raw_parts_mut};
+
+/// Stores an answer where the caller wants it.
+#[inline(always)]
+unsafe fn store<T>(place: *mut T, answer: T) -> *mut T {
+    place.write(answer);
+    place
+}
+
+#[inline(always)]
+fn desk_answer(before: Desk, done: Result<(Desk, usize), Refusal>) -> DeskAnswer {
+    match done {
+        Ok((desk, seat)) => DeskAnswer { desk, number: 0, offset: 0, seat },
+        Err(Refusal { number, offset }) => DeskAnswer { desk: before, number, offset, seat: 0 },
+    }
+}
+
+#[inline(always)]
+fn written(done: Result<usize, Refusal>) -> WrittenAnswer {
+    match done {
+        Ok(size) => WrittenAnswer { number: 0, offset: 0, size },
+        Err(Refusal { number, offset }) => WrittenAnswer { number, offset, size: 0 },
+    }
+}
+
+#[inline(never)]
+pub unsafe extern "C" fn reset(place: *mut DeskAnswer, seats: *mut Seat, len: usize, desk: Desk) -> *mut DeskAnswer {
+    let seats = from_raw_parts_mut(seats, len);
+    if len != SEATS {
+        return store(place, desk_answer(desk, Err(DESK)));
+    }
+    seats.fill(Seat::default());
+    store(place, DeskAnswer::default())
+}
+
+#[inline(never)]
+pub unsafe extern "C" fn open(
+    place: *mut DeskAnswer,
+    seats: *mut Seat,
+    seats_len: usize,
+    state: Desk,
+    cells: *const u8,
+    cells_len: usize,
+    marks: *const u32,
+    marks_len: usize,
+    frame: *const u8,
+    frame_len: usize,
+) -> *mut DeskAnswer {
+    let seats = from_raw_parts_mut(seats, seats_len);
+    let cells = from_raw_parts(cells, cells_len);
+    let marks = from_raw_parts(marks, marks_len);
+    let done = desk::open(seats, state, cells, marks, from_raw_parts(frame, frame_len));
+    store(place, desk_answer(state, done))
+}
+
+#[inline(never)]
+pub unsafe extern "C" fn reply(
+    place: *mut DeskAnswer,
+    seats: *mut Seat,
+    seats_len: usize,
+    state: Desk,
+    cells: *mut u8,
+    cells_len: usize,
+    marks: *mut u32,
+    marks_len: usize,
+    frame: *const u8,
+    frame_len: usize,
+) -> *mut DeskAnswer {
+    let seats = from_raw_parts_mut(seats, seats_len);
+    let cells = from_raw_parts_mut(cells, cells_len);
+    let marks = from_raw_parts_mut(marks, marks_len);
+    let done = desk::reply(seats, state, cells, marks, from_raw_parts(frame, frame_len));
+    store(place, desk_answer(state, done))
+}
+
+#[inline(never)]
+pub unsafe extern "C" fn capture(
+    place: *mut CapturedAnswer,
+    seats: *mut Seat,
+    seats_len: usize,
+    state: Desk,
+    cells: *mut u8,
+    cells_len: usize,
+    marks: *mut u32,
+    marks_len: usize,
+    bytes: *const u8,
+    bytes_len: usize,
+) -> *mut CapturedAnswer {
+    let seats = from_raw_parts_mut(seats, seats_len);
+    let cells = from_raw_parts_mut(cells, cells_len);
+    let marks = from_raw_parts_mut(marks, marks_len);
+    let answer = match desk::capture(seats, state, cells, marks, from_raw_parts(bytes, bytes_len)) {
+        Ok((desk, counts)) => CapturedAnswer { desk, number: 0, counts },
+        Err(refusal) => CapturedAnswer { desk: state, number: refusal.number, counts: Counts::default() },
+    };
+    store(place, answer)
+}
+
+#[inline(never)]
+pub unsafe extern "C" fn seats_in_use(desk: Desk) -> u32 {
+    desk.bits.count_ones()
+}
+
+#[inline(never)]
+pub unsafe extern "C" fn capacity(cells: usize, marks: usize) -> usize {
+    desk::capacity(cells, marks)
+}
+
+#[inline(never)]
+pub unsafe extern "C" fn next_held(
+    state: Desk,
+    cells: *const u8,
+    cells_len: usize,
+    marks: *const u32,
+    marks_len: usize,
+    seat: u32,
+    from: usize,
+) -> CellAnswer {
+    let cells = from_raw_parts(cells, cells_len);
+    let marks = from_raw_parts(marks, marks_len);
+    desk::next_held(state, cells, marks, seat, from).map_or(CellAnswer::default(), |cell| CellAnswer { found: 1, cell })
+}
+
+#[inline(never)]
+pub unsafe extern "C" fn read_request(place: *mut RequestAnswer, frame: *const u8, len: usize) -> *mut RequestAnswer {
+    let answer = match request::read(from_raw_parts(frame, len)) {
+        Ok(request) => RequestAnswer { number: 0, offset: 0, request },
+        Err(Refusal { number, offset }) => RequestAnswer { number, offset, request: StaticRequest::default() },
+    };
+    store(place, answer)
+}
+
+#[inline(never)]
+pub unsafe extern "C" fn write_request(record: StaticRequest, out: *mut u8, len: usize) -> WrittenAnswer {
+    written(request::write(&record, from_raw_parts_mut(out, len)))
+}
+
+#[inline(never)]
+pub unsafe extern "C" fn read_reply(place: *mut ReplyAnswer, frame: *const u8, len: usize) -> *mut ReplyAnswer {
+    let answer = match reply::read(from_raw_parts(frame, len)) {
+        Ok(reply) => ReplyAnswer { number: 0, offset: 0, reply },
+        Err(Refusal { number, offset }) => {
+            let timing = TimingNumbers { kind: RAW, ..TimingNumbers::default() };
+            ReplyAnswer { number, offset, reply: ReplyRecord { timing, ..ReplyRecord::default() } }
+        }
+    };
+    store(place, answer)
+}
+
+#[inline(never)]
+pub unsafe extern "C" fn write_reply(record: ReplyRecord, out: *mut u8, len: usize) -> WrittenAnswer {
+    written(reply::write(&record, from_raw_parts_mut(out, len)))
+}
+
+#[inline(never)]
+pub unsafe extern "C" fn read_dynamic(place: *mut DynamicAnswer, frame: *const u8, len: usize) -> *mut DynamicAnswer {
+    let answer = match dynamic::read(from_raw_parts(frame, len)) {
+        Ok(request) => DynamicAnswer { number: 0, offset: 0, request },
+        Err(Refusal { number, offset }) => DynamicAnswer { number, offset, request: DynamicRequest::default() },
+    };
+    store(place, answer)
+}
+
+#[inline(never)]
+pub unsafe extern "C" fn write_dynamic(record: DynamicRequest, out: *mut u8, len: usize) -> WrittenAnswer {
+    written(dynamic::write(&record, from_raw_parts_mut(out, len)))
+}
+
+#[inline(never)]
+pub unsafe extern "C" fn next_frame(
+    place: *mut FrameAnswer,
+    capture: *const u8,
+    len: usize,
+    at: usize,
+) -> *mut FrameAnswer {
+    let found = finder::next_frame(from_raw_parts(capture, len), at);
+    store(place, found.unwrap_or_default())
+}
+
+#[inline(never)]
+pub unsafe extern "C" fn list(
+    bytes: *const u8,
+    bytes_len: usize,
+    cells: *mut u8,
+    cells_len: usize,
+    marks: *mut u32,
+    marks_len: usize,
+    out: *mut u8,
+    out_len: usize,
+) -> ListedAnswer {
+    let capture = from_raw_parts(bytes, bytes_len);
+    let cells = from_raw_parts_mut(cells, cells_len);
+    let marks = from_raw_parts_mut(marks, marks_len);
+    match listing::list(capture, cells, marks, from_raw_parts_mut(out, out_len)) {
+        Ok(size) => ListedAnswer { number: 0, size },
+        Err(refusal) => ListedAnswer { number: refusal.number, size: 0 },
+    }
+}
+
+#[inline(never)]
+pub unsafe extern "C" fn running_time(of: RunningOf) -> RunningAnswer {
+    match times::running_time(&of) {
+        Ok(ticks) => RunningAnswer { number: 0, ticks },
+        Err(refusal) => RunningAnswer { number: refusal.number, ticks: 0 },
+    }
+}

@@ -1,0 +1,149 @@
+//! The desk: requests opened, replies sorted to them.
+
+use super::finder::{next_frame, WHOLE};
+use super::refusal::{Refusal, DESK, ENDED, FULL, IN_USE, NO_ANSWER_DUE, NO_SEAT, OUT_OF_PLACE, STRAY};
+use super::test::is_desk;
+use super::{dynamic, reply, request};
+use crate::abi::{Counts, Desk, Seat, CELLS, CELL_SIZE, SEATS};
+
+/// What a reply is matched on.
+#[derive(Clone, Copy, PartialEq)]
+pub struct Key {
+    pub requester: u32,
+    pub number: u32,
+}
+
+#[inline]
+pub fn key_of(seat: &Seat) -> Key {
+    Key { requester: seat.requester, number: seat.number }
+}
+
+#[inline]
+pub fn is_used(bits: u64, place: usize) -> bool {
+    bits >> place & 1 == 1
+}
+
+#[inline]
+pub fn capacity(cells: usize, marks: usize) -> usize {
+    CELLS.min(cells / CELL_SIZE).min(marks)
+}
+
+/// The state after a call, and the seat.
+type Done = Result<(Desk, usize), Refusal>;
+
+pub fn open(seats: &mut [Seat], desk: Desk, cells: &[u8], marks: &[u32], frame: &[u8]) -> Done {
+    let row = row_of_desk(seats, desk, cells, marks)?;
+    open_on_desk(row, desk, frame)
+}
+
+pub fn reply(seats: &mut [Seat], desk: Desk, cells: &mut [u8], marks: &mut [u32], frame: &[u8]) -> Done {
+    let row = row_of_desk(seats, desk, cells, marks)?;
+    reply_on_desk(row, desk, cells, marks, frame)
+}
+
+/// The row, where all this makes a desk.
+#[inline]
+fn row_of_desk<'a>(
+    seats: &'a mut [Seat],
+    desk: Desk,
+    cells: &[u8],
+    marks: &[u32],
+) -> Result<&'a mut [Seat; SEATS], Refusal> {
+    let row: &mut [Seat; SEATS] = seats.try_into().map_err(|_| DESK)?;
+    if is_desk(row, desk, cells, marks) {
+        Ok(row)
+    } else {
+        Err(DESK)
+    }
+}
+
+fn open_on_desk(seats: &mut [Seat; SEATS], desk: Desk, frame: &[u8]) -> Done {
+    let request = request::read(frame)?;
+    if request.information == b'q' {
+        return Err(NO_ANSWER_DUE);
+    }
+    let key = Key { requester: request.requester.into(), number: request.number };
+    if seat_with(seats, desk.bits, key).is_some() {
+        return Err(IN_USE);
+    }
+    let seat = desk.bits.trailing_ones() as usize;
+    if seat >= SEATS {
+        return Err(NO_SEAT);
+    }
+    seats[seat] = Seat { requester: key.requester, number: key.number, held: 0, ended: 0 };
+    Ok((Desk { bits: desk.bits | 1 << seat, ..desk }, seat))
+}
+
+fn reply_on_desk(seats: &mut [Seat; SEATS], desk: Desk, cells: &mut [u8], marks: &mut [u32], frame: &[u8]) -> Done {
+    let record = reply::read(frame)?;
+    let key = Key { requester: record.requester.into(), number: record.number };
+    let place = seat_with(seats, desk.bits, key).ok_or(STRAY)?;
+    let seat = &mut seats[place];
+    if seat.ended != 0 {
+        return Err(ENDED);
+    }
+    if record.status == b'Z' && seat.held != 0 {
+        return Err(OUT_OF_PLACE);
+    }
+    let cell = desk.count as usize;
+    if cell >= capacity(cells.len(), marks.len()) {
+        return Err(FULL);
+    }
+    cells[cell * CELL_SIZE..][..CELL_SIZE].copy_from_slice(frame);
+    marks[cell] = place as u32;
+    seat.held += 1;
+    seat.ended = u32::from(record.status != b'R');
+    Ok((Desk { count: desk.count + 1, ..desk }, place))
+}
+
+#[inline]
+fn seat_with(seats: &[Seat; SEATS], bits: u64, key: Key) -> Option<usize> {
+    (0..SEATS).find(|&place| is_used(bits, place) && key_of(&seats[place]) == key)
+}
+
+/// All frames of a capture, with one test of the desk.
+pub fn capture(
+    seats: &mut [Seat],
+    desk: Desk,
+    cells: &mut [u8],
+    marks: &mut [u32],
+    bytes: &[u8],
+) -> Result<(Desk, Counts), Refusal> {
+    let row = row_of_desk(seats, desk, cells, marks)?;
+    Ok(capture_on_desk(row, desk, cells, marks, bytes))
+}
+
+pub fn capture_on_desk(
+    seats: &mut [Seat; SEATS],
+    mut desk: Desk,
+    cells: &mut [u8],
+    marks: &mut [u32],
+    bytes: &[u8],
+) -> (Desk, Counts) {
+    let mut counts = Counts::default();
+    let mut at = 0;
+    while let Some(found) = next_frame(bytes, at) {
+        at = found.next;
+        let frame = &bytes[found.start..found.end];
+        let (done, count) = match frame[0] {
+            _ if found.kind != WHOLE => (None, &mut counts.refused),
+            request::LEAD => (open_on_desk(seats, desk, frame).ok(), &mut counts.opened),
+            reply::LEAD => (reply_on_desk(seats, desk, cells, marks, frame).ok(), &mut counts.collected),
+            _ => (dynamic::read(frame).ok().map(|_| (desk, 0)), &mut counts.dynamic),
+        };
+        match done {
+            Some((after, _)) => {
+                desk = after;
+                *count += 1;
+            }
+            None => counts.refused += 1,
+        }
+    }
+    (desk, counts)
+}
+
+pub fn next_held(desk: Desk, cells: &[u8], marks: &[u32], seat: u32, from: usize) -> Option<usize> {
+    let limit = capacity(cells.len(), marks.len()).min(desk.count as usize);
+    let marks = &marks[..limit];
+    (from..limit).find(|&cell| marks[cell] == seat)
+}

@@ -1,0 +1,95 @@
+//! What all kinds of frame are read and written with.
+
+use super::refusal::{field, Refusal, ADDRESS, END, KIND, LENGTH};
+use super::times;
+
+pub const CR: u8 = 0x0d;
+
+/// The frame, if nothing around its fields is wrong.
+#[inline(always)]
+pub fn framed<const SIZE: usize>(bytes: &[u8], lead: u8) -> Result<&[u8; SIZE], Refusal> {
+    if bytes.first() != Some(&lead) {
+        return Err(KIND);
+    }
+    let frame: &[u8; SIZE] = bytes.try_into().map_err(|_| LENGTH)?;
+    if frame[SIZE - 1] != CR {
+        return Err(END);
+    }
+    if frame[1..3] != *b"R " {
+        return Err(ADDRESS);
+    }
+    Ok(frame)
+}
+
+/// The number that these digits are.
+#[inline(always)]
+pub fn number(digits: &[u8]) -> Option<u32> {
+    let mut value = 0;
+    for &byte in digits {
+        let digit = byte.wrapping_sub(b'0');
+        if digit > 9 {
+            return None;
+        }
+        value = value * 10 + u32::from(digit);
+    }
+    Some(value)
+}
+
+/// The number of the field, if it is a good one.
+#[inline(always)]
+pub fn number_at<const WIDTH: usize>(frame: &[u8], at: usize, good: impl FnOnce(u32) -> bool) -> Result<u32, Refusal> {
+    number(&frame[at..at + WIDTH]).filter(|&value| good(value)).ok_or(field(at))
+}
+
+/// The byte, if it is a good one.
+#[inline(always)]
+pub fn byte_at(frame: &[u8], at: usize, good: impl FnOnce(u8) -> bool) -> Result<u8, Refusal> {
+    if good(frame[at]) {
+        Ok(frame[at])
+    } else {
+        Err(field(at))
+    }
+}
+
+/// Ten digits that are a time of day, in ticks.
+#[inline(always)]
+pub fn clock_at(frame: &[u8], at: usize) -> Result<u32, Refusal> {
+    times::clock(&frame[at..at + 10]).ok_or(field(at))
+}
+
+/// Raw bytes, one field.
+#[inline(always)]
+pub fn raw_at<const WIDTH: usize>(frame: &[u8], at: usize) -> Result<[u8; WIDTH], Refusal> {
+    let bytes: [u8; WIDTH] = frame[at..at + WIDTH].try_into().expect("WIDTH bytes");
+    if all_raw(&bytes) {
+        Ok(bytes)
+    } else {
+        Err(field(at))
+    }
+}
+
+/// Fills the field with the digits of a value that fits.
+#[inline]
+pub fn put_number(digits: &mut [u8], mut value: u32) {
+    for digit in digits.iter_mut().rev() {
+        *digit = b'0' + (value % 10) as u8;
+        value /= 10;
+    }
+}
+
+pub fn is_requester(code: u8) -> bool {
+    code.is_ascii_alphanumeric()
+}
+
+pub fn is_output(code: u8) -> bool {
+    matches!(code, b'S' | b'A' | b'B' | b'T')
+}
+
+pub fn is_raw(code: u8) -> bool {
+    matches!(code, 0x20..=0x7e)
+}
+
+/// Without a way out in the middle, which is faster on so few bytes.
+pub fn all_raw(codes: &[u8]) -> bool {
+    codes.iter().fold(true, |good, &code| good & is_raw(code))
+}

@@ -1,0 +1,41 @@
+//! Why a call is refused.
+
+#[derive(Clone, Copy)]
+pub struct Refusal {
+    pub number: u32,
+    pub offset: u32,
+}
+
+const fn numbered(number: u32) -> Refusal {
+    Refusal { number, offset: 0 }
+}
+
+pub const KIND: Refusal = numbered(1);
+pub const LENGTH: Refusal = numbered(2);
+pub const END: Refusal = numbered(3);
+pub const ADDRESS: Refusal = numbered(4);
+pub const ROOM: Refusal = numbered(7);
+pub const TIME: Refusal = numbered(8);
+pub const DESK: Refusal = numbered(9);
+pub const NO_ANSWER_DUE: Refusal = numbered(10);
+pub const IN_USE: Refusal = numbered(11);
+pub const NO_SEAT: Refusal = numbered(12);
+pub const STRAY: Refusal = numbered(13);
+pub const ENDED: Refusal = numbered(14);
+pub const OUT_OF_PLACE: Refusal = numbered(15);
+pub const FULL: Refusal = numbered(16);
+
+/// A wrong field, by the offset where it begins.
+pub const fn field(at: usize) -> Refusal {
+    Refusal { number: 5, offset: at as u32 }
+}
+
+/// RECORD at this offset, unless the part is good.
+#[inline]
+pub fn part(good: bool, at: u32) -> Result<(), Refusal> {
+    if good {
+        Ok(())
+    } else {
+        Err(Refusal { number: 6, offset: at })
+    }
+}

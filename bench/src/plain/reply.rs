@@ -1,0 +1,199 @@
+//! The static reply.
+
+use super::fields::{
+    all_raw, byte_at, clock_at, framed, is_raw, is_requester, number, number_at, put_number, raw_at, CR,
+};
+use super::refusal::{field, part, Refusal, ROOM};
+use super::times::{is_clock, is_day, net_parts, net_value, put_clock};
+use crate::abi::{ReplyRecord, TimingNumbers, CLOCK, NET, RAW};
+
+pub const LEAD: u8 = 0x12;
+const SIZE: usize = 51;
+
+/// Reads a frame. Inlined, so that a caller that wants a part of the record pays for that part alone.
+#[inline(always)]
+pub fn read(bytes: &[u8]) -> Result<ReplyRecord, Refusal> {
+    let frame = framed::<SIZE>(bytes, LEAD)?;
+    let program = byte_at(frame, 3, is_raw)?;
+    let mode = byte_at(frame, 4, is_raw)?;
+    let status = byte_at(frame, 5, is_status)?;
+    let requester = byte_at(frame, 6, is_requester)?;
+    let number = number_at::<5>(frame, 7, |_| true)?;
+    let bib = number_at::<5>(frame, 12, is_bib)?;
+    let group = number_at::<3>(frame, 17, is_group)?;
+    let run = number_at::<3>(frame, 20, |run| is_run(run, status))?;
+    let physical = number_at::<3>(frame, 23, |_| true)?;
+    let channel = number_at::<3>(frame, 26, is_channel)?;
+    let information = byte_at(frame, 29, is_information)?;
+    let (timing, raw_time, raw_date) = match kind_of(status, information) {
+        CLOCK => (read_clock(frame)?, [0; 10], [0; 8]),
+        NET => (read_net(frame)?, [0; 10], [0; 8]),
+        _ => (TimingNumbers { kind: RAW, ..TimingNumbers::default() }, raw_at(frame, 30)?, raw_at(frame, 40)?),
+    };
+    let spare = raw_at(frame, 48)?;
+    Ok(ReplyRecord {
+        program,
+        mode,
+        status,
+        requester,
+        number,
+        bib,
+        group,
+        run,
+        physical,
+        channel,
+        information,
+        timing,
+        raw_time,
+        raw_date,
+        spare,
+    })
+}
+
+#[inline(always)]
+fn read_clock(frame: &[u8; SIZE]) -> Result<TimingNumbers, Refusal> {
+    let ticks = clock_at(frame, 30)?;
+    let day = number(&frame[40..42]).ok_or(field(40))?;
+    let month = number(&frame[42..44]).ok_or(field(40))?;
+    let year = number(&frame[44..48]).ok_or(field(40))?;
+    if !is_day(day, month, year) {
+        return Err(field(40));
+    }
+    Ok(TimingNumbers { kind: CLOCK, ticks, day, month, year, net: 0 })
+}
+
+#[inline(always)]
+fn read_net(frame: &[u8; SIZE]) -> Result<TimingNumbers, Refusal> {
+    let time = clock_at(frame, 30)?;
+    let minus = match frame[40] {
+        b'+' => false,
+        b'-' => true,
+        _ => return Err(field(40)),
+    };
+    let days = number(&frame[41..48]).ok_or(field(40))?;
+    let net = net_value(minus, days, time).ok_or(field(40))?;
+    Ok(TimingNumbers { kind: NET, net, ..TimingNumbers::default() })
+}
+
+pub fn write(record: &ReplyRecord, out: &mut [u8]) -> Result<usize, Refusal> {
+    head_must_be_good(record)?;
+    timing_must_be_good(record)?;
+    let frame: &mut [u8; SIZE] = out.first_chunk_mut().ok_or(ROOM)?;
+    frame[..3].copy_from_slice(&[LEAD, b'R', b' ']);
+    frame[3] = record.program;
+    frame[4] = record.mode;
+    frame[5] = record.status;
+    frame[6] = record.requester;
+    put_number(&mut frame[7..12], record.number);
+    put_number(&mut frame[12..17], record.bib);
+    put_number(&mut frame[17..20], record.group);
+    put_number(&mut frame[20..23], record.run);
+    put_number(&mut frame[23..26], record.physical);
+    put_number(&mut frame[26..29], record.channel);
+    frame[29] = record.information;
+    put_timing(record, frame);
+    frame[48..50].copy_from_slice(&record.spare);
+    frame[50] = CR;
+    Ok(SIZE)
+}
+
+#[inline]
+fn put_timing(record: &ReplyRecord, frame: &mut [u8; SIZE]) {
+    let timing = &record.timing;
+    match timing.kind {
+        CLOCK => {
+            put_clock(&mut frame[30..40], timing.ticks);
+            put_number(&mut frame[40..42], timing.day);
+            put_number(&mut frame[42..44], timing.month);
+            put_number(&mut frame[44..48], timing.year);
+        }
+        NET => {
+            let (days, time) = net_parts(timing.net).expect("a good record");
+            put_clock(&mut frame[30..40], time);
+            frame[40] = if days < 0 { b'-' } else { b'+' };
+            put_number(&mut frame[41..48], days.unsigned_abs() as u32);
+        }
+        _ => {
+            frame[30..40].copy_from_slice(&record.raw_time);
+            frame[40..48].copy_from_slice(&record.raw_date);
+        }
+    }
+}
+
+fn head_must_be_good(record: &ReplyRecord) -> Result<(), Refusal> {
+    part(is_raw(record.program), 3)?;
+    part(is_raw(record.mode), 4)?;
+    part(is_status(record.status), 5)?;
+    part(is_requester(record.requester), 6)?;
+    part(record.number <= 99_999, 7)?;
+    part(is_bib(record.bib), 12)?;
+    part(is_group(record.group), 17)?;
+    part(is_run(record.run, record.status), 20)?;
+    part(record.physical <= 999, 23)?;
+    part(is_channel(record.channel), 26)?;
+    part(is_information(record.information), 29)
+}
+
+/// What a kind of timing does not use is zero.
+fn timing_must_be_good(record: &ReplyRecord) -> Result<(), Refusal> {
+    let timing = &record.timing;
+    part(timing.kind == kind_of(record.status, record.information), 30)?;
+    let dateless = timing.ticks == 0 && timing.day == 0 && timing.month == 0 && timing.year == 0;
+    match timing.kind {
+        CLOCK => {
+            part(timing.net == 0 && is_clock(timing.ticks), 30)?;
+            part(is_day(timing.day, timing.month, timing.year), 40)?;
+        }
+        NET => {
+            part(dateless, 30)?;
+            part(net_parts(timing.net).is_some(), 40)?;
+        }
+        _ => {
+            part(timing.net == 0 && dateless && all_raw(&record.raw_time), 30)?;
+            part(all_raw(&record.raw_date), 40)?;
+        }
+    }
+    part(all_raw(&record.spare), 48)?;
+    let unused = record.raw_time == [0; 10] && record.raw_date == [0; 8];
+    part(timing.kind == RAW || unused, 50)
+}
+
+/// The timing that a reply has.
+#[inline(always)]
+fn kind_of(status: u8, information: u8) -> u32 {
+    match information {
+        _ if status == b'Z' => RAW,
+        b'0' | b'K' | b'S' | b's' | b'a' => CLOCK,
+        b'1' | b'2' | b'3' => NET,
+        _ => RAW,
+    }
+}
+
+fn is_status(code: u8) -> bool {
+    matches!(code, b'R' | b'E' | b'Z')
+}
+
+fn is_bib(value: u32) -> bool {
+    value <= 59_999
+}
+
+fn is_group(value: u32) -> bool {
+    value <= 199
+}
+
+fn is_run(value: u32, status: u8) -> bool {
+    value <= 250 && (value != 0 || status == b'Z')
+}
+
+fn is_channel(value: u32) -> bool {
+    matches!(value, 0..=240 | 245 | 248 | 249 | 250 | 255)
+}
+
+#[rustfmt::skip]
+fn is_information(code: u8) -> bool {
+    matches!(
+        code,
+        b'0'..=b'9' | b'A' | b'Q' | b'P' | b'a' | b'S' | b's' | b'T' | b'K' | b'R' | b'G' | b'H' | b'h' | b'I' | b'i' | b'J'
+        | b'j' | b'p' | b'k' | b'u' | b'g' | b'W' | b'w' | b'X'
+    )
+}

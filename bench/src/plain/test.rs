@@ -1,0 +1,65 @@
+//! The desk test: the eleven clauses, with one pass over the held cells.
+
+use super::desk::{capacity, is_used, key_of, Key};
+use super::fields::is_requester;
+use super::reply;
+use crate::abi::{Desk, Seat, CELL_SIZE, SEATS};
+
+/// What the cells so far say of one seat.
+#[derive(Clone, Copy, Default)]
+struct View {
+    held: u32,
+    ended: bool,
+}
+
+/// Clauses 2 to 11; the type of the row is the first.
+pub fn is_desk(seats: &[Seat; SEATS], desk: Desk, cells: &[u8], marks: &[u32]) -> bool {
+    desk.bits >> SEATS == 0
+        && seats_are_good(seats, desk.bits)
+        && keys_differ(seats, desk.bits)
+        && desk.count as usize <= capacity(cells.len(), marks.len())
+        && cells_are_good(seats, desk, cells, marks)
+}
+
+fn seats_are_good(seats: &[Seat; SEATS], bits: u64) -> bool {
+    seats.iter().enumerate().all(|(place, seat)| {
+        if is_used(bits, place) {
+            is_request_key(key_of(seat))
+        } else {
+            *seat == Seat::default()
+        }
+    })
+}
+
+fn is_request_key(key: Key) -> bool {
+    u8::try_from(key.requester).is_ok_and(is_requester) && key.number <= 999
+}
+
+fn keys_differ(seats: &[Seat; SEATS], bits: u64) -> bool {
+    (1..SEATS).filter(|&place| is_used(bits, place)).all(|place| {
+        let key = key_of(&seats[place]);
+        (0..place).all(|other| !is_used(bits, other) || key_of(&seats[other]) != key)
+    })
+}
+
+fn cells_are_good(seats: &[Seat; SEATS], desk: Desk, cells: &[u8], marks: &[u32]) -> bool {
+    let mut views = [View::default(); SEATS];
+    let marks = &marks[..desk.count as usize];
+    for (&mark, cell) in marks.iter().zip(cells.chunks_exact(CELL_SIZE)) {
+        let place = mark as usize;
+        if place >= SEATS || !is_used(desk.bits, place) {
+            return false;
+        }
+        let Ok(record) = reply::read(cell) else { return false };
+        let view = &mut views[place];
+        let key = Key { requester: record.requester.into(), number: record.number };
+        let in_place = !view.ended && (record.status != b'Z' || view.held == 0);
+        if key != key_of(&seats[place]) || !in_place {
+            return false;
+        }
+        view.held += 1;
+        view.ended = record.status != b'R';
+    }
+    // A seat that is not in use is all zero, and so is its view.
+    views.iter().zip(seats).all(|(view, seat)| view.held == seat.held && u32::from(view.ended) == seat.ended)
+}

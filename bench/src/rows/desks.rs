@@ -1,0 +1,128 @@
+//! Calls on a desk. What a call changed of the seats is put back before the next one, on both sides and within the timing;
+//! a cell or mark that was free may hold anything.
+
+use super::{About, Calls, Row};
+use crate::abi::*;
+use crate::inputs::{key_of_seat, reply_with, request_with, Lent};
+use crate::random::Random;
+use crate::witness::Witness;
+
+/// Frames in a row.
+const FRAMES: usize = 16;
+
+/// Seats in use, where nothing else is said.
+const USED: usize = 8;
+
+struct Opening {
+    lent: Lent,
+    frames: Vec<Vec<u8>>,
+}
+
+impl Calls for Opening {
+    fn make<W: Witness>(&mut self, side: &Side, witness: &mut W) {
+        let Lent { desk, seats, cells, marks } = &mut self.lent;
+        let mut answer = DeskAnswer::default();
+        for frame in &self.frames {
+            side.open(&mut answer, seats, *desk, cells, marks, frame);
+            witness.saw(frame, &answer, &[seats, cells, marks]);
+            seats[answer.seat] = Seat::default();
+        }
+    }
+}
+
+struct Replying {
+    lent: Lent,
+    frames: Vec<Vec<u8>>,
+    /// How the seat that each frame is for was.
+    before: Vec<(usize, Seat)>,
+}
+
+impl Calls for Replying {
+    fn make<W: Witness>(&mut self, side: &Side, witness: &mut W) {
+        let Lent { desk, seats, cells, marks } = &mut self.lent;
+        let mut answer = DeskAnswer::default();
+        for (frame, &(place, seat)) in self.frames.iter().zip(&self.before) {
+            side.reply(&mut answer, seats, *desk, cells, marks, frame);
+            witness.saw(frame, &answer, &[seats, cells, marks]);
+            seats[place] = seat;
+        }
+    }
+}
+
+struct Resetting {
+    lent: Lent,
+}
+
+impl Calls for Resetting {
+    fn make<W: Witness>(&mut self, side: &Side, witness: &mut W) {
+        let Lent { desk, seats, .. } = &mut self.lent;
+        let mut answer = DeskAnswer::default();
+        for _ in 0..FRAMES {
+            side.reset(&mut answer, seats, *desk);
+            witness.saw(desk, &answer, &[seats]);
+        }
+    }
+}
+
+/// All records of a seat, one after the other.
+struct ReadingBack {
+    lent: Lent,
+    seat: u32,
+}
+
+impl Calls for ReadingBack {
+    fn make<W: Witness>(&mut self, side: &Side, witness: &mut W) {
+        let Lent { desk, cells, marks, .. } = &self.lent;
+        let mut from = 0;
+        loop {
+            let answer = side.next_held(*desk, cells, marks, self.seat, from);
+            witness.saw(&from, &answer, &[]);
+            if answer.found == 0 {
+                return;
+            }
+            from = answer.cell + 1;
+        }
+    }
+}
+
+fn opening(held: usize) -> Row {
+    let mut random = Random::new(4);
+    let lent = Lent::with(&mut random, USED, held);
+    let frames = (0..FRAMES).map(|k| request_with(&mut random, (b'z', 900 + k as u32))).collect();
+    let mut about = About::new("rei2_open", format!("opened, {held} cells held, {USED} seats in use"), 0, FRAMES);
+    about.cleared = "the seat";
+    Row::new(about, Opening { lent, frames })
+}
+
+fn replying(used: usize, held: usize, number: u32) -> Row {
+    let mut random = Random::new(5);
+    let lent = Lent::with(&mut random, used, held);
+    let seats = || (0..FRAMES).map(|k| k % used);
+    let frames = seats().map(|seat| reply_with(&mut random, key_of_seat(seat))).collect();
+    let before = seats().map(|seat| (seat, lent.seats[seat])).collect();
+    let outcome = if number == 0 { "taken" } else { "refused (full)" };
+    let plural = if used == 1 { "seat" } else { "seats" };
+    let case = format!("{outcome}, {held} cells held, {used} {plural} in use");
+    let mut about = About::new("rei2_reply", case, number, FRAMES);
+    about.cleared = "the seat";
+    Row::new(about, Replying { lent, frames, before })
+}
+
+fn reading_back(case: &str, seat: u32, calls: usize) -> Row {
+    let lent = Lent::with(&mut Random::new(6), SEATS, CELLS);
+    Row::new(About::new("rei2_next_held", case, 0, calls), ReadingBack { lent, seat })
+}
+
+pub fn rows() -> Vec<Row> {
+    let reset = About::new("rei2_reset", "sixteen seats", 0, FRAMES);
+    let lent = Lent::with(&mut Random::new(7), SEATS, 0);
+    let mut rows = vec![Row::new(reset, Resetting { lent })];
+    rows.extend([0, 64, 256].map(opening));
+    rows.extend(
+        [(8, 0, 0), (8, 64, 0), (8, 255, 0), (8, 256, 16), (1, 64, 0), (16, 64, 0)]
+            .map(|(used, held, number)| replying(used, held, number)),
+    );
+    rows.push(reading_back("one record of a full desk: every 16th of 256 marks", 15, 17));
+    rows.push(reading_back("no record: all 256 marks of a full desk passed", 99, 1));
+    rows
+}

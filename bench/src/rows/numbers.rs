@@ -1,0 +1,54 @@
+//! Calls on numbers alone.
+
+use super::{About, Calls, Row};
+use crate::abi::*;
+use crate::inputs::running_of;
+use crate::random::Random;
+use crate::witness::{Answer, Witness};
+use std::fmt::Debug;
+
+const INPUTS: usize = 64;
+
+struct Asking<T, C> {
+    inputs: Vec<T>,
+    call: C,
+}
+
+impl<T: Copy + Debug, A: Answer, C: Fn(&Side, T) -> A> Calls for Asking<T, C> {
+    fn make<W: Witness>(&mut self, side: &Side, witness: &mut W) {
+        for &input in &self.inputs {
+            witness.saw(&input, &(self.call)(side, input), &[]);
+        }
+    }
+}
+
+fn row<T: Copy + Debug + 'static, A: Answer + 'static>(
+    call: &'static str,
+    case: &str,
+    number: u32,
+    inputs: Vec<T>,
+    ask: impl Fn(&Side, T) -> A + 'static,
+) -> Row {
+    Row::new(About::new(call, case, number, inputs.len()), Asking { inputs, call: ask })
+}
+
+/// The same with one part out of range, each part in turn.
+fn one_wrong(mut of: RunningOf, turn: usize) -> RunningOf {
+    let parts = [&mut of.tnow, &mut of.tev, &mut of.sign, &mut of.days, &mut of.time];
+    *parts.into_iter().nth(turn % 5).expect("one of five") = 864_000_000;
+    of
+}
+
+pub fn rows() -> Vec<Row> {
+    let mut random = Random::new(3);
+    let good: Vec<RunningOf> = (0..INPUTS).map(|_| running_of(&mut random)).collect();
+    let refused = good.iter().enumerate().map(|(k, &of)| one_wrong(of, k)).collect();
+    let states = (0..INPUTS).map(|_| Desk { bits: random.below(1 << SEATS) as u64, count: 0 }).collect();
+    let sizes = (0..INPUTS).map(|_| (random.below(20_000), random.below(400))).collect();
+    vec![
+        row("rei2_running_time", "good", 0, good, Side::running_time),
+        row("rei2_running_time", "refused", 8, refused, Side::running_time),
+        row("rei2_seats_in_use", "any state", 0, states, Side::seats_in_use),
+        row("rei2_capacity", "any sizes", 0, sizes, |side: &Side, (cells, marks)| side.capacity(cells, marks)),
+    ]
+}

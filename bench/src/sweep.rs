@@ -1,0 +1,307 @@
+//! More calls on which both sides must agree than the rows have: damaged frames, records, desks and captures.
+
+use crate::abi::*;
+use crate::compare::same;
+use crate::inputs::*;
+use crate::random::Random;
+
+/// Numbers at the limits of some part.
+const LIMITS: [u32; 34] = [
+    0,
+    1,
+    2,
+    3,
+    9,
+    10,
+    12,
+    13,
+    28,
+    29,
+    30,
+    31,
+    32,
+    99,
+    100,
+    199,
+    200,
+    240,
+    241,
+    245,
+    248,
+    249,
+    250,
+    251,
+    255,
+    999,
+    1000,
+    2000,
+    59_999,
+    60_000,
+    60_001,
+    99_999,
+    863_999_999,
+    u32::MAX,
+];
+
+/// Makes all of them and tells how many there were.
+pub fn all() -> usize {
+    let mut random = Random::new(8);
+    damaged_frames(&mut random)
+        + spoiled_records(&mut random)
+        + damaged_cells(&mut random)
+        + spoiled_desks(&mut random)
+        + captures(&mut random)
+        + numbers(&mut random)
+}
+
+/// The answer of a call that stores it.
+fn got<A: Default>(call: impl FnOnce(&mut A)) -> A {
+    let mut answer = A::default();
+    call(&mut answer);
+    answer
+}
+
+fn read_by_all(frame: &[u8]) {
+    same(&frame, |side| got(|answer| side.read_request(answer, frame)));
+    same(&frame, |side| got(|answer| side.read_reply(answer, frame)));
+    same(&frame, |side| got(|answer| side.read_dynamic(answer, frame)));
+}
+
+/// Each byte of a few frames in all its values, and frames of other lengths.
+fn damaged_frames(random: &mut Random) -> usize {
+    let mut calls = 0;
+    let kinds = [CLOCK, NET, RAW].map(|kind| reply_frame(&reply(random, kind)));
+    let others = [request_frame(&request(random)), dynamic_frame(&dynamic(random))];
+    for frame in kinds.into_iter().chain(others) {
+        for place in 0..frame.len() {
+            read_by_all(&frame[..place]);
+            for byte in 0..=u8::MAX {
+                let mut damaged = frame.clone();
+                damaged[place] = byte;
+                read_by_all(&damaged);
+                calls += 3;
+            }
+        }
+        read_by_all(&[&frame[..], b"\r"].concat());
+        calls += 3 * (frame.len() + 1);
+    }
+    calls
+}
+
+fn write<T: Copy + std::fmt::Debug>(record: T, room: usize, call: impl Fn(&Side, T, &mut [u8]) -> WrittenAnswer) {
+    same(&(record, room), |side| {
+        let mut out = vec![0xee; room];
+        (call(side, record, &mut out), out)
+    });
+}
+
+/// Records with one number or byte that may be wrong.
+fn spoiled_records(random: &mut Random) -> usize {
+    const TIMES: usize = 20_000;
+    for _ in 0..TIMES {
+        let (value, byte) = (random.one_of(&LIMITS), random.between(0, 255) as u8);
+        let kind = random.between(CLOCK, RAW);
+        let (mut a, mut b, mut c) = (request(random), reply(random, kind), dynamic(random));
+        spoil_request(&mut a, random.below(9), value, byte);
+        spoil_reply(&mut b, random.below(24), value, byte);
+        spoil_dynamic(&mut c, random.below(14), value, byte);
+        let spare = random.below(3);
+        write(a, REQUEST_SIZE - 1 + spare, Side::write_request);
+        write(b, REPLY_SIZE - 1 + spare, Side::write_reply);
+        write(c, DYNAMIC_SIZE - 1 + spare, Side::write_dynamic);
+    }
+    3 * TIMES
+}
+
+fn spoil_request(record: &mut StaticRequest, part: usize, value: u32, byte: u8) {
+    match part {
+        0 => record.requester = byte,
+        1 => record.number = value,
+        2 => record.bib = value,
+        3 => record.information = byte,
+        4 => record.channel = value,
+        5 => record.run = value,
+        6 => record.group = value,
+        7 => record.output = byte,
+        _ => (),
+    }
+}
+
+fn spoil_reply(record: &mut ReplyRecord, part: usize, value: u32, byte: u8) {
+    match part {
+        0 => record.program = byte,
+        1 => record.mode = byte,
+        2 => record.status = byte,
+        3 => record.requester = byte,
+        4 => record.number = value,
+        5 => record.bib = value,
+        6 => record.group = value,
+        7 => record.run = value,
+        8 => record.physical = value,
+        9 => record.channel = value,
+        10 => record.information = byte,
+        11 => record.timing.kind = value,
+        12 => record.timing.ticks = value,
+        13 => record.timing.day = value,
+        14 => record.timing.month = value,
+        15 => record.timing.year = value,
+        16 => record.timing.net = i64::from(value) * 10_000_000 - 8_639_999_136_000_001,
+        17 => record.timing.net = i64::from(value) * -10_000_000 + 8_640_000_000_000_000,
+        18 => record.raw_time[usize::from(byte) % 10] = byte,
+        19 => record.raw_date[usize::from(byte) % 8] = byte,
+        20 => record.spare[usize::from(byte) % 2] = byte,
+        21 => record.status = b'Z',
+        22 => (record.status, record.run) = (b'E', value),
+        _ => (),
+    }
+}
+
+fn spoil_dynamic(record: &mut DynamicRequest, part: usize, value: u32, byte: u8) {
+    match part {
+        0 => record.requester = byte,
+        1 => record.order = byte,
+        2 => record.bib = value,
+        3 => record.channel = value,
+        4 => record.run = value,
+        5 => record.stop_bib = value,
+        6 => record.stop_channel = value,
+        7 => record.stop_run = value,
+        8 => record.sign = value,
+        9 => record.time = value,
+        10 => record.days = value,
+        11 => record.period = value,
+        12 => record.output = byte,
+        _ => (),
+    }
+}
+
+/// Each byte of a held cell in all its values, met by a reply.
+fn damaged_cells(random: &mut Random) -> usize {
+    for kind in [CLOCK, NET, RAW] {
+        let mut lent = Lent::with(random, 2, 3);
+        let (requester, number) = key_of_seat(0);
+        let cell = reply_frame(&ReplyRecord { requester, number, ..reply(random, kind) });
+        let frame = reply_with(random, key_of_seat(0));
+        for place in 0..CELL_SIZE {
+            for byte in 0..=u8::MAX {
+                lent.cells[..CELL_SIZE].copy_from_slice(&cell);
+                lent.cells[place] = byte;
+                reply_to(&lent, &frame);
+            }
+        }
+    }
+    3 * CELL_SIZE * 256
+}
+
+fn reply_to(lent: &Lent, frame: &[u8]) {
+    same(&(lent.desk, lent.seats, frame), |side| {
+        let Lent { desk, mut seats, mut cells, mut marks } = lent.clone();
+        let answer = got(|answer| side.reply(answer, &mut seats, desk, &mut cells, &mut marks, frame));
+        (answer, seats, cells, marks)
+    });
+}
+
+/// Desks with one thing that may be wrong, met by a request, a reply and both in a capture.
+fn spoiled_desks(random: &mut Random) -> usize {
+    const TIMES: usize = 4_000;
+    for _ in 0..TIMES {
+        let used = 1 + random.below(SEATS);
+        let held = random.below(40);
+        let mut lent = Lent::with(random, used, held);
+        spoil_desk(&mut lent, random);
+        let key = key_of_seat(random.below(SEATS + 1));
+        let request = request_with(random, key);
+        let mut reply = reply_with(random, key);
+        reply[5] = random.one_of(b"RREZ");
+        let capture = [&request[..], b"\n", &reply, &reply[..30]].concat();
+        same(&(lent.desk, lent.seats, &request), |side| {
+            let Lent { desk, mut seats, cells, marks } = lent.clone();
+            (got(|answer| side.open(answer, &mut seats, desk, &cells, &marks, &request)), seats)
+        });
+        reply_to(&lent, &reply);
+        same(&(lent.desk, lent.seats, &capture), |side| {
+            let Lent { desk, mut seats, mut cells, mut marks } = lent.clone();
+            let answer = got(|answer| side.capture(answer, &mut seats, desk, &mut cells, &mut marks, &capture));
+            (answer, seats, cells, marks)
+        });
+    }
+    3 * TIMES
+}
+
+fn spoil_desk(lent: &mut Lent, random: &mut Random) {
+    let held = lent.desk.count as usize;
+    let seat = random.below(SEATS);
+    let value = random.one_of(&LIMITS);
+    let cell = random.below(held + 1);
+    match random.below(14) {
+        0 => lent.desk.bits ^= 1 << random.below(64),
+        1 => lent.desk.count = value,
+        2 => lent.seats[seat].requester = value,
+        3 => lent.seats[seat].number = value,
+        4 => lent.seats[seat].held = value,
+        5 => lent.seats[seat].ended = value,
+        6 => lent.marks[cell] = value,
+        7 => lent.cells[cell * CELL_SIZE + random.below(CELL_SIZE)] = random.between(0, 255) as u8,
+        8 => lent.cells[cell * CELL_SIZE + 5] = random.one_of(b"EZ"),
+        9 => lent.seats[seat] = lent.seats[0],
+        10 => lent.cells.truncate(held * CELL_SIZE + random.below(CELL_SIZE + 1)),
+        11 => lent.marks.truncate(held + random.below(2)),
+        12 => end_seat(lent, random),
+        _ => (),
+    }
+}
+
+/// The last record of a seat made its E, as a desk has it.
+fn end_seat(lent: &mut Lent, random: &mut Random) {
+    let seat = random.below(SEATS);
+    let held = lent.desk.count as usize;
+    if let Some(cell) = (0..held).rev().find(|&cell| lent.marks[cell] as usize == seat) {
+        lent.cells[cell * CELL_SIZE + 5] = b'E';
+        lent.seats[seat].ended = 1;
+    }
+}
+
+/// Captures cut, taken and listed, over cells, marks and outputs of many sizes.
+fn captures(random: &mut Random) -> usize {
+    const TIMES: usize = 300;
+    for time in 0..TIMES {
+        let mut capture = mixed_capture(random);
+        capture.truncate(random.below(32_769));
+        if time == 0 {
+            capture = vec![b' '; 32_769];
+        }
+        let (cells, marks) = (random.below(CELLS * CELL_SIZE + 200), random.below(CELLS + 20));
+        let room = random.one_of(&[15, 62, 5_000, 14_000, 14_170]);
+        same(&(&capture, cells, marks, room), |side| {
+            let (mut cells, mut marks, mut out) = (vec![0xee; cells], vec![7; marks], vec![0xee; room]);
+            (side.list(&capture, &mut cells, &mut marks, &mut out), cells, marks, out)
+        });
+        let at = random.below(capture.len() + 10);
+        same(&(&capture, at), |side| got(|answer| side.next_frame(answer, &capture, at)));
+        same(&&capture, |side| got(|answer| side.next_frame(answer, &capture, usize::MAX)));
+    }
+    3 * TIMES
+}
+
+/// Calls on numbers, and cells looked for on any state.
+fn numbers(random: &mut Random) -> usize {
+    const TIMES: usize = 5_000;
+    let lent = Lent::with(random, SEATS, CELLS);
+    for _ in 0..TIMES {
+        let [bib, tnow, tev, sign, days, time] = std::array::from_fn(|_| random.one_of(&LIMITS));
+        let of = RunningOf { bib, tnow, tev: tev * (bib % 2), sign: sign % 3, days: days % 11, time };
+        let desk = Desk { bits: u64::from(time) * u64::from(tnow), count: random.between(0, 300) };
+        let (cells, marks) = (random.below(lent.cells.len() + 1), random.below(CELLS + 1));
+        let (seat, from) = (random.between(0, 17), random.below(300));
+        same(&(of, desk, cells, marks, seat, from), |side| {
+            let held = side.next_held(desk, &lent.cells[..cells], &lent.marks[..marks], seat, from);
+            (side.running_time(of), side.seats_in_use(desk), side.capacity(cells, marks), held)
+        });
+        let length = random.one_of(&[SEATS, SEATS, SEATS - 1, 0]);
+        same(&(desk, length), |side| {
+            let mut seats = lent.seats;
+            (got(|answer| side.reset(answer, &mut seats[..length], desk)), seats)
+        });
+    }
+    5 * TIMES
+}

@@ -1,0 +1,68 @@
+//! Who sees what a call answers: nobody while it is timed, and a keeper while the sides are compared.
+
+use crate::abi::*;
+use std::fmt::Debug;
+use std::hint::black_box;
+
+/// An answer, with the number that says whether it is a refusal.
+pub trait Answer: Debug {
+    fn number(&self) -> u32 {
+        0
+    }
+}
+
+macro_rules! answers {
+    ($($name:ty),*) => {$(impl Answer for $name { fn number(&self) -> u32 { self.number } })*};
+}
+
+answers!(
+    DeskAnswer,
+    CapturedAnswer,
+    RequestAnswer,
+    ReplyAnswer,
+    DynamicAnswer,
+    WrittenAnswer,
+    RunningAnswer,
+    ListedAnswer
+);
+impl Answer for FrameAnswer {}
+impl Answer for CellAnswer {}
+impl Answer for u32 {}
+impl Answer for usize {}
+
+pub trait Witness {
+    /// Takes what was asked, what came, and the lent memory after it.
+    fn saw(&mut self, asked: &dyn Debug, answer: &impl Answer, memory: &[&dyn Debug]);
+}
+
+pub struct Nobody;
+
+impl Witness for Nobody {
+    #[inline(always)]
+    fn saw(&mut self, _: &dyn Debug, answer: &impl Answer, _: &[&dyn Debug]) {
+        black_box(answer);
+    }
+}
+
+/// What one call was asked, and what it gave.
+#[derive(PartialEq)]
+pub struct Seen {
+    pub asked: String,
+    pub number: u32,
+    pub answer: String,
+    pub memory: String,
+}
+
+#[derive(Default)]
+pub struct Keeper(pub Vec<Seen>);
+
+impl Witness for Keeper {
+    fn saw(&mut self, asked: &dyn Debug, answer: &impl Answer, memory: &[&dyn Debug]) {
+        self.0.push(Seen {
+            asked: format!("{asked:?}"),
+            number: answer.number(),
+            answer: format!("{answer:?}"),
+            memory: format!("{memory:?}"),
+        });
+    }
+}

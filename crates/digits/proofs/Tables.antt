@@ -1,0 +1,42 @@
+-- Two tests that come out the same at every number below a bound, which is seen by computing them all. Assumes nothing.
+use Prim.Native.Nat.{ℕ, zero, suc, _<_}
+use mathlib.Core.Bool.{Bool, true, false, false≢true, _&&_}
+use mathlib.Core.Path.{_≡_, refl, subst, sym}
+use native.Mathlib.Nat.{not-suc-le-zero}
+use native.Mathlib.Omega.{arith}
+use lib.Dec.{eqb}
+use borrow.Author.Tests.{eqb-true, eqb-false}
+
+abbrev alike : Bool → Bool → Bool
+alike true b = b
+alike false true = false
+alike false false = true
+
+abbrev pub agree : (ℕ → Bool) → (ℕ → Bool) → ℕ → Bool
+agree f g zero = true
+agree f g (suc n) = alike (f n) (g n) && agree f g n
+
+same : (a b : Bool) → alike a b ≡ true → a ≡ b
+same true true e = refl
+same true false e = absurd (false≢true e)
+same false true e = absurd (false≢true e)
+same false false e = refl
+
+first : (a b : Bool) → a && b ≡ true → a ≡ true
+first true b e = refl
+first false b e = absurd (false≢true e)
+
+second : (a b : Bool) → a && b ≡ true → b ≡ true
+second true b e = e
+second false b e = absurd (false≢true e)
+
+at-last {ℓ} : {A : Type ℓ} (y : Bool) → (y ≡ true → A) → (y ≡ false → A) → A
+at-last true f g = f refl
+at-last false f g = g refl
+
+pub agreed : (f g : ℕ → Bool) (n : ℕ) → agree f g n ≡ true → (k : ℕ) → k < n → f k ≡ g k
+agreed f g zero e k l = absurd (not-suc-le-zero l)
+agreed f g (suc n) e k l =
+    at-last (eqb k n)
+    (λ b. subst (λ (x : ℕ). f x ≡ g x) (sym (eqb-true k n b)) (same (f n) (g n) (first (alike (f n) (g n)) (agree f g n) e)))
+    (λ b. agreed f g n (second (alike (f n) (g n)) (agree f g n) e) k (let o = eqb-false k n b in omega (arith, l, o)))

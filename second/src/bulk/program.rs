@@ -1,0 +1,125 @@
+//! The proved programs: started, and waited for. They read from files and write to files, so that
+//! none waits for another to read what it has written.
+
+use std::fs::{self, File};
+use std::io::ErrorKind;
+use std::path::{self, Path, PathBuf};
+use std::process::{Child, Command, ExitStatus, Stdio};
+use std::thread;
+use std::time::Duration;
+
+/// How long the program is left at work before it is looked at again.
+const PATIENCE: Duration = Duration::from_millis(20);
+
+/// What the room has in it: a file whose being there ends the run, the directory of the captures,
+/// and what `cases` reads and both programs write.
+const STOP: &str = "stop";
+const CAPTURES: &str = "captures";
+const ASKED: &str = "asked";
+const ANSWERS: &str = "answers";
+
+/// How the programs are started.
+pub struct Programs {
+    run: PathBuf,
+    room: PathBuf,
+}
+
+/// What a program has written, and how it ended.
+pub struct Answered {
+    pub output: Vec<u8>,
+    pub status: ExitStatus,
+}
+
+impl Programs {
+    /// `run NAME` starts the program of that name; the room is a directory that is there.
+    pub fn new(run: &Path, room: &Path) -> Result<Self, String> {
+        let programs = Programs {
+            run: path::absolute(run).map_err(complaint(run))?,
+            room: path::absolute(room).map_err(complaint(room))?,
+        };
+        let captures = programs.room.join(CAPTURES);
+        match fs::create_dir(&captures) {
+            Err(error) if error.kind() != ErrorKind::AlreadyExists => {
+                Err(complaint(&captures)(error))
+            }
+            _ => Ok(programs),
+        }
+    }
+
+    /// Someone wants the run to end.
+    fn are_to_stop(&self) -> bool {
+        self.room.join(STOP).exists()
+    }
+
+    /// Asks `cases` all this.
+    pub fn start_cases(&self, input: &str) -> Result<Running<'_>, String> {
+        let path = self.room.join(ASKED);
+        fs::write(&path, input).map_err(complaint(&path))?;
+        let asked = File::open(&path).map_err(complaint(&path))?;
+        let mut command = Command::new(&self.run);
+        command.arg("cases").stdin(asked);
+        self.start(command)
+    }
+
+    /// Has `lists` list all these captures.
+    pub fn start_lists(&self, captures: &[Vec<u8>]) -> Result<Running<'_>, String> {
+        let directory = self.room.join(CAPTURES);
+        let mut command = Command::new(&self.run);
+        command.arg("lists").stdin(Stdio::null());
+        for (number, capture) in captures.iter().enumerate() {
+            let name = number.to_string();
+            let path = directory.join(&name);
+            fs::write(&path, capture).map_err(complaint(&path))?;
+            command.arg(name);
+        }
+        command.current_dir(directory);
+        self.start(command)
+    }
+
+    fn start(&self, mut command: Command) -> Result<Running<'_>, String> {
+        let path = self.room.join(ANSWERS);
+        let answers = File::create(&path).map_err(complaint(&path))?;
+        let child = command.stdout(answers).spawn();
+        Ok(Running {
+            child: child.map_err(complaint(&self.run))?,
+            programs: self,
+        })
+    }
+}
+
+/// What is said where something cannot be done with this file.
+fn complaint(path: &Path) -> impl Fn(std::io::Error) -> String + '_ {
+    move |error| format!("{}: {error}", path.display())
+}
+
+/// A program at work.
+pub struct Running<'a> {
+    child: Child,
+    programs: &'a Programs,
+}
+
+impl Running<'_> {
+    /// All that it has written when it has ended, or nothing where the run is to stop.
+    pub fn finish(mut self) -> Result<Option<Answered>, String> {
+        let run = &self.programs.run;
+        loop {
+            if self.programs.are_to_stop() {
+                self.end();
+                return Ok(None);
+            }
+            if let Some(status) = self.child.try_wait().map_err(complaint(run))? {
+                let path = self.programs.room.join(ANSWERS);
+                let output = fs::read(&path).map_err(complaint(&path))?;
+                return Ok(Some(Answered { output, status }));
+            }
+            thread::sleep(PATIENCE);
+        }
+    }
+
+    /// Ends this one program, whose answers nobody wants any more.
+    fn end(&mut self) {
+        // It may have ended by itself.
+        let _ = self.child.kill();
+        let _ = self.child.wait();
+    }
+}

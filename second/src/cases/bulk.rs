@@ -1,0 +1,187 @@
+//! Frames in bulk: for each seed a piece of cases that ask about so many frames. The scripts and the
+//! captures in bulk stand beside those of the file.
+
+mod bounds;
+mod damages;
+mod reads;
+
+use super::frames::Number;
+use super::{dynamic, reply, request};
+use crate::random::Random;
+
+/// How many values a damage case puts at each place.
+const VALUES: u64 = 256;
+
+/// Damage cases ask about one frame in so many of a piece. There is a write for so many frames.
+const DAMAGES_ONE_IN: u64 = 2;
+const WRITES_ONE_IN: u64 = 50;
+
+/// What frames and records of one kind are made with.
+struct Maker {
+    /// What the words of its cases end with.
+    word: &'static str,
+    numbers: &'static [Number],
+    /// The offsets of the fields that are one letter each.
+    letters: &'static [usize],
+    /// A good frame.
+    good: fn(&mut Random) -> Vec<u8>,
+    /// A frame that nothing or some things have befallen.
+    befallen: fn(&mut Random) -> Vec<u8>,
+    /// Puts times and dates, and what goes with them, at their bounds.
+    put_times: fn(&mut [u8], &mut Random),
+    write: fn(&mut Random) -> String,
+}
+
+const MAKERS: [&Maker; 3] = [&REQUEST, &REPLY, &DYNAMIC];
+
+const REQUEST: Maker = Maker {
+    word: "request",
+    numbers: &request::NUMBERS,
+    letters: &[
+        crate::request::at::REQUESTER,
+        crate::request::at::INFORMATION,
+        crate::request::at::OUTPUT,
+    ],
+    good: |random| request::frame_of(&request::random_record(random)),
+    befallen: request::random_frame,
+    put_times: bounds::put_times_of_request,
+    write: request::random_write,
+};
+
+const REPLY: Maker = Maker {
+    word: "reply",
+    numbers: &reply::NUMBERS,
+    letters: &[
+        crate::reply::at::PROGRAM,
+        crate::reply::at::MODE,
+        crate::reply::at::STATUS,
+        crate::reply::at::REQUESTER,
+        crate::reply::at::INFORMATION,
+    ],
+    good: |random| reply::frame_of(&reply::random_record(random)),
+    befallen: reply::random_frame,
+    put_times: bounds::put_times_of_reply,
+    write: reply::random_write,
+};
+
+const DYNAMIC: Maker = Maker {
+    word: "dynamic",
+    numbers: &dynamic::NUMBERS,
+    letters: &[
+        crate::dynamic::at::REQUESTER,
+        crate::dynamic::at::ORDER,
+        crate::dynamic::at::OUTPUT,
+    ],
+    good: |random| dynamic::frame_of(&dynamic::random_record(random)),
+    befallen: dynamic::random_frame,
+    put_times: bounds::put_times_of_dynamic,
+    write: dynamic::random_write,
+};
+
+/// The cases of one piece, which ask about just so many frames; and some writes.
+pub fn piece(seed: u64, frames: u64) -> Vec<String> {
+    let mut random = Random::new(seed, "bulk frames");
+    let mut cases = damages::cases(&mut random, frames / DAMAGES_ONE_IN);
+    let damaged: u64 = cases.iter().map(|case| frames_asked(case)).sum();
+    cases.extend((damaged..frames).map(|_| reads::case(&mut random)));
+    for _ in 0..frames / WRITES_ONE_IN {
+        let maker = random.pick(&MAKERS);
+        cases.push((maker.write)(&mut random));
+    }
+    cases
+}
+
+/// How many frames a case asks a reader about.
+fn frames_asked(case: &str) -> u64 {
+    match case.split_once(' ') {
+        Some((word, "-")) if word.starts_with("damage-") => 0,
+        Some((word, bytes)) if word.starts_with("damage-") => VALUES * (bytes.len() / 2) as u64,
+        Some((word, _)) if word.starts_with("read-") => 1,
+        _ => 0,
+    }
+}
+
+#[cfg(test)]
+mod tests {
+    use super::*;
+    use crate::answers;
+    use crate::bulk::tally::Tally;
+    use std::collections::BTreeSet;
+
+    #[test]
+    fn frames_that_cases_ask_about() {
+        assert_eq!(frames_asked("damage-request 1152"), 512);
+        assert_eq!(frames_asked("damage-reply -"), 0);
+        assert_eq!(frames_asked("read-reply-value -"), 1);
+        assert_eq!(frames_asked("write-request 0 1 2 3 4 5 6 7 8"), 0);
+        assert_eq!(frames_asked("used"), 0);
+    }
+
+    fn frames_of(cases: &[String]) -> u64 {
+        cases.iter().map(|case| frames_asked(case)).sum()
+    }
+
+    #[test]
+    fn a_piece_has_the_frames_it_says() {
+        for frames in [0, 1, 2, 49, 5_000, 12_287, 12_288, 60_000] {
+            let cases = piece(1, frames);
+            assert_eq!(frames_of(&cases), frames);
+            let writes = cases.iter().filter(|case| case.starts_with("write-"));
+            assert_eq!(writes.count() as u64, frames / 50);
+        }
+    }
+
+    #[test]
+    fn a_seed_gives_the_same_piece() {
+        assert_eq!(piece(1, 20_000), piece(1, 20_000));
+        assert_ne!(piece(1, 20_000), piece(2, 20_000));
+    }
+
+    #[test]
+    fn every_word_comes() {
+        let cases = piece(1, 100_000);
+        let words: BTreeSet<&str> = cases
+            .iter()
+            .filter_map(|case| case.split(' ').next())
+            .collect();
+        let expected = BTreeSet::from([
+            "damage-request",
+            "damage-reply",
+            "damage-dynamic",
+            "read-request",
+            "read-reply",
+            "read-reply-value",
+            "read-dynamic",
+            "write-request",
+            "write-reply",
+            "write-reply-value",
+            "write-dynamic",
+        ]);
+        assert_eq!(words, expected);
+    }
+
+    /// A good share of the plain reads is accepted, and every refusal of a reader and of a writer
+    /// comes often.
+    #[test]
+    fn every_refusal_comes() {
+        let mut tally = Tally::default();
+        let plain: Vec<String> = piece(1, 12_000)
+            .into_iter()
+            .filter(|case| frames_asked(case) <= 1)
+            .collect();
+        let text: String = plain.iter().map(|case| format!("{case}\n")).collect();
+        let answers = answers::by_case(text.as_bytes()).expect("cases");
+        for (case, answer) in plain.iter().zip(&answers) {
+            tally.take_case(case, answer);
+        }
+        let frames: u64 = tally.frames.iter().sum();
+        assert_eq!(frames, frames_of(&plain));
+        assert!((frames / 5..frames).contains(&tally.frames[0]));
+        for number in 1..=5 {
+            assert!(tally.frames[number] > frames / 100, "{number}");
+        }
+        for number in [0, 6, 7] {
+            assert!(tally.records[number] > 20, "{number}");
+        }
+    }
+}

@@ -1,0 +1,213 @@
+//! Scripts in bulk: for each seed a piece of so many scripts. Each begins by lending, or with a case
+//! that leaves an empty desk, so that it can be asked alone.
+
+mod conversations;
+mod full;
+mod mixed;
+mod nearly;
+mod wild;
+
+use super::frames::{
+    patched, random_reply, random_request, reply_with_bib, Key, E, R, REPLY_DAMAGES,
+    REQUEST_DAMAGES, Z,
+};
+use super::script::Script;
+use crate::cases::frames::befall_at_random;
+use crate::cases::{reply, request, Cases};
+use crate::desk::CELL;
+use crate::random::Random;
+
+/// The scripts of one piece, each with all its lines.
+pub fn piece(seed: u64, scripts: u64) -> Vec<Vec<String>> {
+    let mut random = Random::new(seed, "bulk scripts");
+    (0..scripts).map(|_| script(&mut random)).collect()
+}
+
+fn script(random: &mut Random) -> Vec<String> {
+    let mut cases = Cases::default();
+    match random.below(64) {
+        0..=15 => super::random::add_script(&mut cases, random),
+        16..=31 => conversations::add(&mut cases, random),
+        32..=49 => nearly::add(&mut cases, random),
+        50..=57 => full::add(&mut cases, random),
+        58..=62 => wild::add(&mut cases, random),
+        _ => mixed::add(&mut cases, random),
+    }
+    cases.text.lines().map(str::to_string).collect()
+}
+
+/// Lends so many whole cells, at times with some bytes of one more, and about as many marks.
+fn lend<'a>(cases: &'a mut Cases, cells: usize, random: &mut Random) -> Script<'a> {
+    let bytes = cells * CELL + random.pick(&[0, 0, 0, 1, 50]);
+    let marks = cells + random.pick(&[0, 0, 0, 1, 2]);
+    Script::lend(cases, bytes, marks)
+}
+
+/// Keys that often have one part in common with another.
+fn random_key(random: &mut Random) -> Key {
+    let requester = random.pick(b"11AAaaz09ZBb");
+    let number = match random.below(4) {
+        0 => random.below(1_000) as u32,
+        _ => random.pick(&[0, 7, 7, 8, 70, 700, 999]),
+    };
+    (requester, number)
+}
+
+/// So many keys, all different.
+fn different_keys(count: usize, random: &mut Random) -> Vec<Key> {
+    let mut keys = Vec::new();
+    while keys.len() < count {
+        let key = random_key(random);
+        if !keys.contains(&key) {
+            keys.push(key);
+        }
+    }
+    keys
+}
+
+/// The keys of the seats in use, as far as frames can have them.
+fn open_keys(script: &Script) -> Vec<Key> {
+    let desk = script.desk();
+    let seats = desk.seats.iter().enumerate();
+    seats
+        .filter(|&(place, _)| (desk.bits >> place) & 1 == 1)
+        .filter_map(|(_, seat)| Some((u8::try_from(seat.requester).ok()?, seat.number)))
+        .filter(|&(_, number)| number < 1_000)
+        .collect()
+}
+
+/// An opening or a reply with one of these keys, or with another; now and then of a frame that
+/// something has befallen.
+fn add_call(script: &mut Script, keys: &[Key], random: &mut Random) {
+    let own = if keys.is_empty() || random.once_in(12) {
+        random_key(random)
+    } else {
+        random.pick(keys)
+    };
+    match random.below(16) {
+        0 if random.once_in(2) => script.open(&wrong_request(random, own)),
+        0..=3 => script.open(&random_request(random, own)),
+        4 => script.reply(&stray(random, own)),
+        5 => script.reply(&wrong_reply(random, own)),
+        _ => {
+            let status = random.pick(&[R, R, R, R, R, R, E, Z]);
+            script.reply(&random_reply(random, status, own));
+        }
+    }
+}
+
+/// A request that something has befallen. Now and then it is a good one still.
+fn wrong_request(random: &mut Random, own: Key) -> Vec<u8> {
+    let mut frame = random_request(random, own);
+    if random.once_in(2) {
+        return patched(&frame, random.pick(&REQUEST_DAMAGES));
+    }
+    befall_at_random(&mut frame, &request::NUMBERS, random);
+    frame
+}
+
+/// The same of replies.
+fn wrong_reply(random: &mut Random, own: Key) -> Vec<u8> {
+    if random.once_in(2) {
+        let frame = reply_with_bib(R, own, random.place(60_000));
+        return patched(&frame, random.pick(&REPLY_DAMAGES));
+    }
+    let mut frame = random_reply(random, R, own);
+    befall_at_random(&mut frame, &reply::NUMBERS, random);
+    frame
+}
+
+/// A reply whose number is another, at times one that no request has.
+fn stray(random: &mut Random, (requester, number): Key) -> Vec<u8> {
+    let number = (number + random.pick(&[1, 10, 1_000, 10_000, 65_536])) % 100_000;
+    random_reply(random, R, (requester, number))
+}
+
+/// Seats in use, or the next held cell of some seat from some place on.
+fn add_look(script: &mut Script, random: &mut Random) {
+    if random.once_in(4) {
+        script.used();
+        return;
+    }
+    let seat = match random.below(8) {
+        0 => random.pick(&[16, 17, 256, 0xeeee_eeee, u32::MAX]),
+        _ => random.below(6) as u32,
+    };
+    let place = match random.below(12) {
+        0 => random.pick(&[255, 256, 257, u32::MAX as usize]),
+        _ => random.place(script.desk().marks.len() + 2),
+    };
+    script.held(seat, place);
+}
+
+/// All records of a seat, one look after the other, and the look that finds no more.
+fn add_all_looks(script: &mut Script, seat: u32) {
+    let mut place = 0;
+    while let Some(cell) = script.desk().next_held(seat, place) {
+        script.held(seat, place);
+        place = cell + 1;
+    }
+    script.held(seat, place);
+}
+
+#[cfg(test)]
+mod tests {
+    use super::*;
+    use crate::answers;
+    use crate::bulk::tally::Tally;
+
+    #[test]
+    fn a_seed_gives_the_same_piece() {
+        assert_eq!(piece(1, 40), piece(1, 40));
+        assert_ne!(piece(1, 40), piece(2, 40));
+    }
+
+    #[test]
+    fn a_piece_has_the_scripts_it_says() {
+        for scripts in [0, 1, 100] {
+            assert_eq!(piece(1, scripts).len() as u64, scripts);
+        }
+    }
+
+    /// So a script can be asked alone, and nothing is left of the one before it.
+    #[test]
+    fn every_script_begins_with_an_empty_desk() {
+        for script in piece(1, 300) {
+            let first = script.first().expect("a line");
+            assert!(
+                first.starts_with("lend ") || first.starts_with("mixes "),
+                "{first}"
+            );
+            assert!(!script[1..].iter().any(|line| line.starts_with("lend ")));
+        }
+    }
+
+    #[test]
+    fn every_line_is_a_case_and_every_refusal_comes() {
+        let mut tally = Tally::default();
+        let scripts = piece(1, 300);
+        let lines: Vec<&String> = scripts
+            .iter()
+            .flatten()
+            .filter(|line| !line.starts_with("mixes "))
+            .collect();
+        let text: String = lines.iter().map(|line| format!("{line}\n")).collect();
+        let answers = answers::by_case(text.as_bytes()).expect("cases");
+        for (line, answer) in lines.iter().zip(&answers) {
+            tally.take_case(line, answer);
+        }
+        let calls: u64 = tally.calls.iter().sum();
+        assert!(tally.calls[0] > calls / 5, "{:?}", tally.calls);
+        for number in [1, 2, 3, 4, 5, 9, 10, 11, 12, 13, 14, 15, 16] {
+            assert!(tally.calls[number] > 3, "{number} {:?}", tally.calls);
+        }
+        assert_eq!([6, 7, 8].map(|number| tally.calls[number]), [0; 3]);
+    }
+
+    #[test]
+    fn keys_are_different() {
+        let keys = different_keys(20, &mut Random::new(1, "test"));
+        assert_eq!(keys.len(), 20);
+        assert!((1..20).all(|place| !keys[..place].contains(&keys[place])));
+    }
+}

@@ -1,0 +1,199 @@
+//! Changes that belong together: made all of them to a desk, they mostly leave a desk. Where they do
+//! not, they break as a rule one clause alone: a Z that is not the first, or a record after the end.
+
+use crate::cases::desk::bulk::random_key;
+use crate::cases::desk::frames::{random_reply, E, R, Z};
+use crate::desk::{Desk, Seat, CELL, SEATS};
+use crate::random::Random;
+use crate::reply::at;
+use crate::script::Change;
+
+/// Any of them; of some states there are none to be made.
+pub fn changes(desk: &Desk, random: &mut Random) -> Vec<Change> {
+    match random.below(9) {
+        0 => another_key(desk, random),
+        1 | 2 => a_record_more(desk, random),
+        3 => a_record_less(desk),
+        4 => a_seat_more(desk, random),
+        5 => a_seat_less(desk, random),
+        6 => another_end(desk, random),
+        7 => two_records_changed_about(desk, random),
+        _ => a_record_of_another_seat(desk, random),
+    }
+}
+
+/// How many cells hold records, as far as they are lent.
+fn taken(desk: &Desk) -> usize {
+    usize::try_from(desk.count).map_or(desk.capacity(), |count| count.min(desk.capacity()))
+}
+
+/// A record's cell, if there is one.
+fn some_record(desk: &Desk, random: &mut Random) -> Option<usize> {
+    let taken = taken(desk);
+    (taken > 0).then(|| random.place(taken))
+}
+
+/// The places of the seats whose bit is this.
+fn seats_with(desk: &Desk, bit: u64) -> Vec<usize> {
+    (0..SEATS)
+        .filter(|&seat| (desk.bits >> seat) & 1 == bit)
+        .collect()
+}
+
+fn some_seat(desk: &Desk, bit: u64, random: &mut Random) -> Option<usize> {
+    let seats = seats_with(desk, bit);
+    (!seats.is_empty()).then(|| random.pick(&seats))
+}
+
+/// The seat that a cell's mark names, if there is such a seat.
+fn seat_of_record(desk: &Desk, cell: usize) -> Option<usize> {
+    let seat = usize::try_from(*desk.marks.get(cell)?).ok()?;
+    (seat < SEATS).then_some(seat)
+}
+
+/// Requester and number of a seat put into a cell.
+fn put_key(cell: usize, seat: &Seat) -> Change {
+    let mut text = vec![seat.requester as u8];
+    text.extend(format!("{:05}", seat.number % 100_000).bytes());
+    Change::Cell(cell * CELL + at::REQUESTER, text)
+}
+
+/// A seat gets another key, and all its records with it.
+fn another_key(desk: &Desk, random: &mut Random) -> Vec<Change> {
+    let Some(place) = some_seat(desk, 1, random) else {
+        return Vec::new();
+    };
+    let (requester, number) = random_key(random);
+    let seat = Seat {
+        requester: requester.into(),
+        number,
+        ..desk.seats[place]
+    };
+    let own = (0..taken(desk)).filter(|&cell| seat_of_record(desk, cell) == Some(place));
+    let mut changes: Vec<Change> = own.map(|cell| put_key(cell, &seat)).collect();
+    changes.push(Change::Seat(place, seat));
+    changes
+}
+
+/// The next cell holds a record of a seat in use. Where no cell is free, only the count says so.
+fn a_record_more(desk: &Desk, random: &mut Random) -> Vec<Change> {
+    let cell = taken(desk);
+    let mut changes = vec![Change::Count(desk.count.wrapping_add(1))];
+    let Some(place) = some_seat(desk, 1, random).filter(|_| cell < desk.capacity()) else {
+        return changes;
+    };
+    let mut seat = desk.seats[place];
+    let status = match (seat.ended, seat.held) {
+        (0, 0) => random.pick(&[R, E, Z]),
+        _ => random.pick(&[R, R, R, E, E, Z]),
+    };
+    let key = (seat.requester as u8, seat.number % 100_000);
+    changes.push(Change::Cell(cell * CELL, random_reply(random, status, key)));
+    changes.push(Change::Mark(cell, place as u32));
+    seat.held = seat.held.wrapping_add(1);
+    seat.ended = (status != R).into();
+    changes.push(Change::Seat(place, seat));
+    changes
+}
+
+/// The last record is a free cell again.
+fn a_record_less(desk: &Desk) -> Vec<Change> {
+    let Some(cell) = taken(desk).checked_sub(1) else {
+        return Vec::new();
+    };
+    let mut changes = vec![Change::Count(cell as u32)];
+    if let Some(place) = seat_of_record(desk, cell) {
+        let mut seat = desk.seats[place];
+        seat.held = seat.held.wrapping_sub(1);
+        seat.ended = 0;
+        changes.push(Change::Seat(place, seat));
+    }
+    changes
+}
+
+fn a_seat_more(desk: &Desk, random: &mut Random) -> Vec<Change> {
+    let Some(place) = some_seat(desk, 0, random) else {
+        return vec![Change::Bits(desk.bits | 1 << SEATS)];
+    };
+    let (requester, number) = random_key(random);
+    let seat = Seat {
+        requester: requester.into(),
+        number,
+        ..Seat::default()
+    };
+    let bits = desk.bits | 1 << place;
+    vec![Change::Seat(place, seat), Change::Bits(bits)]
+}
+
+/// A seat is no longer in use. If it holds records, they name it all the same.
+fn a_seat_less(desk: &Desk, random: &mut Random) -> Vec<Change> {
+    let used = seats_with(desk, 1);
+    let empty: Vec<usize> = used
+        .iter()
+        .copied()
+        .filter(|&seat| desk.seats[seat].held == 0)
+        .collect();
+    let among = if empty.is_empty() { used } else { empty };
+    if among.is_empty() {
+        return Vec::new();
+    }
+    let place = random.pick(&among);
+    vec![
+        Change::Seat(place, Seat::default()),
+        Change::Bits(desk.bits & !(1 << place)),
+    ]
+}
+
+/// A seat's last record has another status, and ended says so.
+fn another_end(desk: &Desk, random: &mut Random) -> Vec<Change> {
+    let Some(place) = some_record(desk, random).and_then(|cell| seat_of_record(desk, cell)) else {
+        return Vec::new();
+    };
+    let last = (0..taken(desk)).rfind(|&cell| seat_of_record(desk, cell) == Some(place));
+    let mut seat = desk.seats[place];
+    let status = match seat.held {
+        1 => random.pick(&[R, E, Z]),
+        _ => random.pick(&[R, R, E, E, Z]),
+    };
+    seat.ended = (status != R).into();
+    let mut changes = vec![Change::Seat(place, seat)];
+    changes.extend(last.map(|cell| Change::Cell(cell * CELL + at::STATUS, vec![status])));
+    changes
+}
+
+/// The bytes of a cell, all of which are lent.
+fn bytes_of(desk: &Desk, cell: usize) -> Vec<u8> {
+    desk.cells[cell * CELL..][..CELL].to_vec()
+}
+
+/// Two records change places, and so do their marks.
+fn two_records_changed_about(desk: &Desk, random: &mut Random) -> Vec<Change> {
+    let (Some(one), Some(other)) = (some_record(desk, random), some_record(desk, random)) else {
+        return Vec::new();
+    };
+    vec![
+        Change::Cell(one * CELL, bytes_of(desk, other)),
+        Change::Cell(other * CELL, bytes_of(desk, one)),
+        Change::Mark(one, desk.marks[other]),
+        Change::Mark(other, desk.marks[one]),
+    ]
+}
+
+/// A record goes over to another seat, key and mark, and both seats know of it.
+fn a_record_of_another_seat(desk: &Desk, random: &mut Random) -> Vec<Change> {
+    let (Some(cell), Some(to)) = (some_record(desk, random), some_seat(desk, 1, random)) else {
+        return Vec::new();
+    };
+    let mut changes = vec![
+        Change::Mark(cell, to as u32),
+        put_key(cell, &desk.seats[to]),
+    ];
+    if let Some(from) = seat_of_record(desk, cell).filter(|&from| from != to) {
+        for (place, more) in [(from, u32::MAX), (to, 1)] {
+            let mut seat = desk.seats[place];
+            seat.held = seat.held.wrapping_add(more);
+            changes.push(Change::Seat(place, seat));
+        }
+    }
+    changes
+}
