@@ -105,28 +105,18 @@ fn are_apart(a: Seat, b: Seat, bits: u64, i: usize, j: usize) -> bool
     }
 }
 
-fn apart_below(row: [Seat; SEATS], bits: u64, i: usize) -> bool
-    requires { ⌜ i < seatCount ⌝ }
-    ensures { λ r. ⌜ r ≡ apartBelow row bits i ⌝ }
-{
-    let s = row[i];
-    let mut j: usize = 0;
-    while j < i {
-        if !are_apart(s, row[j], bits, i, j) {
-            return false;
-        }
-        j += 1;
-    }
-    true
-}
-
 fn all_apart(row: [Seat; SEATS], bits: u64) -> bool
     ensures { λ r. ⌜ r ≡ allBelow seatCount (apartBelow row bits) ⌝ }
 {
     let mut i: usize = 0;
     while i < SEATS {
-        if !apart_below(row, bits, i) {
-            return false;
+        let s = row[i];
+        let mut j: usize = 0;
+        while j < i {
+            if !are_apart(s, row[j], bits, i, j) {
+                return false;
+            }
+            j += 1;
         }
         i += 1;
     }

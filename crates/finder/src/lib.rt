@@ -1,5 +1,5 @@
 // Captured bytes cut into frames: the frame that a cursor comes to, one call after the other.
-use digits::one_of;
+use digits::in_set;
 use frames::dynamic::DYNAMIC_LEAD;
 use frames::reply::REPLY_LEAD;
 use frames::request::REQUEST_LEAD;
@@ -10,8 +10,8 @@ ghost use lib.ListN.{length, getD};
 ghost use Rattle.finder.specs.Leads.{isLead};
 ghost use Rattle.finder.specs.Pieces.{foundFrom};
 
-// The bytes that begin a frame.
-const LEADS: [u8; 3] = [REQUEST_LEAD, REPLY_LEAD, DYNAMIC_LEAD];
+// The bytes that begin a frame, as a set.
+const LEADS: u64 = (1 << REQUEST_LEAD) | (1 << REPLY_LEAD) | (1 << DYNAMIC_LEAD);
 
 const CR: u8 = 13;
 
@@ -83,5 +83,5 @@ fn frame_at(s: &[u8], start: usize) -> Found
 fn is_lead(b: u8) -> bool
     ensures { λ r. ⌜ r ≡ isLead b ⌝ }
 {
-    one_of(&LEADS, b)
+    in_set(LEADS, 0, b)
 }

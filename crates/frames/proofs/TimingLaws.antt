@@ -27,20 +27,18 @@ use Rattle.frames.proofs.LayoutLaws.{unless-none, zeros-replicate}
 -- ---- a turn of a loop over bytes
 
 module _ (rule : ℕ → Bool) (l : List ℕ) (i n b : ℕ) (more : i < n) (read : b ≡ getD l i 0) where
-  pub run-stops : rule b ≡ false → allFrom rule l i (n - i) ≡ false
+  pub run-goes : (all good x : Bool) → all ≡ good && allFrom rule l i (n - i) → x ≡ rule b → all ≡ (good && x) && allFrom rule l (i + 1) (n - (i + 1))
   unfolding allFrom
-  run-stops e = let k : n - i ≡ suc (n - suc i) = omega arith in rw (k, ← read, e)
-
-  pub run-goes : rule b ≡ true → allFrom rule l i (n - i) ≡ allFrom rule l (i + 1) (n - (i + 1))
-  unfolding allFrom
-  run-goes e =
+  run-goes all false x e h = e
+  run-goes all true x e h =
       let k : n - i ≡ suc (n - suc i) = omega arith in
       let j : i + 1 ≡ suc i = omega arith in
-      rw (k, j, ← read, e)
+      e ∙ rw (k, j, ← read, ← h)
 
-pub run-done : (rule : ℕ → Bool) (l : List ℕ) (i n : ℕ) → n ≤ i → allFrom rule l i (n - i) ≡ true
+pub run-done : (rule : ℕ → Bool) (l : List ℕ) (i n : ℕ) (all good : Bool) → n ≤ i → all ≡ good && allFrom rule l i (n - i) → good ≡ all
 unfolding allFrom
-run-done rule l i n h = let k : n - i ≡ 0 = omega arith in rw k
+run-done rule l i n all false h e = sym e
+run-done rule l i n all true h e = let k : n - i ≡ 0 = omega arith in sym (e ∙ rw k)
 
 -- ---- a turn of the loop that stores bytes
 

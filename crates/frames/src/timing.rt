@@ -59,32 +59,30 @@ pub(crate) fn is_raw(b: u8) -> bool
     (32 <= b) & (b <= 126)
 }
 
-// Whether the first n bytes are raw.
+// Whether the first n bytes are raw. No way out of the loop: so it takes many bytes at once.
 fn raw_run(s: &[u8], n: usize) -> bool
     ensures { λ r. ⌜ r ≡ I.rawFrom (now (s .entry)) 0 n ⌝ }
 {
+    let mut good = true;
     let mut i = 0;
     while i < n {
-        if !is_raw(byte_at(s, i)) {
-            return false;
-        }
+        good = good & is_raw(byte_at(s, i));
         i += 1;
     }
-    true
+    good
 }
 
 // Whether the first n bytes are zero.
 fn zero_run(s: &[u8], n: usize) -> bool
     ensures { λ r. ⌜ r ≡ I.zeroFrom (now (s .entry)) 0 n ⌝ }
 {
+    let mut good = true;
     let mut i = 0;
     while i < n {
-        if byte_at(s, i) != 0 {
-            return false;
-        }
+        good = good & (byte_at(s, i) == 0);
         i += 1;
     }
-    true
+    good
 }
 
 // The two last bytes, and then the parts that the kind does not use.

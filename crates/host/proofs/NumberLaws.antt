@@ -21,7 +21,7 @@ use Rattle.frames.specs.declared.dynamic.DynamicRequest.{DynamicRequest}
 use Rattle.frames.specs.declared.reply.StaticReply.{StaticReply}
 use Rattle.frames.specs.declared.reply.ReplyRead.{ReplyRead}
 use Rattle.frames.specs.Kind.{read}
-use Rattle.frames.specs.Reply.{reply, ReadAs}
+use Rattle.frames.specs.Reply.{reply, zeroReply, orZero, ReadAs}
 use Rattle.desk.specs.declared.state.Seat.{Seat}
 use Rattle.desk.specs.declared.state.Desk.{Desk}
 use Rattle.desk.specs.declared.capture.CaptureAnswer.{CaptureAnswer}
@@ -98,10 +98,10 @@ module _ (s : List ℕ) (a : ReplyRead) (h : ReadAs s a) where
   reply-read e = ap replyAnswer (rw e at (h .told))
 
   pub reply-refused : (g : ReadRefusal) → a .verdict ≡ Refused g
-      → _≡_ {A = ReplyAnswer} (record { number = numberIn {A = ℕ} (readRefused g); offset = offsetIn {A = ℕ} (readRefused g); reply = shown (a .reply) }) (replyAnswer (read reply s))
+      → _≡_ {A = ReplyAnswer} (record { number = numberIn {A = ℕ} (readRefused g); offset = offsetIn {A = ℕ} (readRefused g); reply = shown zeroReply }) (replyAnswer (read reply s))
   reply-refused g e =
       let told : readRefused g ≡ read reply s = rw e at (h .told) in
-      λ i. record { number = (same-number StaticReply g ∙ ap numberIn told) i; offset = (same-offset StaticReply g ∙ ap offsetIn told) i; reply = shown (h .beside i) }
+      λ i. record { number = (same-number StaticReply g ∙ ap numberIn told) i; offset = (same-offset StaticReply g ∙ ap offsetIn told) i; reply = shown ((sym (ap orZero (read-refuses g)) ∙ ap orZero told) i) }
 
 -- ---- the calls by value
 

@@ -25,10 +25,25 @@ pub extern "C" fn rei2_read_dynamic(frame: &[u8]) -> DynamicAnswer
     ensures { λ r. ⌜ r ≡ dynamicAnswer (read dynamic (now (frame .entry))) ⌝ }
 {
     match read_dynamic(frame) {
-        DynamicRead::Request(request) => DynamicAnswer {
+        // Part by part, as in the static request.
+        DynamicRead::Request(r) => DynamicAnswer {
             number: 0,
             offset: 0,
-            request,
+            request: DynamicRequest {
+                requester: r.requester,
+                order: r.order,
+                bib: r.bib,
+                channel: r.channel,
+                run: r.run,
+                stop_bib: r.stop_bib,
+                stop_channel: r.stop_channel,
+                stop_run: r.stop_run,
+                sign: r.sign,
+                time: r.time,
+                days: r.days,
+                period: r.period,
+                output: r.output,
+            },
         },
         DynamicRead::Refused(refusal) => {
             let said = of_reading(refusal);

@@ -10,7 +10,7 @@ use frames::reply::write_reply;
 use frames::timing::Timing;
 ghost use mathlib.Core.Path.{_≡_};
 ghost use Rattle.frames.specs.Kind.{read};
-ghost use Rattle.frames.specs.Reply.{reply};
+ghost use Rattle.frames.specs.Reply.{reply, zeroReply};
 ghost use Rattle.host.specs.Frames.{WroteLent};
 ghost use Rattle.host.specs.Reply.{isNothing, noDate, numbersOf, timingOf, shown, recordOf, replyAnswer};
 
@@ -70,7 +70,7 @@ pub extern "C" fn rei2_read_reply(frame: &[u8]) -> ReplyAnswer
             ReplyAnswer {
                 number: said.number,
                 offset: said.offset,
-                reply: shown(record),
+                reply: no_reply(),
             }
         }
     }
@@ -82,6 +82,36 @@ pub extern "C" fn rei2_write_reply(record: ReplyRecord, out: &mut [u8]) -> Writt
 {
     let answer = write_reply(record_of(record), out);
     written(answer, REPLY_SIZE)
+}
+
+// What stands beside a refusal.
+fn no_reply() -> ReplyRecord
+    ensures { λ r. ⌜ r ≡ shown zeroReply ⌝ }
+{
+    ReplyRecord {
+        program: 0,
+        mode: 0,
+        status: 0,
+        requester: 0,
+        number: 0,
+        bib: 0,
+        group: 0,
+        run: 0,
+        physical: 0,
+        channel: 0,
+        information: 0,
+        timing: TimingNumbers {
+            kind: 2,
+            ticks: 0,
+            day: 0,
+            month: 0,
+            year: 0,
+            net: 0,
+        },
+        raw_time: [0; 10],
+        raw_date: [0; 8],
+        spare: [0; 2],
+    }
 }
 
 // ---- the timing, in numbers and back

@@ -34,10 +34,20 @@ pub extern "C" fn rei2_read_request(frame: &[u8]) -> RequestAnswer
     ensures { λ r. ⌜ r ≡ requestAnswer (read request (now (frame .entry))) ⌝ }
 {
     match read_request(frame) {
-        RequestRead::Request(request) => RequestAnswer {
+        // Part by part: a copy as a whole would wait for what was stored in other pieces.
+        RequestRead::Request(r) => RequestAnswer {
             number: 0,
             offset: 0,
-            request,
+            request: StaticRequest {
+                requester: r.requester,
+                number: r.number,
+                bib: r.bib,
+                information: r.information,
+                channel: r.channel,
+                run: r.run,
+                group: r.group,
+                output: r.output,
+            },
         },
         RequestRead::Refused(refusal) => {
             let said = of_reading(refusal);

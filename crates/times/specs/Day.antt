@@ -7,10 +7,13 @@ use lib.Dec.{eqb, leb}
 unfoldable pub leap : ℕ → Bool
 leap y = (eqb (y % 4) 0 && not (eqb (y % 100) 0)) || eqb (y % 400) 0
 
+abbrev pub februaryLength : ℕ → ℕ
+februaryLength y = cond (leap y) 29 28
+
 -- February has 28 days or 29, April, June, September and November 30, the others 31
 unfoldable pub monthLength : ℕ → ℕ → ℕ
 monthLength m y =
-    cond (eqb m 2) (cond (leap y) 29 28)
+    cond (eqb m 2) (februaryLength y)
     (cond (eqb m 4 || eqb m 6 || eqb m 9 || eqb m 11) 30 31)
 
 unfoldable pub realDay : ℕ → ℕ → ℕ → Bool

@@ -1,10 +1,6 @@
 // Days of the years 2000 to 2099.
 ghost use mathlib.Core.Path.{_≡_};
-ghost use Prim.Native.Nat.{_≤_};
-ghost use Rattle.times.specs.Day.{realDay, monthLength, leap};
-
-// The days of each month but February, by the month's number.
-const LENGTHS: [u32; 13] = [0, 31, 0, 31, 30, 31, 30, 31, 31, 30, 31, 30, 31];
+ghost use Rattle.times.specs.Day.{realDay, monthLength, februaryLength, leap};
 
 // Whether day, month and year name a real day of the years 2000 to 2099.
 pub fn is_day(day: u32, month: u32, year: u32) -> bool
@@ -29,12 +25,21 @@ pub fn is_day(day: u32, month: u32, year: u32) -> bool
 }
 
 fn month_length(month: u32, year: u32) -> u32
-    requires { ⌜ (1 ≤ month) × (month ≤ 12) ⌝ }
     ensures { λ r. ⌜ r ≡ monthLength month year ⌝ }
 {
-    if month != 2 {
-        return LENGTHS[month as usize];
+    if month == 2 {
+        return february(year);
     }
+    if (month == 4) | (month == 6) | (month == 9) | (month == 11) {
+        30
+    } else {
+        31
+    }
+}
+
+fn february(year: u32) -> u32
+    ensures { λ r. ⌜ r ≡ februaryLength year ⌝ }
+{
     if is_leap(year) { 29 } else { 28 }
 }
 

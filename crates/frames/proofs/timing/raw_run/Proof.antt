@@ -1,22 +1,22 @@
--- `frames::timing::raw_run` meets its contract: the bytes passed are raw. Assumes nothing.
+-- `frames::timing::raw_run` meets its contract: the bytes passed are raw, or it is known that they are not. Assumes nothing.
 use native.Mathlib.Omega.{arith}
-use mathlib.Core.Path.{_≡_, sym, _∙_}
+use native.Mathlib.Nat.{sub-zero}
+use mathlib.Core.Bool.{_&&_}
+use mathlib.Core.Path.{_≡_}
 use Prim.Native.Nat.{_-_, _≤_}
+use Rattle.frames.specs.Rules.{isRaw}
 use borrow.Author.Needs.{needs}
+use denote.Ref.{now}
+use Rattle.frames.specs.Inside.{rawFrom}
+use Rattle.frames.proofs.TimingLaws.{run-goes, run-done}
 use Rattle.frames.proofs.timing.raw_run.Statement.{statement}
 use Rattle.frames.proofs.timing.raw_run.Tie as tie
-use Rattle.frames.specs.Inside.{rawFrom}
-use native.Mathlib.Nat.{sub-zero}
-use denote.Ref.{now}
-use borrow.Author.Tests.{not-true, not-false}
-use Rattle.frames.proofs.TimingLaws.{run-stops, run-goes, run-done}
-use Rattle.frames.specs.Rules.{isRaw}
 
 abbrev Inv-loop : tie.InvT-loop
-Inv-loop s n i₀ i = (rawFrom s 0 n ≡ rawFrom s i (n - i)) × (i ≤ n)
+Inv-loop s n good₀ i₀ good i = (rawFrom s 0 n ≡ good && rawFrom s i (n - i)) × (i ≤ n)
 
 abbrev μ-loop : tie.MeasureT-loop
-μ-loop s n i₀ i = n - i
+μ-loop s n good₀ i₀ good i = n - i
 
 loop-holds : tie.Need-loop-holds Inv-loop μ-loop
 loop-holds c = (rw sub-zero, omega arith)
@@ -27,11 +27,6 @@ byte-at-requires c κs = search needs
 is-raw-requires : tie.Need-is-raw-requires Inv-loop μ-loop
 is-raw-requires c κs = search needs
 
-returns : tie.Need-returns Inv-loop μ-loop
-returns c =
-    let l = c .before .before .before .before in
-    sym (l .loop .inv .0 ∙ run-stops isRaw (now (l .before .before .args .s)) (l .loop .i) _ _ (c .before .before .before .loop-test .taken) (c .before .before .byte-at .ensures) (sym (c .before .is-raw .ensures) ∙ not-true _ (c .if1 .taken)))
-
 add-i : tie.Need-add-i Inv-loop μ-loop
 add-i c = search needs
 
@@ -40,15 +35,11 @@ loop-less c = search needs
 
 loop-again : tie.Need-loop-again Inv-loop μ-loop
 loop-again c =
-    let l = c .before .before .before .before in (
-      l .loop .inv .0 ∙ run-goes isRaw (now (l .before .before .args .s)) (l .loop .i) _ _ (c .before .before .before .loop-test .taken) (c .before .before .byte-at .ensures) (sym (c .before .is-raw .ensures) ∙ not-false _ (c .if1 .left)),
-      omega arith,
-    )
+    let l = c .before .before .before in
+    (run-goes isRaw (now (l .before .before .args .s)) (l .loop .i) _ _ (c .before .before .loop-test .taken) (c .before .byte-at .ensures) _ (l .loop .good) _ (l .loop .inv .0) (c .is-raw .ensures), omega arith)
 
-returns-2 : tie.Need-returns-2 Inv-loop μ-loop
-returns-2 c =
-    let l = c .before in
-    sym (l .loop .inv .0 ∙ run-done isRaw (now (l .before .before .args .s)) (l .loop .i) _ (c .loop-test .left))
+returns : tie.Need-returns Inv-loop μ-loop
+returns c = let l = c .before in run-done isRaw (now (l .before .before .args .s)) (l .loop .i) _ _ (l .loop .good) (c .loop-test .left) (l .loop .inv .0)
 
 pub raw-run-spec : {M : Type 1} → statement M
 raw-run-spec =
@@ -59,8 +50,7 @@ raw-run-spec =
     loop-holds
     byte-at-requires
     is-raw-requires
-    returns
     add-i
     loop-less
     loop-again
-    returns-2)
+    returns)

@@ -1,33 +1,32 @@
--- `frames::timing::zero_run` meets its contract: the bytes passed are zero. Assumes nothing.
+-- `frames::timing::zero_run` meets its contract: the bytes passed are zero, or it is known that they are not. Assumes nothing.
 use native.Mathlib.Omega.{arith}
-use mathlib.Core.Path.{_≡_, sym, _∙_}
+use native.Mathlib.Nat.{sub-zero}
+use mathlib.Core.Bool.{Bool, _&&_}
+use mathlib.Core.Path.{_≡_, refl}
 use Prim.Native.Nat.{_-_, _≤_}
+use Prim.Native.Nat.{ℕ}
+use lib.Dec.{eqb}
 use borrow.Author.Needs.{needs}
+use denote.Ref.{now}
+use Rattle.frames.specs.Inside.{zeroFrom}
+use Rattle.frames.proofs.TimingLaws.{run-goes, run-done}
 use Rattle.frames.proofs.timing.zero_run.Statement.{statement}
 use Rattle.frames.proofs.timing.zero_run.Tie as tie
-use Rattle.frames.specs.Inside.{zeroFrom}
-use native.Mathlib.Nat.{sub-zero}
-use denote.Ref.{now}
-use borrow.Author.Tests.{eq-eqb, ne-eqb}
-use Rattle.frames.proofs.TimingLaws.{run-stops, run-goes, run-done}
-use lib.Dec.{eqb}
+
+abbrev zero-byte : ℕ → Bool
+zero-byte b = eqb b 0
 
 abbrev Inv-loop : tie.InvT-loop
-Inv-loop s n i₀ i = (zeroFrom s 0 n ≡ zeroFrom s i (n - i)) × (i ≤ n)
+Inv-loop s n good₀ i₀ good i = (zeroFrom s 0 n ≡ good && zeroFrom s i (n - i)) × (i ≤ n)
 
 abbrev μ-loop : tie.MeasureT-loop
-μ-loop s n i₀ i = n - i
+μ-loop s n good₀ i₀ good i = n - i
 
 loop-holds : tie.Need-loop-holds Inv-loop μ-loop
 loop-holds c = (rw sub-zero, omega arith)
 
 byte-at-requires : tie.Need-byte-at-requires Inv-loop μ-loop
 byte-at-requires c κs = search needs
-
-returns : tie.Need-returns Inv-loop μ-loop
-returns c =
-    let l = c .before .before .before in
-    sym (l .loop .inv .0 ∙ run-stops (λ b. eqb b 0) (now (l .before .before .args .s)) (l .loop .i) _ _ (c .before .before .loop-test .taken) (c .before .byte-at .ensures) (ne-eqb _ 0 (c .if1 .taken)))
 
 add-i : tie.Need-add-i Inv-loop μ-loop
 add-i c = search needs
@@ -37,15 +36,11 @@ loop-less c = search needs
 
 loop-again : tie.Need-loop-again Inv-loop μ-loop
 loop-again c =
-    let l = c .before .before .before in (
-      l .loop .inv .0 ∙ run-goes (λ b. eqb b 0) (now (l .before .before .args .s)) (l .loop .i) _ _ (c .before .before .loop-test .taken) (c .before .byte-at .ensures) (eq-eqb _ 0 (c .if1 .left)),
-      omega arith,
-    )
+    let l = c .before .before in
+    (run-goes zero-byte (now (l .before .before .args .s)) (l .loop .i) _ _ (c .before .loop-test .taken) (c .byte-at .ensures) _ (l .loop .good) _ (l .loop .inv .0) refl, omega arith)
 
-returns-2 : tie.Need-returns-2 Inv-loop μ-loop
-returns-2 c =
-    let l = c .before in
-    sym (l .loop .inv .0 ∙ run-done (λ b. eqb b 0) (now (l .before .before .args .s)) (l .loop .i) _ (c .loop-test .left))
+returns : tie.Need-returns Inv-loop μ-loop
+returns c = let l = c .before in run-done zero-byte (now (l .before .before .args .s)) (l .loop .i) _ _ (l .loop .good) (c .loop-test .left) (l .loop .inv .0)
 
 pub zero-run-spec : {M : Type 1} → statement M
 zero-run-spec =
@@ -55,8 +50,7 @@ zero-run-spec =
     μ-loop
     loop-holds
     byte-at-requires
-    returns
     add-i
     loop-less
     loop-again
-    returns-2)
+    returns)

@@ -9,8 +9,8 @@ use Rattle.host.proofs.dynamic.rei2_read_dynamic.Tie as tie
 read-dynamic-requires : tie.Need-read-dynamic-requires
 read-dynamic-requires c κs = search needs
 
-enum-known-request : tie.Need-enum-known-request
-enum-known-request c = search needs
+enum-known-r : tie.Need-enum-known-r
+enum-known-r c = search needs
 
 enum-known-refusal : tie.Need-enum-known-refusal
 enum-known-refusal c = search needs
@@ -22,7 +22,7 @@ no-dynamic-requires : tie.Need-no-dynamic-requires
 no-dynamic-requires c κs = search needs
 
 returns : tie.Need-returns
-returns c = ap dynamicAnswer (rw (c .before .request .given .1) at (c .before .before .before .read-dynamic .ensures))
+returns c = ap dynamicAnswer (rw (c .before .r .given .1) at (c .before .before .before .read-dynamic .ensures))
 
 returns-2 : tie.Need-returns-2
 returns-2 c = rw (c .no-dynamic .ensures, c .before .of-reading .ensures) (dynamic-refused (c .before .before .before .refusal .given .0 .0) ∙ ap dynamicAnswer (rw (c .before .before .before .refusal .given .1) at (c .before .before .before .before .before .read-dynamic .ensures)))
@@ -32,7 +32,7 @@ rei2-read-dynamic-spec =
     tie.close
     (tie.spec
     read-dynamic-requires
-    enum-known-request
+    enum-known-r
     enum-known-refusal
     of-reading-requires
     no-dynamic-requires

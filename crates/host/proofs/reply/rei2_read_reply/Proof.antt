@@ -19,14 +19,14 @@ enum-known-verdict c = search needs
 of-reading-requires : tie.Need-of-reading-requires
 of-reading-requires c κs = search needs
 
-shown-requires-2 : tie.Need-shown-requires-2
-shown-requires-2 c κs = search needs
+no-reply-requires : tie.Need-no-reply-requires
+no-reply-requires c κs = search needs
 
 returns : tie.Need-returns
 returns c = rw (c .shown .ensures) (reply-read _ _ (c .before .before .before .before .read-reply .ensures) (c .before .enum-told .given .1))
 
 returns-2 : tie.Need-returns-2
-returns-2 c = rw (c .shown2 .ensures, c .before .of-reading .ensures) (reply-refused _ _ (c .before .before .before .before .before .before .read-reply .ensures) (c .before .before .before .verdict .given .0 .0) (c .before .before .before .verdict .given .1))
+returns-2 c = rw (c .no-reply .ensures, c .before .of-reading .ensures) (reply-refused _ _ (c .before .before .before .before .before .before .read-reply .ensures) (c .before .before .before .verdict .given .0 .0) (c .before .before .before .verdict .given .1))
 
 pub rei2-read-reply-spec : {M : Type 1} → statement M
 rei2-read-reply-spec =
@@ -37,6 +37,6 @@ rei2-read-reply-spec =
     shown-requires
     enum-known-verdict
     of-reading-requires
-    shown-requires-2
+    no-reply-requires
     returns
     returns-2)

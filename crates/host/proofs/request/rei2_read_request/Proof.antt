@@ -9,8 +9,8 @@ use Rattle.host.proofs.request.rei2_read_request.Tie as tie
 read-request-requires : tie.Need-read-request-requires
 read-request-requires c κs = search needs
 
-enum-known-request : tie.Need-enum-known-request
-enum-known-request c = search needs
+enum-known-r : tie.Need-enum-known-r
+enum-known-r c = search needs
 
 enum-known-refusal : tie.Need-enum-known-refusal
 enum-known-refusal c = search needs
@@ -22,7 +22,7 @@ no-request-requires : tie.Need-no-request-requires
 no-request-requires c κs = search needs
 
 returns : tie.Need-returns
-returns c = ap requestAnswer (rw (c .before .request .given .1) at (c .before .before .before .read-request .ensures))
+returns c = ap requestAnswer (rw (c .before .r .given .1) at (c .before .before .before .read-request .ensures))
 
 returns-2 : tie.Need-returns-2
 returns-2 c = rw (c .no-request .ensures, c .before .of-reading .ensures) (request-refused (c .before .before .before .refusal .given .0 .0) ∙ ap requestAnswer (rw (c .before .before .before .refusal .given .1) at (c .before .before .before .before .before .read-request .ensures)))
@@ -32,7 +32,7 @@ rei2-read-request-spec =
     tie.close
     (tie.spec
     read-request-requires
-    enum-known-request
+    enum-known-r
     enum-known-refusal
     of-reading-requires
     no-request-requires
