@@ -473,8 +473,8 @@ rei2_frame_answer rei2_next_frame(const uint8_t *capture, size_t capture_len, si
    Done: the list is the first bytes of out, and no other byte of out changes. Cells and marks serve as those of an
    emptied desk: they are overwritten from the first on, one for each reply collected, so lend none that a desk is
    using. Where the capture was too long they stay as they were.
-   Costs a reading of the capture, sixteen looks at each held mark and two passes over the list. It keeps 256 cells and
-   marks aside on the stack, 14,080 bytes. */
+   Costs a reading of the capture, thirty-two looks at each held mark and one pass over the list. It keeps 256 cells and
+   marks aside on the stack, 14,080 bytes, beside what taking a capture needs. */
 rei2_listed_answer rei2_list(const uint8_t *capture, size_t capture_len, uint8_t *cells, size_t cells_len,
                              uint32_t *marks, size_t marks_len, uint8_t *out, size_t out_len);
 

@@ -7,20 +7,10 @@ use native.Mathlib.Numerals.{add-one}
 use native.Mathlib.Decide.{decLt, ℕ-discrete}
 use lib.Dec.{ltb}
 use borrow.Author.Tests.{not-true, not-false, lt-ltb, le-ltb, ltb-true, ltb-false}
+use Rattle.digits.proofs.Tests.{by-test, and-true, and-l, and-r}
 use Rattle.desk.specs.Below.{allBelow, countBelow, first}
 
 -- ---- one test
-
-pub and-true : {a b : Bool} → a ≡ true → b ≡ true → a && b ≡ true
-and-true p q = rw (p, q)
-
-pub and-l : (a b : Bool) → a && b ≡ true → a ≡ true
-and-l true b h = refl
-and-l false b h = h
-
-pub and-r : (a b : Bool) → a && b ≡ true → b ≡ true
-and-r true b h = h
-and-r false b h = let z : false ≡ true = h in cc
 
 and-false-l : {a : Bool} (b : Bool) → a ≡ false → a && b ≡ false
 and-false-l b q = rw q
@@ -35,11 +25,6 @@ never b p q = let z : true ≡ false = sym p ∙ q in let y : _≡_ {A = ℕ} 0 
 pub false-or : (b : Bool) → (b ≡ true → ⊥) → b ≡ false
 false-or true h = absurd (h refl)
 false-or false h = refl
-
--- by the two values of a test
-pub by-test {ℓ} : {A : Type ℓ} (b : Bool) → (b ≡ true → A) → (b ≡ false → A) → A
-by-test true t f = t refl
-by-test false t f = f refl
 
 -- what a call said of a test, and how a branch on its negation went
 pub not-came : {x a : Bool} → x ≡ a → not x ≡ true → a ≡ false

@@ -12,7 +12,8 @@ use native.Mathlib.Numerals.{one-add}
 use borrow.Author.Tests.{eqb-true, eqb-false, eq-eqb, ne-eqb}
 use Rattle.desk.specs.Below.{countBelow, first}
 use Rattle.desk.specs.Seats.{usedBit, clearAt}
-use Rattle.desk.proofs.Below.{below-case, by-test, first-at, first-none, count-ext}
+use Rattle.digits.proofs.Tests.{by-test}
+use Rattle.desk.proofs.Below.{below-case, first-at, first-none, count-ext}
 
 used-zero : (b : ℕ) → usedBit b 0 ≡ eqb (b % 2) 1
 used-zero b = ap (λ (x : ℕ). eqb (x % 2) 1) (div-one b)

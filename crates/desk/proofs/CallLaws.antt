@@ -13,11 +13,12 @@ use Rattle.frames.proofs.RefusalLaws.{read-refuses}
 use Rattle.frames.specs.declared.refusals.ReadRefusal.{ReadRefusal}
 use Rattle.frames.specs.declared.request.StaticRequest.{StaticRequest}
 use Rattle.frames.specs.declared.reply.StaticReply.{StaticReply}
+use Rattle.frames.specs.declared.reply.ReplyLabel.{ReplyLabel}
 use Rattle.frames.specs.Rules.{upTo, isRequester}
 use Rattle.frames.specs.Layout.{firstWrong, values, recordWrong}
 use Rattle.frames.specs.Kind.{Kind, leadIs, headTold, read, wrongIn}
 use Rattle.frames.specs.Request.{request, requestFields}
-use Rattle.frames.specs.Reply.{reply}
+use Rattle.frames.specs.Reply.{reply, labelled}
 use Rattle.frames.proofs.HeadLaws.{tried-gives, then-gives}
 use Rattle.frames.proofs.LayoutLaws.{unless-none, values-fine}
 use Rattle.frames.proofs.RequestLaws.{request-plain}
@@ -26,7 +27,8 @@ use Rattle.desk.specs.declared.call.Call.{Call}
 use Rattle.desk.specs.Key.{requestKey, sameKey, isKey}
 use Rattle.desk.specs.Call.{called, heard}
 use Rattle.desk.specs.Calls.{whatIsGiven}
-use Rattle.desk.proofs.Below.{and-l, and-r, and-true}
+use Rattle.desk.specs.Inside.{callBy}
+use Rattle.digits.proofs.Tests.{and-l, and-r, and-true}
 
 -- ---- answers that gave something
 
@@ -40,10 +42,18 @@ module _ {A B : Type 0} where
   given (gives a) further b e = record { one = a; is = refl; rest = e }
   given (refuses n o) further b e = absurd (let z : _≡_ {A = ℕ} 0 1 = cc in omega arith)
 
--- ---- a reader's refusal stands
+-- ---- a reply's label says all that the desk goes by
 
-pub called-refused : (g : ReadRefusal) → readRefused g ≡ called (readRefused g)
-called-refused g = read-refuses g ∙ sym (ap called (read-refuses g))
+abbrev pub calledBy : Told ReplyLabel → Told Call
+calledBy (gives l) = gives (callBy l)
+calledBy (refuses number offset) = refuses number offset
+
+pub called-by : (x : Told StaticReply) → calledBy (labelled x) ≡ called x
+called-by (gives r) = refl
+called-by (refuses number offset) = refl
+
+pub called-refused : (g : ReadRefusal) → readRefused g ≡ calledBy (readRefused g)
+called-refused g = read-refuses g ∙ sym (ap calledBy (read-refuses g))
 
 -- ---- frames that are read have their length
 

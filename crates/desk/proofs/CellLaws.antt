@@ -17,7 +17,7 @@ use Rattle.desk.specs.declared.capture.Fate.the-variants.{Opened, Collec
 use Rattle.desk.specs.Memory.{Memory}
 use Rattle.desk.specs.Calls.{openTried, openOutcome, opens, replyTried, replyOutcome, replies}
 use Rattle.desk.specs.Capture.{fateBy, dynamicFate, meets, meetsPiece, fates, afterAll, isCollected, howMany}
-use Rattle.desk.proofs.Below.{by-test}
+use Rattle.digits.proofs.Tests.{by-test}
 
 -- one frame
 open-cells : (m : Memory) (t : Told Opening) → openOutcome m t .after .count ≡ m .count + cond (isCollected (fateBy Opened (openOutcome m t .answer))) 1 0

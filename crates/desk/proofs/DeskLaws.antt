@@ -21,7 +21,8 @@ use Rattle.desk.specs.Memory.{Memory, capacity, capacityOf, cellAt, mark
 use Rattle.desk.specs.Desk.{isZero, apartAt, markNames, markGood, cellKeyed, named, lastEnds}
 use Rattle.desk.specs.Calls.{newSeat, opened, grown, withCell, taken, emptyRow, emptied}
 use Rattle.desk.specs.Inside.{takes, takenAt}
-use Rattle.desk.proofs.Below.{and-r, and-true, never, by-test, below-case, eq-case, count-ext, count-more}
+use Rattle.digits.proofs.Tests.{and-r, and-true, by-test}
+use Rattle.desk.proofs.Below.{never, below-case, eq-case, count-ext, count-more}
 use Rattle.desk.proofs.Bits.{set-own, set-other, set-below, none-used}
 use Rattle.desk.proofs.CallLaws.{same-key, own-key}
 use Rattle.desk.proofs.TestLaws.{Facts}

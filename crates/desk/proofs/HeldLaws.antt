@@ -10,7 +10,8 @@ use Rattle.desk.specs.declared.held.Held.the-variants.{Cell, Nothing}
 use Rattle.desk.specs.Below.{first}
 use Rattle.desk.specs.Memory.{markAt}
 use Rattle.desk.specs.Calls.{heldFrom, heldAnswer}
-use Rattle.desk.proofs.Below.{and-true, first-none, first-more, first-hit, first-past}
+use Rattle.digits.proofs.Tests.{and-true}
+use Rattle.desk.proofs.Below.{first-none, first-more, first-hit, first-past}
 
 module _ (marks : List ℕ) (seat from : ℕ) where
   -- a search begins past the cells before its place

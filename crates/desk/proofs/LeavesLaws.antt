@@ -14,7 +14,7 @@ use Rattle.desk.specs.Memory.{Memory}
 use Rattle.desk.specs.Desk.{isDesk}
 use Rattle.desk.specs.Calls.{opens, withCell, replyTried, replies}
 use Rattle.desk.specs.Capture.{meets, meetsPiece, afterAll}
-use Rattle.desk.proofs.Below.{by-test}
+use Rattle.digits.proofs.Tests.{by-test}
 use Rattle.desk.proofs.StepLaws.{took, took-room}
 use Rattle.desk.proofs.MixLaws.{after-taken, after-refused}
 use Rattle.desk.proofs.KeepsLaws.{keeps-memory}

@@ -22,7 +22,8 @@ use Rattle.desk.specs.Seats.{seatAt, usedBit, keyed, keyedAt, seatWith}
 use Rattle.desk.specs.Memory.{Memory, capacity, heldBy}
 use Rattle.desk.specs.Calls.{Outcome, over, newSeat, openTried, openOutcome, opens, opened, seatTried, callTried, replyTried, replyOutcome, replies, taken, emptied, ENDED, OUT-OF-PLACE}
 use Rattle.desk.specs.Mix.{Frame, Event, toOpen, toReply, run, openings, heardAll, Stretch, addressed, framesTo, answersTo, seated, expected, repliesTo, fits, endsIt, kept, said, Sorted, SortsFromAnyDesk, SortsOpenedRequests, StaysDesk}
-use Rattle.desk.proofs.Below.{and-true, never, false-or, by-test, first-at, first-ext}
+use Rattle.digits.proofs.Tests.{and-true, by-test}
+use Rattle.desk.proofs.Below.{never, false-or, first-at, first-ext}
 use Rattle.desk.proofs.CallLaws.{own-key}
 use Rattle.desk.proofs.TestLaws.{Facts, desk-facts, facts-desk}
 use Rattle.desk.proofs.StepLaws.{keyed-used, keyed-key, Took, took, took-key, opens-taken}

@@ -24,7 +24,8 @@ use Rattle.desk.specs.Seats.{seatAt, usedBit, keyed, keyedAt, seatWith, 
 use Rattle.desk.specs.Memory.{Memory, capacity, capacityOf}
 use Rattle.desk.specs.Desk.{isDesk}
 use Rattle.desk.specs.Calls.{over, keyTried, requestTried, openTried, seatTried, callTried, replyTried}
-use Rattle.desk.proofs.Below.{and-l, and-r, first-sound, first-before, count-most}
+use Rattle.digits.proofs.Tests.{and-l, and-r}
+use Rattle.desk.proofs.Below.{first-sound, first-before, count-most}
 use Rattle.desk.proofs.CallLaws.{given, heard-long, same-key, request-legal}
 use Rattle.desk.proofs.TestLaws.{Facts, desk-facts}
 

@@ -27,7 +27,8 @@ use Rattle.desk.specs.Seats.{seatAt, usedBit}
 use Rattle.desk.specs.Memory.{Memory, capacity, capacityOf, cellAt, markAt}
 use Rattle.desk.specs.Desk.{isZero, keyLegal, unusedZero, apartAt, apartBelow, markNames, markGood, cellKeyed, named, lastEnds, heldRight, endedRight, placed, sixteenSeats, noBitAbove, keysLegal, noKeyShared, unusedAllZero, countFits, marksName, cellsAreReplies, heldIsNamed, endsLast, endedIsLast, isDesk}
 use Rattle.desk.specs.Inside.{seatGood, seatGoodAt, noView, takes, turnOf, agrees, agreesAt, viewOf, takenAt, rowsHold}
-use Rattle.desk.proofs.Below.{and-true, and-l, and-r, past, eq-case, all-at, all-of, all-and, all-ext, count-more}
+use Rattle.digits.proofs.Tests.{and-true, and-l, and-r}
+use Rattle.desk.proofs.Below.{past, eq-case, all-at, all-of, all-and, all-ext, count-more}
 
 -- ---- within a seat only the last may be E or Z, Z only alone: as each row is met
 

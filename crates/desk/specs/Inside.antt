@@ -6,6 +6,7 @@ use mathlib.Core.Path.{_≡_}
 use lib.ListN.{getD}
 use lib.Dec.{eqb}
 use Rattle.digits.specs.Told.{Told, gives}
+use Rattle.frames.specs.declared.reply.ReplyLabel.{ReplyLabel}
 use Rattle.desk.specs.declared.state.Seat.{Seat}
 use Rattle.desk.specs.declared.call.Call.{Call}
 use Rattle.desk.specs.declared.opening.Opening.{Opening}
@@ -29,6 +30,10 @@ use Rattle.desk.specs.Memory.{memory, cellAt, markAt}
 use Rattle.desk.specs.Calls.{openRefused, replyRefused}
 use Rattle.desk.specs.Capture.{Step}
 use Rattle.desk.specs.Desk.{isZero, named, lastEnds, markGood, cellKeyed, heldRight, endedRight}
+
+-- what the desk goes by, from a checked reply's label
+abbrev pub callBy : ReplyLabel → Call
+callBy l = record { key = record { requester = l .requester; number = l .number }; status = l .status }
 
 -- ---- the desk test as one run over the rows computes it
 

@@ -2,15 +2,16 @@
 use crate::state::SEATS;
 use crate::state::Seat;
 use frames::refusals::ReadRefusal;
-use frames::refusals::ReadVerdict;
-use frames::reply::StaticReply;
-use frames::reply::read_reply;
+use frames::reply::ReplyCheck;
+use frames::reply::ReplyLabel;
+use frames::reply::check_reply;
 ghost use mathlib.Core.Path.{_≡_};
 ghost use Prim.Native.Nat.{_<_, min};
 ghost use Rattle.desk.specs.Limits.{seatCount};
 ghost use Rattle.desk.specs.Key.{seatKey, sameKey, isKey};
-ghost use Rattle.desk.specs.Call.{heard, heardTold, callOf, ends, endedBy, inPlace};
+ghost use Rattle.desk.specs.Call.{heard, heardTold, ends, endedBy, inPlace};
 ghost use Rattle.desk.specs.Seats.{usedBit, keyed, seatWith};
+ghost use Rattle.desk.specs.Inside.{callBy};
 
 // Requester by its code.
 pub struct Key {
@@ -31,24 +32,21 @@ pub enum Heard {
 pub fn hear(frame: &[u8]) -> Heard
     ensures { λ r. ⌜ heardTold r ≡ heard (now (frame .entry)) ⌝ }
 {
-    let a = read_reply(frame);
-    let verdict = a.verdict;
-    let r = a.reply;
-    match verdict {
-        ReadVerdict::Read => Heard::Reply(call_of(r)),
-        ReadVerdict::Refused(refusal) => Heard::Refused(refusal),
+    match check_reply(frame) {
+        ReplyCheck::Good(label) => Heard::Reply(call_by(label)),
+        ReplyCheck::Refused(refusal) => Heard::Refused(refusal),
     }
 }
 
-fn call_of(r: StaticReply) -> Call
-    ensures { λ c. ⌜ c ≡ callOf r ⌝ }
+fn call_by(label: ReplyLabel) -> Call
+    ensures { λ c. ⌜ c ≡ callBy label ⌝ }
 {
     Call {
         key: Key {
-            requester: r.requester as u32,
-            number: r.number,
+            requester: label.requester as u32,
+            number: label.number,
         },
-        status: r.status,
+        status: label.status,
     }
 }
 

@@ -15,7 +15,7 @@ use Rattle.digits.proofs.Writing.{length-digits}
 
 -- ---- a number's last digit, apart
 
-abbrev andThen : Number → ℕ → Number
+abbrev pub andThen : Number → ℕ → Number
 andThen (Is v) b = cond (isDigit b) (Is (v * 10 + (b - 48))) Wrong
 andThen Wrong b = Wrong
 
@@ -23,7 +23,7 @@ andThen-cond : (t : Bool) (x : Number) (b : ℕ) → cond t (andThen x b) Wrong 
 andThen-cond true x b = refl
 andThen-cond false x b = refl
 
-last-apart : (s : List ℕ) (p w v : ℕ) → numberFrom s p (suc w) v ≡ andThen (numberFrom s p w v) (getD s (p + w) 0)
+pub last-apart : (s : List ℕ) (p w v : ℕ) → numberFrom s p (suc w) v ≡ andThen (numberFrom s p w v) (getD s (p + w) 0)
 unfolding numberFrom
 last-apart s p zero v = rw (add-zero p)
 last-apart s p (suc w) v =

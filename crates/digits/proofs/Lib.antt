@@ -1,7 +1,8 @@
+pub mod Tests
 pub mod Reading
 pub mod Writing
 pub mod Laws
+pub mod Parts
 pub mod Forms
-pub mod Lists
 pub mod Sure
 pub mod Tables

@@ -1,14 +1,14 @@
 -- One digit of a number, as the loop reads it. Assumes nothing.
 use Prim.Native.Nat.{ℕ, zero, suc, _+_, _-_, _*_, _^_, _≤_, _<_}
 use mathlib.Core.List.{List}
-use mathlib.Core.Bool.{Bool, true, false, _&&_, and-eq-true-iff}
-use mathlib.Core.Path.{_≡_, refl}
+use mathlib.Core.Bool.{Bool, true, false, cond, _&&_, and-eq-true-iff}
+use mathlib.Core.Path.{_≡_, refl, _∙_}
 use native.Mathlib.Omega.{arith}
 use native.Mathlib.Nat.{pow-suc, pow-le-pow-right, one-le-pow}
 use native.Mathlib.Numerals.{add-one, sub-one}
 use borrow.Author.Tests.{le-leb, lt-leb, leb-true}
 use lib.Dec.{leb}
-use lib.ListN.{getD}
+use lib.ListN.{length, getD, List·getD-eq-default}
 use Rattle.digits.specs.declared.Number.the-variants.{Is, Wrong}
 use Rattle.digits.specs.Digits.{numberFrom, numberAt, isDigit}
 
@@ -46,7 +46,7 @@ over-width s p w h = rw (over 1 10 w h)
 
 -- ---- a turn of the loop
 
-pub step-wrong : (s : List ℕ) (p w v : ℕ) → 0 < w → isDigit (getD s p 0) ≡ false → numberFrom s p w v ≡ Wrong
+step-wrong : (s : List ℕ) (p w v : ℕ) → 0 < w → isDigit (getD s p 0) ≡ false → numberFrom s p w v ≡ Wrong
 unfolding numberFrom
 step-wrong s p zero v h e = absurd (let z : _<_ 0 0 = h in omega arith)
 step-wrong s p (suc w) v h e = rw e
@@ -71,6 +71,21 @@ pub step-done : (s : List ℕ) (p w v : ℕ) → w ≤ 0 → numberFrom s p w v 
 unfolding numberFrom
 step-done s p zero v h = refl
 step-done s p (suc w) v h = absurd (omega arith)
+
+-- ---- digits that are not all there
+
+pub both-wrong : (t : Bool) → cond t Wrong Wrong ≡ Wrong
+both-wrong true = refl
+both-wrong false = refl
+
+too-short : (s : List ℕ) (p w v : ℕ) → 0 < w → length s < p + w → numberFrom s p w v ≡ Wrong
+unfolding numberFrom
+too-short s p zero v h k = absurd (let z : _<_ 0 0 = h in omega arith)
+too-short s p (suc zero) v h k = rw (List·getD-eq-default s 0 (let z : length s ≤ p = omega arith in z))
+too-short s p (suc (suc w)) v h k = rw (too-short s (suc p) (suc w) (v * 10 + (getD s p 0 - 48)) (omega arith) (omega arith)) (both-wrong (isDigit (getD s p 0)))
+
+pub no-room : (s : List ℕ) (p w : ℕ) → 1 ≤ w → w ≤ 10 → length s < p + w → numberAt s p w ≡ Wrong
+no-room s p w h k l = some-width s p w h k ∙ too-short s p w 0 (omega arith) l
 
 -- ---- the value so far fits, with w digits of ten to come
 

@@ -6,6 +6,7 @@ use native.Mathlib.Nat.{not-suc-le-zero}
 use native.Mathlib.Omega.{arith}
 use lib.Dec.{eqb}
 use borrow.Author.Tests.{eqb-true, eqb-false}
+use Rattle.digits.proofs.Tests.{by-test, and-l, and-r}
 
 abbrev alike : Bool → Bool → Bool
 alike true b = b
@@ -22,21 +23,9 @@ same true false e = absurd (false≢true e)
 same false true e = absurd (false≢true e)
 same false false e = refl
 
-first : (a b : Bool) → a && b ≡ true → a ≡ true
-first true b e = refl
-first false b e = absurd (false≢true e)
-
-second : (a b : Bool) → a && b ≡ true → b ≡ true
-second true b e = e
-second false b e = absurd (false≢true e)
-
-at-last {ℓ} : {A : Type ℓ} (y : Bool) → (y ≡ true → A) → (y ≡ false → A) → A
-at-last true f g = f refl
-at-last false f g = g refl
-
 pub agreed : (f g : ℕ → Bool) (n : ℕ) → agree f g n ≡ true → (k : ℕ) → k < n → f k ≡ g k
 agreed f g zero e k l = absurd (not-suc-le-zero l)
 agreed f g (suc n) e k l =
-    at-last (eqb k n)
-    (λ b. subst (λ (x : ℕ). f x ≡ g x) (sym (eqb-true k n b)) (same (f n) (g n) (first (alike (f n) (g n)) (agree f g n) e)))
-    (λ b. agreed f g n (second (alike (f n) (g n)) (agree f g n) e) k (let o = eqb-false k n b in omega (arith, l, o)))
+    by-test (eqb k n)
+    (λ b. subst (λ (x : ℕ). f x ≡ g x) (sym (eqb-true k n b)) (same (f n) (g n) (and-l (alike (f n) (g n)) (agree f g n) e)))
+    (λ b. agreed f g n (and-r (alike (f n) (g n)) (agree f g n) e) k (let o = eqb-false k n b in omega (arith, l, o)))

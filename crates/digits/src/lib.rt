@@ -4,7 +4,7 @@ ghost use Prim.Native.Nat.{_+_};
 ghost use lib.ListN.{getD, set};
 ghost use lib.Seq.{sets};
 ghost use Rattle.digits.specs.Digits.{numberAt, numberText};
-ghost use Rattle.digits.specs.Text.{oneOf, inSet};
+ghost use Rattle.digits.specs.Text.{inSet};
 
 // What stands where a number is looked for.
 pub enum Number {
@@ -29,13 +29,16 @@ pub fn number_at(s: &[u8], at: usize, width: usize) -> Number
     if 10 < width {
         return Number::Wrong;
     }
+    if s.len() < width {
+        return Number::Wrong;
+    }
+    if s.len() - width < at {
+        return Number::Wrong;
+    }
     let mut v: u64 = 0;
     let mut p = at;
     let mut left = width;
     while 0 < left {
-        if s.len() <= p {
-            return Number::Wrong;
-        }
         let b = wide(s[p]);
         if b < 48 {
             return Number::Wrong;
@@ -54,20 +57,6 @@ fn wide(b: u8) -> u64
     ensures { λ r. ⌜ r ≡ b ⌝ }
 {
     b as u64
-}
-
-// Whether a byte is one of a list's.
-pub fn one_of(list: &[u8], b: u8) -> bool
-    ensures { λ r. ⌜ r ≡ oneOf (now (list .entry)) b ⌝ }
-{
-    let mut i = 0;
-    while i < list.len() {
-        if b == list[i] {
-            return true;
-        }
-        i += 1;
-    }
-    false
 }
 
 // Whether a byte is in a set that is two numbers: bit b of low, and from 64 on bit b - 64 of high. It takes no walk along a list.

@@ -6,7 +6,11 @@ use mathlib.Core.Path.{_≡_}
 use lib.Dec.{eqb}
 use lib.ListN.{length, take, drop}
 use lib.Seq.{slice}
-use Rattle.frames.specs.Kind.{CR}
+use Rattle.digits.specs.Told.{gives}
+use Rattle.frames.specs.Kind.{Kind, CR, read}
+use Rattle.frames.specs.Request.{request}
+use Rattle.frames.specs.Reply.{reply}
+use Rattle.frames.specs.Dynamic.{dynamic}
 use Rattle.finder.specs.declared.Found.the-variants.{Whole, Cut, Nothing}
 use Rattle.finder.specs.declared.Cursor.{Cursor}
 use Rattle.finder.specs.Leads.{isLead}
@@ -94,3 +98,12 @@ CallsTellPieces = (s : List ℕ) (at : ℕ) → Run s at (piecesFrom s at)
 abbrev pub FoundWhole : Type 0
 FoundWhole = (s f rest : List ℕ) (at : ℕ) → isOpen f ≡ true → drop at s ≡ f ++ (CR ∷ []) ++ rest
     → piecesFrom s at ≡ whole at (f ++ (CR ∷ [])) ∷ piecesFrom s (at + length (f ++ (CR ∷ [])))
+
+-- ---- and so is every frame that a reader takes: it holds no lead byte and no CR inside
+
+abbrev pub FindsWhole : {R : Type 0} → Kind R → Type 0
+FindsWhole {R} k = (s f rest : List ℕ) (at : ℕ) (r : R) → read k f ≡ gives r → drop at s ≡ f ++ rest
+    → piecesFrom s at ≡ whole at f ∷ piecesFrom s (at + length f)
+
+abbrev pub TakenAreFound : Type 0
+TakenAreFound = FindsWhole request × (FindsWhole reply × FindsWhole dynamic)

@@ -1,5 +1,4 @@
 // Captured bytes cut into frames: the frame that a cursor comes to, one call after the other.
-use digits::in_set;
 use frames::dynamic::DYNAMIC_LEAD;
 use frames::reply::REPLY_LEAD;
 use frames::request::REQUEST_LEAD;
@@ -9,9 +8,6 @@ ghost use Prim.Native.Nat.{_<_};
 ghost use lib.ListN.{length, getD};
 ghost use Rattle.finder.specs.Leads.{isLead};
 ghost use Rattle.finder.specs.Pieces.{foundFrom};
-
-// The bytes that begin a frame, as a set.
-const LEADS: u64 = (1 << REQUEST_LEAD) | (1 << REPLY_LEAD) | (1 << DYNAMIC_LEAD);
 
 const CR: u8 = 13;
 
@@ -80,8 +76,9 @@ fn frame_at(s: &[u8], start: usize) -> Found
     }
 }
 
+// The bytes that begin a frame.
 fn is_lead(b: u8) -> bool
     ensures { λ r. ⌜ r ≡ isLead b ⌝ }
 {
-    in_set(LEADS, 0, b)
+    (b == REQUEST_LEAD) | (b == REPLY_LEAD) | (b == DYNAMIC_LEAD)
 }

@@ -5,7 +5,7 @@ use mathlib.Core.Bool.{Bool, true, false, cond, _||_}
 use mathlib.Core.Path.{_≡_, refl, sym, ap, _∙_}
 use native.Mathlib.Omega.{arith}
 use native.Mathlib.Nat.{zero-add}
-use borrow.Author.Tests.{eqb-true}
+use borrow.Author.Tests.{eqb-true, eq-eqb, ne-eqb}
 use lib.Dec.{eqb}
 use lib.ListN.{length, getD, drop, set, length-append}
 use lib.Seq.{sets, getD-at}
@@ -13,7 +13,7 @@ use Rattle.digits.specs.declared.Number.the-variants.{Is}
 use Rattle.digits.specs.Text.{oneOf}
 use Rattle.digits.specs.Digits.{digits, numberAt}
 use Rattle.digits.specs.Form.{Inverse, byte}
-use Rattle.digits.specs.Told.{gives, tried}
+use Rattle.digits.specs.Told.{gives, refuses, tried}
 use Rattle.digits.proofs.Writing.{sets-append, length-digits}
 use Rattle.digits.proofs.Forms.{byte-lawful}
 use Rattle.times.specs.Clock.{clock, isTime}
@@ -31,16 +31,18 @@ use Rattle.frames.specs.declared.timing.Timing.{Timing}
 use Rattle.frames.specs.declared.timing.Timing.the-variants.{Clock, Net, Raw}
 use Rattle.frames.specs.declared.reply.StaticReply.{StaticReply}
 use Rattle.frames.specs.declared.reply.ReplyRead.{ReplyRead}
+use Rattle.frames.specs.declared.reply.Head.{Head}
 use Rattle.frames.specs.Refusals.{FIELD, readRefused, verdictTold}
 use Rattle.frames.specs.Rules.{between, upTo, isRaw, isRequester}
 use Rattle.frames.specs.Layout.{Layout, field, unless, valueOf, Sound, field-sound, end-sound, firstWrong, values, recordWrong, write}
 use Rattle.frames.specs.Kind.{headTold, read, wrongIn, frameOf}
 use Rattle.frames.specs.Demand2.{Faithful}
 use Rattle.frames.specs.Timing.{timingKind, raw, isSign, netOf, spareAnd, timeAndDate, codeOf, kindOf, timingIs, timed, bytesOf, Tail, signOf, timedValues, ofTimed}
-use Rattle.frames.specs.Reply.{isStatus, isLetter, isChannel, leastRun, replyFields, tailOf, withTail, reply, Whole, zeroReply, toldBy, orZero, ReadAs}
-use Rattle.frames.specs.Inside.{held, seenOf, timingWrong, refusedBy, judgedAs, replyAt, headWrong, fieldsRead, headText, timingText, replyText}
+use Rattle.frames.specs.Reply.{isStatus, isLetter, isChannel, leastRun, replyFields, tailOf, withTail, reply, Whole, zeroReply, toldBy, orZero, ReadAs, labelOf, labelled}
+use Rattle.frames.specs.Inside.{held, timingWrong, refusedBy, judgedAs, headAt, headIn, headWrong, seenIn, replyAt, wrongAt, fieldsRead, fieldsChecked, headText, timingText, replyText}
 use Rattle.frames.proofs.RuleLaws.{up-to, in-range, none-in-range, or-cases, or-one, to-240}
 use Rattle.frames.proofs.LayoutLaws.{unless-none, values-fine, NoneRefused, none-field, none-end, byte-sound, number-sound, clock-sound}
+use Rattle.frames.proofs.RefusalLaws.{read-refuses}
 use Rattle.frames.proofs.KindLaws as K
 use Rattle.frames.proofs.KindLaws.{SoundKind, faithful, length-frame}
 use Rattle.frames.proofs.TimingLaws.{timing-wrong-is, seen-wrong-is, seen-tail-is}
@@ -150,43 +152,43 @@ none-refused =
 last-none : (t : Bool) (at rest : ℕ) → 0 < at → unless t at rest ≡ 0 → rest ≡ 0
 last-none t at rest h e = unless-none t at rest h e .1
 
-head-none : (r : StaticReply) (rest : ℕ) → headWrong r rest ≡ 0 → rest ≡ 0
+head-none : (h : Head) (rest : ℕ) → headWrong h rest ≡ 0 → rest ≡ 0
 unfolding headWrong
-head-none r rest e =
-    last-none (isLetter (r .information)) 29 rest (omega arith)
-    (last-none (isChannel (r .channel)) 26 _ (omega arith)
-    (last-none (upTo 999 (r .physical)) 23 _ (omega arith)
-    (last-none (between (leastRun (r .status)) 250 (r .run)) 20 _ (omega arith)
-    (last-none (upTo 199 (r .group)) 17 _ (omega arith)
-    (last-none (upTo 59999 (r .bib)) 12 _ (omega arith)
-    (last-none (upTo 99999 (r .number)) 7 _ (omega arith)
-    (last-none (isRequester (r .requester)) 6 _ (omega arith)
-    (last-none (isStatus (r .status)) 5 _ (omega arith)
-    (last-none (isRaw (r .mode)) 4 _ (omega arith)
-    (last-none (isRaw (r .program)) 3 _ (omega arith) e))))))))))
+head-none h rest e =
+    last-none (isLetter (h .information)) 29 rest (omega arith)
+    (last-none (isChannel (h .channel)) 26 _ (omega arith)
+    (last-none (upTo 999 (h .physical)) 23 _ (omega arith)
+    (last-none (between (leastRun (h .status)) 250 (h .run)) 20 _ (omega arith)
+    (last-none (upTo 199 (h .group)) 17 _ (omega arith)
+    (last-none (upTo 59999 (h .bib)) 12 _ (omega arith)
+    (last-none (upTo 99999 (h .number)) 7 _ (omega arith)
+    (last-none (isRequester (h .requester)) 6 _ (omega arith)
+    (last-none (isStatus (h .status)) 5 _ (omega arith)
+    (last-none (isRaw (h .mode)) 4 _ (omega arith)
+    (last-none (isRaw (h .program)) 3 _ (omega arith) e))))))))))
 
 -- the values of the parts before time and date
-abbrev headValues : StaticReply → List ℕ → List ℕ
-headValues r vs =
-    r .program ∷ r .mode ∷ r .status ∷ r .requester ∷ r .number ∷ r .bib ∷ r .group ∷ r .run ∷ r .physical ∷ r .channel ∷ r .information ∷ vs
+abbrev headValues : Head → List ℕ → List ℕ
+headValues h vs =
+    h .program ∷ h .mode ∷ h .status ∷ h .requester ∷ h .number ∷ h .bib ∷ h .group ∷ h .run ∷ h .physical ∷ h .channel ∷ h .information ∷ vs
 
-head-wrong-is : (r : StaticReply) (vs : List ℕ) → headWrong r (recordWrong (timed (timingKind (r .status) (r .information))) vs) ≡ recordWrong replyFields (headValues r vs)
+head-wrong-is : (h : Head) (vs : List ℕ) → headWrong h (recordWrong (timed (timingKind (h .status) (h .information))) vs) ≡ recordWrong replyFields (headValues h vs)
 unfolding headWrong replyFields recordWrong
-head-wrong-is r vs = refl
+head-wrong-is h vs = refl
 
 -- `reply_wrong` is the first wrong part of a record
 pub reply-wrong-is : (r : StaticReply)
-    → headWrong r (timingWrong (timingKind (r .status) (r .information)) (r .timing) (r .«raw_time») (r .«raw_date») (r .spare)) ≡ wrongIn reply r
+    → headWrong (headIn r) (timingWrong (timingKind (r .status) (r .information)) (r .timing) (r .«raw_time») (r .«raw_date») (r .spare)) ≡ wrongIn reply r
 unfolding wrongIn
 reply-wrong-is r =
     let kind = timingKind (r .status) (r .information) in
-    ap (headWrong r) (timing-wrong-is kind (r .timing) (r .«raw_time») (r .«raw_date») (r .spare)) ∙ head-wrong-is r (timedValues kind (tailOf r))
+    ap (headWrong (headIn r)) (timing-wrong-is kind (r .timing) (r .«raw_time») (r .«raw_date») (r .spare)) ∙ head-wrong-is (headIn r) (timedValues kind (tailOf r))
 
 -- ---- a record's values, and back
 
 pub tail-fine : (r : StaticReply) → wrongIn reply r ≡ 0 → recordWrong (timed (timingKind (r .status) (r .information))) (timedValues (timingKind (r .status) (r .information)) (tailOf r)) ≡ 0
 unfolding wrongIn
-tail-fine r e = let kind = timingKind (r .status) (r .information) in head-none r _ (head-wrong-is r (timedValues kind (tailOf r)) ∙ e)
+tail-fine r e = let kind = timingKind (r .status) (r .information) in head-none (headIn r) _ (head-wrong-is (headIn r) (timedValues kind (tailOf r)) ∙ e)
 
 bytes-all : (l pre : List ℕ) (n : ℕ) → length l ≡ n → bytesOf (pre ++ l) (length pre) n ≡ l
 bytes-all [] pre zero e = refl
@@ -261,7 +263,7 @@ unfolding replyFields values
 frame-values s e =
     let kind = timingKind (getD s 5 0) (getD s 29 0) in
     let r = withTail (values replyFields 3 s) (ofTimed kind (values (timed kind) 30 s)) in
-    let f = head-none r _ (head-wrong-is r (values (timed kind) 30 s) ∙ values-fine sound 3 s e) in
+    let f = head-none (headIn r) _ (head-wrong-is (headIn r) (values (timed kind) 30 s) ∙ values-fine sound 3 s e) in
     rw (tail-again kind s f)
 
 tail-whole : (kind : TimingKind) (v vs : List ℕ) → Whole (withTail v (ofTimed kind vs))
@@ -356,20 +358,15 @@ refused-as s h f a is e q =
     zero-beside Address = refl
     zero-beside (Field p) = refl
 
-seen-held : (s : List ℕ) → headWrong (replyAt s (seenOf (timingKind (getD s 5 0) (getD s 29 0)) s)) (seenOf (timingKind (getD s 5 0) (getD s 29 0)) s .wrong) ≡ recordWrong replyFields (held replyFields 3 s)
-unfolding replyAt replyFields held
+seen-held : (s : List ℕ) → wrongAt s ≡ recordWrong replyFields (held replyFields 3 s)
+unfolding replyFields held
 seen-held s =
     let kind = timingKind (getD s 5 0) (getD s 29 0) in
-    let seen = seenOf kind s in
-    ap (headWrong (replyAt s seen)) (seen-wrong-is kind s) ∙ head-wrong-is (replyAt s seen) (held (timed kind) 30 s)
+    ap (headWrong (headAt s)) (seen-wrong-is kind s) ∙ head-wrong-is (headAt s) (held (timed kind) 30 s)
 
-seen-record : (s : List ℕ) → headWrong (replyAt s (seenOf (timingKind (getD s 5 0) (getD s 29 0)) s)) (seenOf (timingKind (getD s 5 0) (getD s 29 0)) s .wrong) ≡ 0
-    → replyAt s (seenOf (timingKind (getD s 5 0) (getD s 29 0)) s) ≡ reply .ofValues (held replyFields 3 s)
-unfolding replyAt replyFields held
-seen-record s e =
-    let kind = timingKind (getD s 5 0) (getD s 29 0) in
-    let seen = seenOf kind s in
-    ap (withTail (held replyFields 3 s)) (seen-tail-is kind s (head-none (replyAt s seen) (seen .wrong) e))
+seen-record : (s : List ℕ) → wrongAt s ≡ 0 → replyAt s ≡ reply .ofValues (held replyFields 3 s)
+unfolding replyFields held
+seen-record s e = ap (withTail (held replyFields 3 s)) (seen-tail-is (timingKind (getD s 5 0) (getD s 29 0)) s (head-none (headAt s) (seenIn s .wrong) e))
 
 judged-told : (r : StaticReply) (w : ℕ) → toldBy (judgedAs r w .verdict) (judgedAs r w .reply) ≡ tried (eqb w 0) FIELD w (gives r)
 unfolding judgedAs
@@ -387,11 +384,33 @@ judged-beside r w = go (eqb w 0)
     go true = refl
     go false = refl
 
+fields-told : (s : List ℕ) (h : ReadVerdict) → h ≡ Read → verdictTold h ≡ headTold 18 51 s → tried (eqb (wrongAt s) 0) FIELD (wrongAt s) (gives (replyAt s)) ≡ read reply s
+fields-told s h is e = K.read-fields reply-sound none-refused s (wrongAt s) (replyAt s) (seen-held s) (seen-record s) h _ is e refl
+
 pub read-as : (s : List ℕ) (h : ReadVerdict) (a : ReplyRead) → h ≡ Read → verdictTold h ≡ headTold 18 51 s → a ≡ fieldsRead s → ReadAs s a
 unfolding fieldsRead
 read-as s h a is e q =
-    let seen = seenOf (timingKind (getD s 5 0) (getD s 29 0)) s in
-    let r = replyAt s seen in
-    let w = headWrong r (seen .wrong) in
-    let t : tried (eqb w 0) FIELD w (gives r) ≡ read reply s = K.read-fields reply-sound none-refused s w r (seen-held s) (seen-record s) h _ is e refl in
-    rw q (record { told = judged-told r w ∙ t; beside = judged-beside r w ∙ ap orZero t })
+    let t = fields-told s h is e in
+    rw q (record { told = judged-told (replyAt s) (wrongAt s) ∙ t; beside = judged-beside (replyAt s) (wrongAt s) ∙ ap orZero t })
+
+-- ---- the check: as reading, with the label in place of the record
+
+labelled-tried : (t : Bool) (number offset : ℕ) (r : StaticReply) → tried t number offset (gives (labelOf r)) ≡ labelled (tried t number offset (gives r))
+labelled-tried true number offset r = refl
+labelled-tried false number offset r = refl
+
+module _ (s : List ℕ) (w : ℕ) (is : w ≡ wrongAt s) where
+  pub checked-good : (h : Head) → h ≡ headAt s → w ≡ 0 → gives (record { status = h .status; requester = h .requester; number = h .number }) ≡ fieldsChecked s
+  unfolding fieldsChecked
+  checked-good h e z = rw (e, ← is, eq-eqb w 0 z)
+
+  pub checked-bad : (w ≡ 0 → ⊥) → refuses FIELD w ≡ fieldsChecked s
+  unfolding fieldsChecked
+  checked-bad z = rw (← is, ne-eqb w 0 z)
+
+pub check-as : (s : List ℕ) (h : ReadVerdict) → h ≡ Read → verdictTold h ≡ headTold 18 51 s → fieldsChecked s ≡ labelled (read reply s)
+unfolding fieldsChecked
+check-as s h is e = labelled-tried (eqb (wrongAt s) 0) FIELD (wrongAt s) (replyAt s) ∙ ap labelled (fields-told s h is e)
+
+pub check-refused : (s : List ℕ) (h : ReadVerdict) (f : ReadRefusal) → h ≡ Refused f → verdictTold h ≡ headTold 18 51 s → readRefused f ≡ labelled (read reply s)
+check-refused s h f is e = read-refuses f ∙ ap labelled (sym (read-refuses f) ∙ K.read-head reply s h f is e)

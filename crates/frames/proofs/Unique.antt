@@ -21,11 +21,14 @@ use Rattle.frames.specs.declared.dynamic.DynamicRead.{DynamicRead}
 use Rattle.frames.specs.declared.dynamic.DynamicRead.the-variants.{Request as Running, Refused as not-running}
 use Rattle.frames.specs.declared.reply.StaticReply.{StaticReply}
 use Rattle.frames.specs.declared.reply.ReplyRead.{ReplyRead}
+use Rattle.frames.specs.declared.reply.ReplyLabel.{ReplyLabel}
+use Rattle.frames.specs.declared.reply.ReplyCheck.{ReplyCheck}
+use Rattle.frames.specs.declared.reply.ReplyCheck.the-variants.{Good, Refused as rejected}
 use Rattle.frames.specs.Refusals.{RECORD, readRefused, writeTold}
 use Rattle.frames.specs.Kind.{Kind, read, Wrote}
 use Rattle.frames.specs.Request.{request, requestTold}
 use Rattle.frames.specs.Dynamic.{dynamic, dynamicTold}
-use Rattle.frames.specs.Reply.{reply, toldBy, ReadAs}
+use Rattle.frames.specs.Reply.{reply, toldBy, ReadAs, labelled, checkTold}
 use Rattle.frames.proofs.RefusalLaws.{numberOf, offsetOf, read-refuses, readBack, read-back}
 
 -- ---- what was told leads back to the refusal
@@ -70,6 +73,15 @@ same-verdict Read Read r q e = refl
 same-verdict Read (turned g) r q e = absurd (not-given StaticReply r g e)
 same-verdict (turned f) Read r q e = absurd (not-given StaticReply q f (sym e))
 same-verdict (turned f) (turned g) r q e = ap turned (same-refusal StaticReply f g e)
+
+same-check : (a b : ReplyCheck) → checkTold a ≡ checkTold b → a ≡ b
+same-check (Good k) (Good l) e = cc
+same-check (Good k) (rejected g) e = absurd (not-given ReplyLabel k g e)
+same-check (rejected f) (Good l) e = absurd (not-given ReplyLabel l f (sym e))
+same-check (rejected f) (rejected g) e = ap rejected (same-refusal ReplyLabel f g e)
+
+pub one-check : (s : List ℕ) (a b : ReplyCheck) → checkTold a ≡ labelled (read reply s) → checkTold b ≡ labelled (read reply s) → a ≡ b
+one-check s a b p q = same-check a b (p ∙ sym q)
 
 -- the verdict, and the record beside a refusal too
 pub one-reply : (s : List ℕ) (a b : ReplyRead) → ReadAs s a → ReadAs s b → a ≡ b

@@ -7,6 +7,7 @@ use lib.IntN.{ℤ}
 use lib.ListN.{getD, replicate}
 use Rattle.digits.specs.declared.Number.{Number}
 use Rattle.digits.specs.declared.Number.the-variants.{Is as number-is, Wrong as number-wrong}
+use Rattle.digits.specs.Told.{Told, gives, tried}
 use Rattle.digits.specs.Digits.{digits, numberAt}
 use Rattle.times.specs.declared.net.NetParts.{NetParts}
 use Rattle.times.specs.declared.net.NetValue.{NetValue}
@@ -19,15 +20,18 @@ use Rattle.frames.specs.declared.refusals.ReadRefusal.the-variants.{Fiel
 use Rattle.frames.specs.declared.refusals.ReadVerdict.the-variants.{Read, Refused}
 use Rattle.frames.specs.declared.reply.StaticReply.{StaticReply}
 use Rattle.frames.specs.declared.reply.ReplyRead.{ReplyRead}
+use Rattle.frames.specs.declared.reply.ReplyLabel.{ReplyLabel}
+use Rattle.frames.specs.declared.reply.Head.{Head}
 use Rattle.frames.specs.declared.timing.TimingKind.{TimingKind}
 use Rattle.frames.specs.declared.timing.TimingKind.the-variants.{Clock as clockKind, Net as netKind, Raw as rawKind}
 use Rattle.frames.specs.declared.timing.Timing.{Timing}
 use Rattle.frames.specs.declared.timing.Timing.the-variants.{Clock, Net, Raw}
 use Rattle.frames.specs.declared.timing.Seen.{Seen}
+use Rattle.frames.specs.Refusals.{FIELD}
 use Rattle.frames.specs.Rules.{between, upTo, isRaw, isRequester}
 use Rattle.frames.specs.Layout.{Layout, field, end, unless}
 use Rattle.frames.specs.Timing.{timingKind, isSign, netOf, signOf, bytesOf}
-use Rattle.frames.specs.Reply.{isStatus, isLetter, isChannel, leastRun, zeroReply}
+use Rattle.frames.specs.Reply.{isStatus, isLetter, isChannel, leastRun, zeroReply, labelOf}
 
 -- the code holds 4,294,967,295 where no number stands: a value that no rule takes
 abbrev pub orNone : Number → ℕ
@@ -149,21 +153,41 @@ refusedBy f = record { verdict = Refused f; reply = zeroReply }
 unfoldable pub judgedAs : StaticReply → ℕ → ReplyRead
 judgedAs r wrong = cond (eqb wrong 0) (record { verdict = Read; reply = r }) (refusedBy (Field (record { field = wrong })))
 
-unfoldable pub replyAt : List ℕ → Seen → StaticReply
-replyAt s seen =
-    record { program = getD s 3 0; mode = getD s 4 0; status = getD s 5 0; requester = getD s 6 0; number = orNone (numberAt s 7 5); bib = orNone (numberAt s 12 5); group = orNone (numberAt s 17 3); run = orNone (numberAt s 20 3); physical = orNone (numberAt s 23 3); channel = orNone (numberAt s 26 3); information = getD s 29 0; timing = seen .timing; «raw_time» = seen .«raw_time»; «raw_date» = seen .«raw_date»; spare = bytesOf s 48 2 }
+-- the parts before time and date, as a frame and as a record has them
+abbrev pub headAt : List ℕ → Head
+headAt s =
+    record { program = getD s 3 0; mode = getD s 4 0; status = getD s 5 0; requester = getD s 6 0; number = orNone (numberAt s 7 5); bib = orNone (numberAt s 12 5); group = orNone (numberAt s 17 3); run = orNone (numberAt s 20 3); physical = orNone (numberAt s 23 3); channel = orNone (numberAt s 26 3); information = getD s 29 0 }
 
-unfoldable pub headWrong : StaticReply → ℕ → ℕ
-headWrong r rest =
-    unless (isRaw (r .program)) 3 (unless (isRaw (r .mode)) 4 (unless (isStatus (r .status)) 5 (unless (isRequester (r .requester)) 6
-    (unless (upTo 99999 (r .number)) 7 (unless (upTo 59999 (r .bib)) 12 (unless (upTo 199 (r .group)) 17
-    (unless (between (leastRun (r .status)) 250 (r .run)) 20 (unless (upTo 999 (r .physical)) 23 (unless (isChannel (r .channel)) 26
-    (unless (isLetter (r .information)) 29 rest))))))))))
+abbrev pub headIn : StaticReply → Head
+headIn r =
+    record { program = r .program; mode = r .mode; status = r .status; requester = r .requester; number = r .number; bib = r .bib; group = r .group; run = r .run; physical = r .physical; channel = r .channel; information = r .information }
+
+abbrev pub replyOf : Head → Seen → List ℕ → StaticReply
+replyOf h seen spare =
+    record { program = h .program; mode = h .mode; status = h .status; requester = h .requester; number = h .number; bib = h .bib; group = h .group; run = h .run; physical = h .physical; channel = h .channel; information = h .information; timing = seen .timing; «raw_time» = seen .«raw_time»; «raw_date» = seen .«raw_date»; spare = spare }
+
+unfoldable pub headWrong : Head → ℕ → ℕ
+headWrong h rest =
+    unless (isRaw (h .program)) 3 (unless (isRaw (h .mode)) 4 (unless (isStatus (h .status)) 5 (unless (isRequester (h .requester)) 6
+    (unless (upTo 99999 (h .number)) 7 (unless (upTo 59999 (h .bib)) 12 (unless (upTo 199 (h .group)) 17
+    (unless (between (leastRun (h .status)) 250 (h .run)) 20 (unless (upTo 999 (h .physical)) 23 (unless (isChannel (h .channel)) 26
+    (unless (isLetter (h .information)) 29 rest))))))))))
+
+-- what a frame's fields hold, wrong or not, and the offset of what is wrong first
+abbrev pub seenIn : List ℕ → Seen
+seenIn s = seenOf (timingKind (getD s 5 0) (getD s 29 0)) s
+
+abbrev pub replyAt : List ℕ → StaticReply
+replyAt s = replyOf (headAt s) (seenIn s) (bytesOf s 48 2)
+
+abbrev pub wrongAt : List ℕ → ℕ
+wrongAt s = headWrong (headAt s) (seenIn s .wrong)
 
 unfoldable pub fieldsRead : List ℕ → ReplyRead
-fieldsRead s =
-    let seen = seenOf (timingKind (getD s 5 0) (getD s 29 0)) s in
-    judgedAs (replyAt s seen) (headWrong (replyAt s seen) (seen .wrong))
+fieldsRead s = judgedAs (replyAt s) (wrongAt s)
+
+unfoldable pub fieldsChecked : List ℕ → Told ReplyLabel
+fieldsChecked s = tried (eqb (wrongAt s) 0) FIELD (wrongAt s) (gives (labelOf (replyAt s)))
 
 abbrev pub headText : StaticReply → List ℕ
 headText r =

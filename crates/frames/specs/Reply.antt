@@ -14,6 +14,9 @@ use Rattle.frames.specs.declared.timing.TimingKind.{TimingKind}
 use Rattle.frames.specs.declared.timing.Timing.the-variants.{Raw}
 use Rattle.frames.specs.declared.reply.StaticReply.{StaticReply}
 use Rattle.frames.specs.declared.reply.ReplyRead.{ReplyRead}
+use Rattle.frames.specs.declared.reply.ReplyLabel.{ReplyLabel}
+use Rattle.frames.specs.declared.reply.ReplyCheck.{ReplyCheck}
+use Rattle.frames.specs.declared.reply.ReplyCheck.the-variants.{Good, Refused as Rejected}
 use Rattle.frames.specs.Refusals.{readRefused}
 use Rattle.frames.specs.Rules.{between, upTo, isRaw, isRequester}
 use Rattle.frames.specs.Layout.{Layout, field}
@@ -106,3 +109,16 @@ orZero (refuses number offset) = zeroReply
 pub record ReadAs (s : List ℕ) (a : ReplyRead) : Type 0 where
   pub told : toldBy (a .verdict) (a .reply) ≡ read reply s
   pub beside : a .reply ≡ orZero (read reply s)
+
+-- ---- what the check answers: as the reader, and of a good reply only where it belongs
+
+abbrev pub labelOf : StaticReply → ReplyLabel
+labelOf r = record { status = r .status; requester = r .requester; number = r .number }
+
+abbrev pub labelled : Told StaticReply → Told ReplyLabel
+labelled (gives r) = gives (labelOf r)
+labelled (refuses number offset) = refuses number offset
+
+abbrev pub checkTold : ReplyCheck → Told ReplyLabel
+checkTold (Good l) = gives l
+checkTold (Rejected f) = readRefused f

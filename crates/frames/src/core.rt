@@ -6,7 +6,6 @@ use crate::refusals::WriteRefusal;
 use digits::Number;
 use digits::byte_at;
 use digits::number_at;
-use digits::one_of;
 use digits::put_byte;
 use times::clock::clock_at;
 ghost use mathlib.Core.Path.{_≡_};
@@ -87,7 +86,7 @@ pub fn is_requester(b: u8) -> bool
 pub fn is_output(b: u8) -> bool
     ensures { λ r. ⌜ r ≡ R.isOutput b ⌝ }
 {
-    one_of(b"SABT", b)
+    (b == b'S') | (b == b'A') | (b == b'B') | (b == b'T')
 }
 
 // RECORD, then ROOM.

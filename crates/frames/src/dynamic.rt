@@ -13,7 +13,6 @@ use crate::refusals::ReadRefusal;
 use crate::refusals::ReadVerdict;
 use crate::refusals::WriteAnswer;
 use digits::byte_at;
-use digits::one_of;
 use digits::put_byte;
 use digits::put_number;
 use times::clock::put_clock;
@@ -129,7 +128,7 @@ fn dynamic_wrong(r: DynamicRequest) -> u8
 fn is_order(b: u8) -> bool
     ensures { λ r. ⌜ r ≡ isOrder b ⌝ }
 {
-    one_of(b"ABabTt", b)
+    (b == b'A') | (b == b'B') | (b == b'a') | (b == b'b') | (b == b'T') | (b == b't')
 }
 
 fn is_channel(v: u32) -> bool
@@ -141,7 +140,11 @@ fn is_channel(v: u32) -> bool
 fn least_period(order: u8) -> u32
     ensures { λ r. ⌜ r ≡ leastPeriod order ⌝ }
 {
-    if one_of(b"AB", order) { 1 } else { 0 }
+    if (order == b'A') | (order == b'B') {
+        1
+    } else {
+        0
+    }
 }
 
 fn put_dynamic(r: DynamicRequest, out: &mut [u8])

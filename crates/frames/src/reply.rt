@@ -19,17 +19,17 @@ use crate::timing::put_timing;
 use crate::timing::seen_at;
 use crate::timing::spare_at;
 use crate::timing::timing_wrong;
+use crate::timing::timing_wrong_at;
 use digits::byte_at;
 use digits::in_set;
-use digits::one_of;
 use digits::put_byte;
 use digits::put_number;
 ghost use mathlib.Core.Path.{_≡_};
 ghost use lib.Seq.{sets};
 ghost use lib.ListN.{replicate};
-ghost use Rattle.frames.specs.Kind.{wrongIn, Wrote};
+ghost use Rattle.frames.specs.Kind.{read, wrongIn, Wrote};
 ghost use Rattle.frames.specs.Inside as I;
-ghost use Rattle.frames.specs.Reply.{isStatus, isLetter, isChannel, leastRun, reply, zeroReply, ReadAs};
+ghost use Rattle.frames.specs.Reply.{isStatus, isLetter, isChannel, leastRun, reply, zeroReply, ReadAs, checkTold, labelled};
 
 pub const REPLY_LEAD: u8 = 18;
 
@@ -65,6 +65,18 @@ pub struct ReplyRead {
     pub reply: StaticReply,
 }
 
+// What a good reply says of where it belongs.
+pub struct ReplyLabel {
+    pub status: u8,
+    pub requester: u8,
+    pub number: u32,
+}
+
+pub enum ReplyCheck {
+    Good(ReplyLabel),
+    Refused(ReadRefusal),
+}
+
 // The frame is all zero where the record was refused.
 pub struct ReplyFrame {
     pub answer: WriteAnswer,
@@ -77,6 +89,16 @@ pub fn read_reply(s: &[u8]) -> ReplyRead
     match head_of(s, REPLY_LEAD, REPLY_SIZE) {
         ReadVerdict::Read => fields_read(s),
         ReadVerdict::Refused(refusal) => refused(refusal),
+    }
+}
+
+// As read_reply, for a caller who needs no more than where a reply belongs: no record is made.
+pub fn check_reply(s: &[u8]) -> ReplyCheck
+    ensures { λ r. ⌜ checkTold r ≡ labelled (read reply (now (s .entry))) ⌝ }
+{
+    match head_of(s, REPLY_LEAD, REPLY_SIZE) {
+        ReadVerdict::Read => fields_checked(s),
+        ReadVerdict::Refused(refusal) => ReplyCheck::Refused(refusal),
     }
 }
 
@@ -142,10 +164,26 @@ fn zero_reply() -> StaticReply
 fn fields_read(s: &[u8]) -> ReplyRead
     ensures { λ r. ⌜ r ≡ I.fieldsRead (now (s .entry)) ⌝ }
 {
-    let seen = seen_at(s, kind_of(byte_at(s, 5), byte_at(s, 29)));
-    let wrong = seen.wrong;
-    let r = reply_at(s, seen);
-    judged(r, head_wrong(r, wrong))
+    let h = head_at(s);
+    let seen = seen_at(s, kind_of(h.status, h.information));
+    let wrong = head_wrong(h, seen.wrong);
+    judged(reply_of(h, seen, spare_at(s)), wrong)
+}
+
+fn fields_checked(s: &[u8]) -> ReplyCheck
+    ensures { λ r. ⌜ checkTold r ≡ I.fieldsChecked (now (s .entry)) ⌝ }
+{
+    let h = head_at(s);
+    let kind = kind_of(h.status, h.information);
+    let wrong = head_wrong(h, timing_wrong_at(s, kind));
+    if wrong == 0 {
+        return ReplyCheck::Good(ReplyLabel {
+            status: h.status,
+            requester: h.requester,
+            number: h.number,
+        });
+    }
+    ReplyCheck::Refused(ReadRefusal::Field(Place { field: wrong }))
 }
 
 fn judged(r: StaticReply, wrong: u8) -> ReplyRead
@@ -160,14 +198,26 @@ fn judged(r: StaticReply, wrong: u8) -> ReplyRead
     refused(ReadRefusal::Field(Place { field: wrong }))
 }
 
-// The values of the fields, wrong or not.
-fn reply_at(s: &[u8], seen: Seen) -> StaticReply
-    ensures { λ r. ⌜ r ≡ I.replyAt (now (s .entry)) seen ⌝ }
+// The parts before time and date.
+struct Head {
+    program: u8,
+    mode: u8,
+    status: u8,
+    requester: u8,
+    number: u32,
+    bib: u32,
+    group: u32,
+    run: u32,
+    physical: u32,
+    channel: u32,
+    information: u8,
+}
+
+// Their values in a frame, wrong or not.
+fn head_at(s: &[u8]) -> Head
+    ensures { λ r. ⌜ r ≡ I.headAt (now (s .entry)) ⌝ }
 {
-    let timing = seen.timing;
-    let raw_time = seen.raw_time;
-    let raw_date = seen.raw_date;
-    StaticReply {
+    Head {
         program: byte_at(s, 3),
         mode: byte_at(s, 4),
         status: byte_at(s, 5),
@@ -179,10 +229,50 @@ fn reply_at(s: &[u8], seen: Seen) -> StaticReply
         physical: number_or_none(s, 23, 3),
         channel: number_or_none(s, 26, 3),
         information: byte_at(s, 29),
+    }
+}
+
+// Their values in a record.
+fn head_in(r: StaticReply) -> Head
+    ensures { λ h. ⌜ h ≡ I.headIn r ⌝ }
+{
+    Head {
+        program: r.program,
+        mode: r.mode,
+        status: r.status,
+        requester: r.requester,
+        number: r.number,
+        bib: r.bib,
+        group: r.group,
+        run: r.run,
+        physical: r.physical,
+        channel: r.channel,
+        information: r.information,
+    }
+}
+
+fn reply_of(h: Head, seen: Seen, spare: [u8; 2]) -> StaticReply
+    ensures { λ r. ⌜ r ≡ I.replyOf h seen spare ⌝ }
+{
+    let timing = seen.timing;
+    let raw_time = seen.raw_time;
+    let raw_date = seen.raw_date;
+    StaticReply {
+        program: h.program,
+        mode: h.mode,
+        status: h.status,
+        requester: h.requester,
+        number: h.number,
+        bib: h.bib,
+        group: h.group,
+        run: h.run,
+        physical: h.physical,
+        channel: h.channel,
+        information: h.information,
         timing,
         raw_time,
         raw_date,
-        spare: spare_at(s),
+        spare,
     }
 }
 
@@ -195,30 +285,33 @@ fn reply_wrong(r: StaticReply) -> u8
     let raw_time = r.raw_time;
     let raw_date = r.raw_date;
     let spare = r.spare;
-    head_wrong(r, timing_wrong(kind, timing, raw_time, raw_date, spare))
+    head_wrong(
+        head_in(r),
+        timing_wrong(kind, timing, raw_time, raw_date, spare),
+    )
 }
 
 // The parts before time and date, and then the rest.
-fn head_wrong(r: StaticReply, rest: u8) -> u8
-    ensures { λ w. ⌜ w ≡ I.headWrong r rest ⌝ }
+fn head_wrong(h: Head, rest: u8) -> u8
+    ensures { λ w. ⌜ w ≡ I.headWrong h rest ⌝ }
 {
-    let wrong = unless(is_letter(r.information), 29, rest);
-    let wrong = unless(is_channel(r.channel), 26, wrong);
-    let wrong = unless(r.physical <= 999, 23, wrong);
-    let wrong = unless(within(least_run(r.status), 250, r.run), 20, wrong);
-    let wrong = unless(r.group <= 199, 17, wrong);
-    let wrong = unless(r.bib <= 59999, 12, wrong);
-    let wrong = unless(r.number <= 99999, 7, wrong);
-    let wrong = unless(is_requester(r.requester), 6, wrong);
-    let wrong = unless(is_status(r.status), 5, wrong);
-    let wrong = unless(is_raw(r.mode), 4, wrong);
-    unless(is_raw(r.program), 3, wrong)
+    let wrong = unless(is_letter(h.information), 29, rest);
+    let wrong = unless(is_channel(h.channel), 26, wrong);
+    let wrong = unless(h.physical <= 999, 23, wrong);
+    let wrong = unless(within(least_run(h.status), 250, h.run), 20, wrong);
+    let wrong = unless(h.group <= 199, 17, wrong);
+    let wrong = unless(h.bib <= 59999, 12, wrong);
+    let wrong = unless(h.number <= 99999, 7, wrong);
+    let wrong = unless(is_requester(h.requester), 6, wrong);
+    let wrong = unless(is_status(h.status), 5, wrong);
+    let wrong = unless(is_raw(h.mode), 4, wrong);
+    unless(is_raw(h.program), 3, wrong)
 }
 
 fn is_status(b: u8) -> bool
     ensures { λ r. ⌜ r ≡ isStatus b ⌝ }
 {
-    one_of(b"REZ", b)
+    (b == b'R') | (b == b'E') | (b == b'Z')
 }
 
 fn is_letter(b: u8) -> bool

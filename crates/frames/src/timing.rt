@@ -3,7 +3,6 @@ use crate::core::clock_or_none;
 use crate::core::number_or_none;
 use crate::core::unless;
 use digits::byte_at;
-use digits::one_of;
 use digits::put_byte;
 use digits::put_number;
 use times::clock::put_clock;
@@ -16,6 +15,7 @@ use times::net::net_value;
 ghost use mathlib.Core.Path.{_≡_};
 ghost use Prim.Native.Nat.{_+_, _<_};
 ghost use lib.Seq.{sets};
+ghost use Rattle.digits.specs.Text.{oneOf, codes};
 ghost use Rattle.frames.specs.Rules.{isRaw};
 ghost use Rattle.frames.specs.Timing as T;
 ghost use Rattle.frames.specs.Inside as I;
@@ -44,13 +44,25 @@ pub(crate) fn kind_of(status: u8, letter: u8) -> TimingKind
     if status == 90 {
         return TimingKind::Raw;
     }
-    if one_of(b"0KSsa", letter) {
+    if of_clock(letter) {
         return TimingKind::Clock;
     }
-    if one_of(b"123", letter) {
+    if of_net(letter) {
         return TimingKind::Net;
     }
     TimingKind::Raw
+}
+
+fn of_clock(letter: u8) -> bool
+    ensures { λ r. ⌜ r ≡ oneOf (codes "0KSsa") letter ⌝ }
+{
+    (letter == b'0') | (letter == b'K') | (letter == b'S') | (letter == b's') | (letter == b'a')
+}
+
+fn of_net(letter: u8) -> bool
+    ensures { λ r. ⌜ r ≡ oneOf (codes "123") letter ⌝ }
+{
+    (letter == b'1') | (letter == b'2') | (letter == b'3')
 }
 
 pub(crate) fn is_raw(b: u8) -> bool
@@ -118,7 +130,7 @@ pub(crate) fn net_wrong(time: u32, sign: u8, days: u64, rest: u8) -> u8
         time,
     };
     let wrong = unless(is_net(parts), 40, rest);
-    let wrong = unless(one_of(b"+-", sign), 40, wrong);
+    let wrong = unless((sign == b'+') | (sign == b'-'), 40, wrong);
     unless(time <= 863_999_999, 30, wrong)
 }
 
@@ -221,6 +233,29 @@ pub(crate) fn seen_at(s: &[u8], kind: TimingKind) -> Seen
         TimingKind::Clock => seen_clock(s),
         TimingKind::Net => seen_net(s),
         TimingKind::Raw => seen_raw(s),
+    }
+}
+
+// The wrong offset alone, with nothing kept of what time and date hold.
+pub(crate) fn timing_wrong_at(s: &[u8], kind: TimingKind) -> u8
+    ensures { λ r. ⌜ r ≡ I.seenOf kind (now (s .entry)) .wrong ⌝ }
+{
+    let rest = spare_wrong(spare_at(s), 0);
+    match kind {
+        TimingKind::Clock => clock_wrong(
+            clock_or_none(s, 30),
+            number_or_none(s, 40, 2),
+            number_or_none(s, 42, 2),
+            number_or_none(s, 44, 4),
+            rest,
+        ),
+        TimingKind::Net => net_wrong(
+            clock_or_none(s, 30),
+            byte_at(s, 40),
+            number_or_none(s, 41, 7) as u64,
+            rest,
+        ),
+        TimingKind::Raw => raw_wrong(raw_time_at(s), raw_date_at(s), rest),
     }
 }
 

@@ -20,7 +20,7 @@ use Rattle.host.specs.declared.lent.Out.{Out}
 use Rattle.host.specs.declared.lent.Captured.{Captured}
 use Rattle.host.specs.Lent.{deskAnswer, captureAnswer, LentCall, ResetLent, OpenLent, ReplyLent, CaptureLent}
 use Rattle.host.specs.Inside.{outOf, CoreReset, CoreOpen, CoreReply, CoreCapture}
-use Rattle.host.proofs.Rows.{by-test}
+use Rattle.digits.proofs.Tests.{by-test}
 
 abbrev pub refusal-reset : Desk → DeskAnswer
 refusal-reset d = deskAnswer d (refuses DESK 0)

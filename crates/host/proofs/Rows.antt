@@ -83,11 +83,6 @@ before-wf n = InvImage·wf (λ (t : Turn n). n - t .i) (Nat·lt-wfRel .wf)
 pub next-before : (n i : ℕ) (l : i ≤ n) (h : i < n) → before n (record { i = suc i; le = h }) (record { i = i; le = l })
 next-before n i l h = omega arith
 
--- a test, by how it comes out
-pub by-test {ℓ} : {P : Type ℓ} (y : Bool) → (y ≡ true → P) → (y ≡ false → P) → P
-by-test true f g = f refl
-by-test false f g = g refl
-
 -- `if !y` was not taken, and was taken
 pub is-true : (y : Bool) → T (not (not y)) → y ≡ true
 is-true true t = refl

@@ -1,6 +1,6 @@
 -- The timing of a reply, in numbers and back. Assumes nothing.
 use mathlib.Core.Path.{_≡_, refl, sym, ap}
-use mathlib.Core.Bool.{Bool, true, false, false≢true, _&&_}
+use mathlib.Core.Bool.{Bool, true, false, false≢true, _&&_, and-eq-true-iff}
 use mathlib.Core.List.{List}
 use Prim.Native.Nat.{ℕ}
 use native.Mathlib.Omega.{arith}
@@ -16,7 +16,7 @@ use Rattle.frames.proofs.ReplyLaws.{tail-fine}
 use Rattle.frames.specs.declared.timing.Timing.the-variants.{Clock, Net, Raw}
 use Rattle.host.specs.declared.reply.TimingNumbers.{TimingNumbers}
 use Rattle.host.specs.Reply.{isNothing, noDate, noTime, numbersOf, timingOf, recordOf, RecordsMatch}
-use Rattle.host.proofs.Rows.{by-test}
+use Rattle.digits.proofs.Tests.{by-test}
 
 -- ---- the tests of the code, one after the other
 
@@ -62,34 +62,30 @@ no-time-wrong netKind a b c e = omega (arith, e)
 no-time-wrong rawKind a b c e = omega (arith, e)
 
 -- what tests that are all true say
-two : (a b : Bool) → a && b ≡ true → (a ≡ true) × (b ≡ true)
-two true b e = (refl, e)
-two false b e = absurd (false≢true e)
-
 no-part : (a b c d : ℕ) → eqb a 0 && eqb b 0 && eqb c 0 && eqb d 0 ≡ true → (a ≡ 0) × ((b ≡ 0) × ((c ≡ 0) × (d ≡ 0)))
 no-part a b c d e =
-    let x = two (eqb a 0 && eqb b 0 && eqb c 0) (eqb d 0) e in
-    let y = two (eqb a 0 && eqb b 0) (eqb c 0) (x .0) in
-    let z = two (eqb a 0) (eqb b 0) (y .0) in
+    let x = and-eq-true-iff (eqb a 0 && eqb b 0 && eqb c 0) (eqb d 0) .0 e in
+    let y = and-eq-true-iff (eqb a 0 && eqb b 0) (eqb c 0) .0 (x .0) in
+    let z = and-eq-true-iff (eqb a 0) (eqb b 0) .0 (y .0) in
     (eqb-true a 0 (z .0), (eqb-true b 0 (z .1), (eqb-true c 0 (y .1), eqb-true d 0 (x .1))))
 
 -- the numbers of each kind, from the tests that they passed
 module _ (n : TimingNumbers) where
   clock-back : eqb (n .kind) 0 && isNothing (n .net) ≡ true → numbersOf (Clock (n .ticks) (n .day) (n .month) (n .year)) ≡ n
   clock-back e =
-      let x = two (eqb (n .kind) 0) (isNothing (n .net)) e in
+      let x = and-eq-true-iff (eqb (n .kind) 0) (isNothing (n .net)) .0 e in
       λ i. record { kind = sym (eqb-true (n .kind) 0 (x .0)) i; ticks = n .ticks; day = n .day; month = n .month; year = n .year; net = sym (is-zero (n .net) (x .1)) i }
 
   net-back : eqb (n .kind) 1 && noDate n ≡ true → numbersOf (Net (n .net)) ≡ n
   net-back e =
-      let x = two (eqb (n .kind) 1) (noDate n) e in
+      let x = and-eq-true-iff (eqb (n .kind) 1) (noDate n) .0 e in
       let d = no-part (n .ticks) (n .day) (n .month) (n .year) (x .1) in
       λ i. record { kind = sym (eqb-true (n .kind) 1 (x .0)) i; ticks = sym (d .0) i; day = sym (d .1 .0) i; month = sym (d .1 .1 .0) i; year = sym (d .1 .1 .1) i; net = n .net }
 
   raw-back : eqb (n .kind) 2 && isNothing (n .net) && noDate n ≡ true → numbersOf Raw ≡ n
   raw-back e =
-      let x = two (eqb (n .kind) 2 && isNothing (n .net)) (noDate n) e in
-      let y = two (eqb (n .kind) 2) (isNothing (n .net)) (x .0) in
+      let x = and-eq-true-iff (eqb (n .kind) 2 && isNothing (n .net)) (noDate n) .0 e in
+      let y = and-eq-true-iff (eqb (n .kind) 2) (isNothing (n .net)) .0 (x .0) in
       let d = no-part (n .ticks) (n .day) (n .month) (n .year) (x .1) in
       λ i. record { kind = sym (eqb-true (n .kind) 2 (y .0)) i; ticks = sym (d .0) i; day = sym (d .1 .0) i; month = sym (d .1 .1 .0) i; year = sym (d .1 .1 .1) i; net = sym (is-zero (n .net) (y .1)) i }
 

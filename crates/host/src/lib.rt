@@ -4,7 +4,7 @@ pub mod found;
 pub mod held;
 pub mod lent;
 pub mod listed;
-pub mod refusal;
+mod refusal;
 pub mod reply;
 pub mod request;
 pub mod running;

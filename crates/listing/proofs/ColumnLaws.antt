@@ -6,12 +6,13 @@ use mathlib.Core.Path.{_≡_, refl, sym, ap, _∙_}
 use native.Mathlib.Omega.{arith}
 use native.Mathlib.Numerals.{add-one}
 use lib.ListN.{length, getD, take, drop, set, length-append, length-drop, length-take, List·getD-map}
-use lib.Seq.{slice, take-suc, take-all}
+use lib.Seq.{slice, take-suc, take-all, length-take-le}
 use lib.Dec.{ltb, leb}
 use borrow.Author.Tests.{ltb-true, leb-true}
 use Rattle.finder.proofs.Step.{part-is}
 use Rattle.desk.specs.Below.{allBelow}
-use Rattle.desk.proofs.Below.{and-l, and-r, all-at}
+use Rattle.digits.proofs.Tests.{and-l, and-r}
+use Rattle.desk.proofs.Below.{all-at}
 use Rattle.listing.specs.Text.{TAB, LF, width, decimal, rowText, Column, columns, shown, HeadingNamesColumns}
 use Rattle.listing.specs.Inside.{Put}
 use Rattle.listing.proofs.PutLaws.{put-one, put-then, decimal-length}
@@ -138,4 +139,33 @@ row-short s f =
     let b = length-append (decimal s) (shown f columns) in
     let d = decimal-length s in
     let c = columns-short f in
+    omega (arith, a, b, d, c)
+
+-- ---- a row of a whole frame
+
+abbrev within : List Column → Bool
+within [] = true
+within (c ∷ cs) = leb (c .to) 51 && within cs
+
+shown-whole : (f : List ℕ) (cs : List Column) → length f ≡ 51 → within cs ≡ true → length (shown f cs) ≡ wide cs
+shown-whole f [] l w = refl
+shown-whole f (c ∷ cs) l w =
+    let h = shown-whole f cs l (and-r (leb (c .to) 51) (within cs) w) in
+    let k = leb-true (c .to) 51 (and-l (leb (c .to) 51) (within cs) w) in
+    let e = length-append (slice (c .from) (c .to) f) (shown f cs) in
+    let a = length-drop (c .from) (take (c .to) f) in
+    let b = length-take-le (c .to) f (omega (arith, k, l)) in
+    omega (arith, h, e, a, b)
+
+columns-whole : (f : List ℕ) → length f ≡ 51 → length (shown f columns) ≡ 52
+unfolding columns
+columns-whole f l = shown-whole f columns l refl
+
+pub row-whole : (s : ℕ) (f : List ℕ) → length f ≡ 51 → length (rowText s f) ≡ width s + 53
+unfolding rowText
+row-whole s f l =
+    let a = length-append (decimal s ++ shown f columns) (LF ∷ []) in
+    let b = length-append (decimal s) (shown f columns) in
+    let d = decimal-length s in
+    let c = columns-whole f l in
     omega (arith, a, b, d, c)

@@ -1,17 +1,17 @@
 -- Laws of texts put one after the other. Assumes nothing.
-use Prim.Native.Nat.{ℕ, _+_, _<_, _≤_}
+use Prim.Native.Nat.{ℕ, suc, _+_, _<_, _≤_}
 use mathlib.Core.List.{List, [], _∷_, _++_}
 use mathlib.Core.Bool.{true}
 use mathlib.Core.Path.{_≡_, refl, sym, ap, ap₂, _∙_}
 use native.Mathlib.Omega.{arith}
 use native.Mathlib.Numerals.{add-one}
 use lib.ListN.{length, getD, take, set, length-append}
-use lib.Seq.{sets, take-suc, take-all, length-take-le}
+use lib.Seq.{sets, set-out, take-suc, take-all, length-take-le}
 use lib.Dec.{ltb}
 use borrow.Author.Tests.{le-leb}
 use Rattle.digits.specs.Digits.{isWidth, numberText}
 use Rattle.digits.proofs.Writing.{sets-append, length-digits}
-use Rattle.desk.proofs.Below.{by-test, and-true}
+use Rattle.digits.proofs.Tests.{by-test, and-true}
 use Rattle.listing.specs.Text.{width, decimal, countText}
 use Rattle.listing.specs.Inside.{Put}
 
@@ -28,6 +28,15 @@ put-then out at a p mid b q out′ x y = record {
   next = let l = length-append a b in omega (arith, x .next, y .next);
   bytes = y .bytes ∙ ap₂ (λ (l : List ℕ) (i : ℕ). sets l i b) (x .bytes) (x .next) ∙ sym (sets-append out at a b);
 }
+
+-- ---- a place past the end
+
+sets-beyond : (l : List ℕ) (i : ℕ) (text : List ℕ) → length l ≤ i → sets l i text ≡ l
+sets-beyond l i [] h = refl
+sets-beyond l i (b ∷ text) h = rw (set-out l i b h) (sets-beyond l (suc i) text (omega arith))
+
+pub put-beyond : (out : List ℕ) (at : ℕ) (text : List ℕ) (end : ℕ) → length out ≤ at → end ≡ at + length text → Put out at text end out
+put-beyond out at text end h e = record { next = e; bytes = sym (sets-beyond out at text h) }
 
 -- ---- a text, byte by byte
 

@@ -16,7 +16,8 @@ use Rattle.desk.specs.declared.capture.Counts.{Counts}
 use Rattle.desk.specs.Limits.{seatCount}
 use Rattle.desk.specs.Below.{countBelow}
 use Rattle.desk.specs.Memory.{markAt, cellAt, recordsOf}
-use Rattle.desk.proofs.Below.{by-test, count-most}
+use Rattle.digits.proofs.Tests.{by-test}
+use Rattle.desk.proofs.Below.{count-most}
 use Rattle.desk.proofs.CaptureLaws.{counts-add-up}
 use Rattle.listing.specs.Text.{width, decimal, rowText, rowsText, countText, heading, endText, LF}
 use Rattle.listing.specs.Listing.{store, after, counts, short, seatsText, listText, listOf}

@@ -14,6 +14,9 @@ const FROM: [usize; 11] = [6, 9, 12, 17, 20, 23, 26, 29, 30, 40, 5];
 
 const TO: [usize; 11] = [7, 12, 17, 20, 23, 26, 29, 30, 40, 48, 6];
 
+// The bytes of a row that stand after the seat: columns, each with its tab, and the end of the line.
+const AFTER_SEAT: usize = 53;
+
 pub fn put_text(out: &mut [u8], at: usize, text: &[u8]) -> usize
     requires { ⌜ at + length (now text) < 4294967296 ⌝ }
     ensures { λ r. ⌜ Put (now (out .entry)) at (now (text .entry)) r (now (out .exit)) ⌝ }
@@ -30,6 +33,9 @@ pub fn put_row(out: &mut [u8], at: usize, seat: usize, frame: &[u8]) -> usize
     requires { ⌜ (length (now frame) ≡ 51) × (at < 1000000) ⌝ }
     ensures { λ r. ⌜ Put (now (out .entry)) at (rowText seat (now (frame .entry))) r (now (out .exit)) ⌝ }
 {
+    if out.len() <= at {
+        return at + width_of(seat) + AFTER_SEAT;
+    }
     let p = put_decimal(out, at, seat);
     let q = put_columns(out, p, frame);
     put_byte(out, q, 10);

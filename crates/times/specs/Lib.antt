@@ -2,3 +2,4 @@ pub mod Clock
 pub mod Day
 pub mod Net
 pub mod Running
+pub mod Inside

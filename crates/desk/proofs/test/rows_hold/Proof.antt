@@ -13,7 +13,8 @@ use Rattle.desk.specs.Inside.{turnOf, rowGood, rowsHold, noView}
 use Rattle.desk.specs.Limits.{seatCount}
 use Rattle.desk.specs.Memory.{markAt, cellAt}
 use Rattle.desk.specs.Seats.{seatAt}
-use Rattle.desk.proofs.Below.{all-more, all-fails, all-to, not-came, not-left, and-true, past, out, count-most, and-false-r}
+use Rattle.digits.proofs.Tests.{and-true}
+use Rattle.desk.proofs.Below.{all-more, all-fails, all-to, not-came, not-left, past, out, count-most, and-false-r}
 use Rattle.desk.proofs.TestLaws.{part-cell, Tracks, tracks-none, tracks-next, turn-good, mark-seat, all-agree}
 use Rattle.desk.proofs.test.rows_hold.Statement.{statement}
 use Rattle.desk.proofs.test.rows_hold.Tie as tie

@@ -46,7 +46,8 @@ use denote.Signature.{plain}
 use Rattle.desk.specs.declared.state.Seat.{Seat}
 use Rattle.desk.proofs.state.Seat as T
 use Rattle.desk.proofs.state.Seat.Laws as T′
-use Rattle.host.proofs.Rows.{mixed, mixed-length, mixed-next, mixed-all, mixed-none, head-of, Turn, before, before-wf, next-before, by-test, tail, local-apart, local-whole}
+use Rattle.digits.proofs.Tests.{by-test}
+use Rattle.host.proofs.Rows.{mixed, mixed-length, mixed-next, mixed-all, mixed-none, head-of, Turn, before, before-wf, next-before, tail, local-apart, local-whole}
 use Rattle.host.proofs.lent.store.Key.{name as #host·store}
 use Rattle.host.proofs.lent.store as store′
 use Rattle.host.proofs.lent.store.Statement as stated

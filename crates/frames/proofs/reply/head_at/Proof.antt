@@ -1,8 +1,7 @@
--- `frames::reply::reply_at` meets its contract. Assumes nothing.
+-- `frames::reply::head_at` meets its contract. Assumes nothing.
 use borrow.Author.Needs.{needs}
-use Rattle.frames.proofs.reply.reply_at.Statement.{statement}
-use Rattle.frames.proofs.reply.reply_at.Tie as tie
-use Rattle.frames.specs.Inside.{replyAt}
+use Rattle.frames.proofs.reply.head_at.Statement.{statement}
+use Rattle.frames.proofs.reply.head_at.Tie as tie
 
 byte-at-requires : tie.Need-byte-at-requires
 byte-at-requires c κs = search needs
@@ -37,29 +36,24 @@ number-or-none-requires-6 c κs = search needs
 byte-at-requires-5 : tie.Need-byte-at-requires-5
 byte-at-requires-5 c κs = search needs
 
-spare-at-requires : tie.Need-spare-at-requires
-spare-at-requires c κs = search needs
-
 returns : tie.Need-returns
-unfolding replyAt
 returns c =
     rw (
-      c .spare-at .ensures,
-      c .before .byte-at5 .ensures,
-      c .before .before .number-or-none6 .ensures,
-      c .before .before .before .number-or-none5 .ensures,
-      c .before .before .before .before .number-or-none4 .ensures,
-      c .before .before .before .before .before .number-or-none3 .ensures,
-      c .before .before .before .before .before .before .number-or-none2 .ensures,
-      c .before .before .before .before .before .before .before .number-or-none .ensures,
-      c .before .before .before .before .before .before .before .before .byte-at4 .ensures,
-      c .before .before .before .before .before .before .before .before .before .byte-at3 .ensures,
-      c .before .before .before .before .before .before .before .before .before .before .byte-at2 .ensures,
-      c .before .before .before .before .before .before .before .before .before .before .before .byte-at .ensures,
+      c .byte-at5 .ensures,
+      c .before .number-or-none6 .ensures,
+      c .before .before .number-or-none5 .ensures,
+      c .before .before .before .number-or-none4 .ensures,
+      c .before .before .before .before .number-or-none3 .ensures,
+      c .before .before .before .before .before .number-or-none2 .ensures,
+      c .before .before .before .before .before .before .number-or-none .ensures,
+      c .before .before .before .before .before .before .before .byte-at4 .ensures,
+      c .before .before .before .before .before .before .before .before .byte-at3 .ensures,
+      c .before .before .before .before .before .before .before .before .before .byte-at2 .ensures,
+      c .before .before .before .before .before .before .before .before .before .before .byte-at .ensures,
     )
 
-pub reply-at-spec : {M : Type 1} → statement M
-reply-at-spec =
+pub head-at-spec : {M : Type 1} → statement M
+head-at-spec =
     tie.close
     (tie.spec
     byte-at-requires
@@ -73,5 +67,4 @@ reply-at-spec =
     number-or-none-requires-5
     number-or-none-requires-6
     byte-at-requires-5
-    spare-at-requires
     returns)
