@@ -1,8 +1,8 @@
 -- A frame that a reader takes is found whole: its bytes between lead byte and CR are 20h to 7Eh. Assumes nothing.
-use Prim.Native.Nat.{ℕ, zero, suc, _+_, _/_, _%_, _≤_, _<_}
+use Prim.Native.Nat.{ℕ, zero, suc, _+_, _/_, _%_, _≤_}
 use mathlib.Core.List.{List, [], _∷_, _++_, append-nil}
-use mathlib.Core.Bool.{Bool, true, false, false≢true, _&&_, _||_}
-use mathlib.Core.Path.{_≡_, refl, sym, ap, _∙_}
+use mathlib.Core.Bool.{Bool, true, false≢true, _||_}
+use mathlib.Core.Path.{_≡_, refl, sym, _∙_}
 use native.Mathlib.Omega.{arith}
 use lib.Dec.{T, leb, ltb, eqb, ltb→lt}
 use lib.ListN.{length, drop, replicate, length-replicate, drop-of-length-le}
@@ -14,6 +14,7 @@ use Rattle.digits.specs.Form.{Form}
 use Rattle.digits.proofs.Tests.{and-true, and-l, and-r}
 use Rattle.frames.specs.declared.timing.TimingKind.{TimingKind}
 use Rattle.frames.specs.declared.timing.TimingKind.the-variants.{Clock as clockKind, Net as netKind, Raw as rawKind}
+use Rattle.frames.specs.declared.reply.StaticReply.{StaticReply}
 use Rattle.frames.specs.Rules.{between, isRaw, isRequester, isOutput}
 use Rattle.frames.specs.Layout.{Layout, field, end, recordWrong, write}
 use Rattle.frames.specs.Kind.{Kind, CR, letterR, read, wrongIn, frameOf, writeTried}
@@ -29,7 +30,6 @@ use Rattle.frames.proofs.RequestLaws.{request-faithful}
 use Rattle.frames.proofs.ReplyLaws.{reply-faithful}
 use Rattle.frames.proofs.DynamicLaws.{dynamic-faithful}
 use Rattle.finder.specs.Leads.{isLead}
-use Rattle.finder.specs.Pieces.{whole, piecesFrom}
 use Rattle.finder.specs.Demands.{every, isInner, isOpen, FindsWhole, TakenAreFound}
 use Rattle.finder.proofs.Demands.{found-whole}
 
@@ -170,7 +170,13 @@ all-inner : (l : List ℕ) → every isRaw l ≡ true → every isInner l ≡ tr
 all-inner [] e = refl
 all-inner (b ∷ l) e = and-true (raw-inner b (and-l (isRaw b) (every isRaw l) e)) (all-inner l (and-r (isRaw b) (every isRaw l) e))
 
-module _ {R : Type 0} (k : Kind R) (Whole : R → Type 0) (faithful : Faithful k Whole) (leads : isLead (k .lead) ≡ true) (prints : Printed (k .fields)) where
+-- a frame's bytes between lead byte and CR
+pub record Printable (lead : ℕ) (f : List ℕ) : Type 0 where
+  pub inner : List ℕ
+  pub is : f ≡ lead ∷ (inner ++ (CR ∷ []))
+  pub raw : every isRaw inner ≡ true
+
+module _ {R : Type 0} (k : Kind R) (Whole : R → Type 0) (faithful : Faithful k Whole) (prints : Printed (k .fields)) where
   -- a frame that is taken is the one that its record writes
   taken-is : (f : List ℕ) (r : R) → read k f ≡ gives r → (wrongIn k r ≡ 0) × (frameOf k r ≡ f)
   unfolding writeTried
@@ -178,20 +184,29 @@ module _ {R : Type 0} (k : Kind R) (Whole : R → Type 0) (faithful : Faithful k
       let size : length {A = ℕ} (replicate (k .size) 0) ≡ k .size = length-replicate (k .size) 0 in
       let w = faithful .writes-again f r e (replicate (k .size) 0) (omega (arith, size)) in
       let fine = tried-gives (eqb (wrongIn k r) 0) _ _ _ tt (w .0) in
-      let none : drop {A = ℕ} (k .size) (replicate (k .size) 0) ≡ [] = let least : length {A = ℕ} (replicate (k .size) 0) ≤ k .size = omega (arith, size) in drop-of-length-le (replicate (k .size) 0) least in
+      let least : length {A = ℕ} (replicate (k .size) 0) ≤ k .size = omega (arith, size) in
+      let none : drop {A = ℕ} (k .size) (replicate (k .size) 0) ≡ [] = drop-of-length-le (replicate (k .size) 0) least in
       (eqb-true (wrongIn k r) 0 (fine .0), sym (append-nil (frameOf k r)) ∙ (rw (w .0, none) at (w .1)) ∙ append-nil f)
 
-  finds-whole : FindsWhole k
-  unfolding isOpen isRaw between wrongIn frameOf
-  finds-whole s f rest at r e d =
+  taken-printable : (f : List ℕ) (r : R) → read k f ≡ gives r → Printable (k .lead) f
+  unfolding isRaw between wrongIn frameOf
+  taken-printable f r e =
       let t = taken-is f r e in
-      let inner = write (k .fields) (k .valuesOf r) in
-      let opens : isOpen (k .lead ∷ letterR ∷ 32 ∷ inner) ≡ true = and-true leads (and-true (raw-inner 82 refl) (and-true (raw-inner 32 refl) (all-inner inner (write-raw prints (k .valuesOf r) (t .0))))) in
-      rw (← t .1) (found-whole s (k .lead ∷ letterR ∷ 32 ∷ inner) rest at opens (rw (← t .1) at d))
+      let written = write (k .fields) (k .valuesOf r) in
+      record { inner = letterR ∷ 32 ∷ written; is = sym (t .1); raw = write-raw prints (k .valuesOf r) (t .0) }
+
+  finds-whole : isLead (k .lead) ≡ true → FindsWhole k
+  unfolding isOpen
+  finds-whole leads s f rest at r e d =
+      let t = taken-printable f r e in
+      rw (t .is) (found-whole s (k .lead ∷ t .inner) rest at (and-true leads (all-inner (t .inner) (t .raw))) (rw (t .is) at d))
+
+pub reply-printable : (f : List ℕ) (r : StaticReply) → read reply f ≡ gives r → Printable 18 f
+reply-printable = taken-printable reply Whole-reply reply-faithful reply-printed
 
 pub taken-are-found : TakenAreFound
 unfolding isLead oneOf
 taken-are-found = (
-  finds-whole request (λ _. Unit {0}) request-faithful refl request-printed,
-  (finds-whole reply Whole-reply reply-faithful refl reply-printed, finds-whole dynamic (λ _. Unit {0}) dynamic-faithful refl dynamic-printed),
+  finds-whole request (λ _. Unit {0}) request-faithful request-printed refl,
+  (finds-whole reply Whole-reply reply-faithful reply-printed refl, finds-whole dynamic (λ _. Unit {0}) dynamic-faithful dynamic-printed refl),
 )

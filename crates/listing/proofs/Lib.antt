@@ -5,4 +5,5 @@ pub mod StoreLaws
 pub mod ListLaws
 pub mod SizeLaws
 pub mod CountLaws
+pub mod LineLaws
 pub mod Unique

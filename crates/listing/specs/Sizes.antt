@@ -2,12 +2,14 @@
 use Prim.Native.Nat.{ℕ, zero, suc, _+_, _<_, _≤_}
 use mathlib.Core.List.{List}
 use mathlib.Core.Path.{_≡_}
+use lib.Dec.{eqb}
 use lib.ListN.{length}
 use Rattle.digits.specs.declared.Number.the-variants.{Is}
 use Rattle.digits.specs.Digits.{numberAt}
+use Rattle.finder.specs.Demands.{count}
 use Rattle.desk.specs.Limits.{seatCount}
 use Rattle.desk.specs.Memory.{Memory, heldBy}
-use Rattle.listing.specs.Text.{width, decimal}
+use Rattle.listing.specs.Text.{LF, width, decimal}
 use Rattle.listing.specs.Listing.{mostInput, after, counts, listOf}
 
 -- an output of 14,170 bytes has room for every list
@@ -22,6 +24,14 @@ rowsIn m (suc n) = rowsIn m n + length (heldBy m n)
 -- a list has as many rows as it tells replies collected
 abbrev pub RowsAreCollected : Type 0
 RowsAreCollected = (cells marks s : List ℕ) → rowsIn (after cells marks s) seatCount ≡ counts cells marks s .collected
+
+-- the lines of a text
+abbrev pub lines : List ℕ → ℕ
+lines = count (λ b. eqb b LF)
+
+-- so a list has the heading, a line for each of these rows, and the end line
+abbrev pub LinesAreRows : Type 0
+LinesAreRows = (cells marks s : List ℕ) → length s ≤ mostInput → lines (listOf cells marks s) ≡ 1 + counts cells marks s .collected + 1
 
 -- what is shown reads as the number
 abbrev pub NumbersRead : Type 0
