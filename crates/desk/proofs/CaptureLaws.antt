@@ -4,7 +4,7 @@ use mathlib.Core.List.{List, [], _∷_}
 use mathlib.Core.Bool.{Bool, true, false, cond}
 use mathlib.Core.Path.{_≡_, refl, ap, _∙_, sym}
 use native.Mathlib.Omega.{arith}
-use lib.ListN.{length, getD, take, drop}
+use lib.ListN.{length, getD, set, take, drop}
 use lib.Seq.{slice}
 use lib.Dec.{eqb}
 use borrow.Author.Tests.{eq-eqb, ne-eqb}
@@ -26,6 +26,7 @@ use Rattle.desk.specs.declared.capture.Fate.the-variants.{Opened, Collec
 use Rattle.desk.specs.declared.capture.Counts.{Counts}
 use Rattle.desk.specs.declared.capture.CaptureAnswer.the-variants.{Taken, NoDesk}
 use Rattle.desk.specs.declared.capture.Met.{Met}
+use Rattle.desk.specs.Limits.{seatCount}
 use Rattle.desk.specs.Memory.{Memory, memory}
 use Rattle.desk.specs.Desk.{isDesk}
 use Rattle.desk.specs.Calls.{openRefused, replyRefused, opens, replies, Did}
@@ -60,19 +61,23 @@ answer-refused Full = refl
 -- ---- one frame, by its lead byte
 
 module _ (m : Memory) (f : List ℕ) (r : Met) (cells marks : List ℕ) where
-  pub meets-request : getD f 0 0 ≡ 17 → (told : Told ℕ) → r .fate ≡ fateBy Opened told → Did told (memory (r .desk) (r .row) cells marks) (opens m f) → Meets (meets m f) r cells marks
-  unfolding meets
-  meets-request l told e d =
-      rw (eq-eqb (getD f 0 0) 17 l) (record { fate = e ∙ ap (fateBy Opened) (d .answer); after = d .memory })
+  -- what is left, with the one seat that changed
+  abbrev left : Memory
+  left = memory (r .desk) (set (m .row) (r .at) (r .seat)) cells marks
 
-  pub meets-reply : (getD f 0 0 ≡ 17 → ⊥) → getD f 0 0 ≡ 18 → (told : Told ℕ) → r .fate ≡ fateBy Collected told → Did told (memory (r .desk) (r .row) cells marks) (replies m f) → Meets (meets m f) r cells marks
+  pub meets-request : getD f 0 0 ≡ 17 → (told : Told ℕ) → r .fate ≡ fateBy Opened told → r .at < seatCount → Did told left (opens m f) → Meets (m .row) (meets m f) r cells marks
   unfolding meets
-  meets-reply n l told e d =
-      rw (ne-eqb (getD f 0 0) 17 n, eq-eqb (getD f 0 0) 18 l) (record { fate = e ∙ ap (fateBy Collected) (d .answer); after = d .memory })
+  meets-request l told e b d =
+      rw (eq-eqb (getD f 0 0) 17 l) (record { at = b; fate = e ∙ ap (fateBy Opened) (d .answer); after = d .memory })
 
-  pub meets-other : (getD f 0 0 ≡ 17 → ⊥) → (getD f 0 0 ≡ 18 → ⊥) → r .fate ≡ dynamicFate (read dynamic f) → memory (r .desk) (r .row) cells marks ≡ m → Meets (meets m f) r cells marks
+  pub meets-reply : (getD f 0 0 ≡ 17 → ⊥) → getD f 0 0 ≡ 18 → (told : Told ℕ) → r .fate ≡ fateBy Collected told → r .at < seatCount → Did told left (replies m f) → Meets (m .row) (meets m f) r cells marks
   unfolding meets
-  meets-other n k e d = rw (ne-eqb (getD f 0 0) 17 n, ne-eqb (getD f 0 0) 18 k) (record { fate = e; after = d })
+  meets-reply n l told e b d =
+      rw (ne-eqb (getD f 0 0) 17 n, eq-eqb (getD f 0 0) 18 l) (record { at = b; fate = e ∙ ap (fateBy Collected) (d .answer); after = d .memory })
+
+  pub meets-other : (getD f 0 0 ≡ 17 → ⊥) → (getD f 0 0 ≡ 18 → ⊥) → r .fate ≡ dynamicFate (read dynamic f) → r .at < seatCount → left ≡ m → Meets (m .row) (meets m f) r cells marks
+  unfolding meets
+  meets-other n k e b d = rw (ne-eqb (getD f 0 0) 17 n, ne-eqb (getD f 0 0) 18 k) (record { at = b; fate = e; after = d })
 
 -- a desk stays a desk
 pub meets-desk : (m : Memory) (f : List ℕ) → isDesk m ≡ true → isDesk (meets m f .after) ≡ true
@@ -194,7 +199,7 @@ module _ (m₀ : Memory) (s : List ℕ) (at : ℕ) (m : Memory) (c : Counts) (g 
   pub goes-cut : piecesFrom s at ≡ cut a (slice a e s) ∷ piecesFrom s e → c′ ≡ oneMore c Refused → Going m₀ s e m c′
   goes-cut is q = rw q (goes m₀ s at m c g (cut a (slice a e s)) e is less)
 
-  pub goes-whole : piecesFrom s at ≡ whole a (slice a e s) ∷ piecesFrom s e → a < e → (r : Met) (cells marks : List ℕ) → Meets (meets m (take (e - a) (drop a s))) r cells marks
-      → c′ ≡ oneMore c (r .fate) → (next : ℕ) → next ≡ e → Going m₀ s next (memory (r .desk) (r .row) cells marks) c′
+  pub goes-whole : piecesFrom s at ≡ whole a (slice a e s) ∷ piecesFrom s e → a < e → (r : Met) (cells marks : List ℕ) → Meets (m .row) (meets m (take (e - a) (drop a s))) r cells marks
+      → c′ ≡ oneMore c (r .fate) → (next : ℕ) → next ≡ e → Going m₀ s next (memory (r .desk) (set (m .row) (r .at) (r .seat)) cells marks) c′
   goes-whole is l r cells marks w q next k =
       rw (k, q, w .fate, w .after, ← part-is s a e l) (goes m₀ s at m c g (whole a (slice a e s)) e is less)

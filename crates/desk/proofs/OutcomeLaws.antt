@@ -4,8 +4,8 @@ use mathlib.Core.List.{List, _++_}
 use mathlib.Core.Bool.{Bool, true, false}
 use mathlib.Core.Path.{_≡_, refl, ap, _∙_, sym, subst}
 use native.Mathlib.Omega.{arith}
-use lib.ListN.{length, take, drop}
-use lib.Seq.{paste, take-all}
+use lib.ListN.{length, set, take, drop}
+use lib.Seq.{paste, take-all, set-getD}
 use lib.Dec.{ltb}
 use Rattle.digits.specs.Told.{Told, gives, refuses, tried}
 use Rattle.frames.specs.Kind.{read}
@@ -27,6 +27,7 @@ use Rattle.desk.specs.declared.reply.Taking.{Taking}
 use Rattle.desk.specs.declared.reply.ReplyRefusal.{ReplyRefusal}
 use Rattle.desk.specs.declared.reply.ReplyRefusal.the-variants.{Desk as no-desk, Frame, Stray, Ended, OutOfPlace, Full}
 use Rattle.desk.specs.Call.{heard, heardTold}
+use Rattle.desk.specs.Seats.{zeroSeat, seatAt}
 use Rattle.desk.specs.Memory.{Memory, capacity}
 use Rattle.desk.specs.Desk.{isDesk}
 use Rattle.desk.specs.Calls.{DESK, whatIsGiven, requestTried, openTried, callTried, replyTried, opens, opened, replies, taken, withCell, openRefused, replyRefused, Did}
@@ -68,6 +69,14 @@ module _ (m : Memory) (f : List ℕ) where
   pub reply-off : isDesk m ≡ false → refuses DESK 0 ≡ replyTried m f
   unfolding replyTried
   reply-off d = rw d
+
+-- ---- a step of the code that changes no seat tells the first, as it is
+
+abbrev pub sameFirst : Memory → Memory
+sameFirst m = record { row = set (m .row) 0 (seatAt (m .row) 0); bits = m .bits; count = m .count; cells = m .cells; marks = m .marks }
+
+pub same-first : (m : Memory) → sameFirst m ≡ m
+same-first m = λ i. record { row = set-getD (m .row) 0 zeroSeat i; bits = m .bits; count = m .count; cells = m .cells; marks = m .marks }
 
 -- ---- the outcome of an opening
 

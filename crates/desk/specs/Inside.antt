@@ -1,9 +1,9 @@
 -- What the private steps of the code compute. Nothing here is needed to read a promise of a public call.
-use Prim.Native.Nat.{ℕ, _+_}
+use Prim.Native.Nat.{ℕ, _+_, _<_}
 use mathlib.Core.List.{List}
 use mathlib.Core.Bool.{Bool, true, cond, not, _&&_}
 use mathlib.Core.Path.{_≡_}
-use lib.ListN.{getD}
+use lib.ListN.{getD, set}
 use lib.Dec.{eqb}
 use Rattle.digits.specs.Told.{Told, gives}
 use Rattle.frames.specs.declared.reply.ReplyLabel.{ReplyLabel}
@@ -95,9 +95,10 @@ replyJudged (Refuses f) = replyRefused f
 -- ---- a capture
 
 -- one frame, met on a desk
-pub record Meets (o : Step) (r : Met) (cells marks : List ℕ) : Type 0 where
+pub record Meets (row : List Seat) (o : Step) (r : Met) (cells marks : List ℕ) : Type 0 where
+  pub at : r .at < seatCount
   pub fate : r .fate ≡ o .fate
-  pub after : memory (r .desk) (r .row) cells marks ≡ o .after
+  pub after : memory (r .desk) (set row (r .at) (r .seat)) cells marks ≡ o .after
 
 abbrev pub oneMore : Counts → Fate → Counts
 oneMore c Opened = record { opened = c .opened + 1; collected = c .collected; dynamic = c .dynamic; refused = c .refused }

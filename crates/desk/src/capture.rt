@@ -55,10 +55,12 @@ pub struct CaptureDone {
     pub row: [Seat; SEATS],
 }
 
+// What becomes of a frame, the state, and the one seat that changed, as ReplyStep says it.
 struct Met {
     fate: Fate,
     desk: Desk,
-    row: [Seat; SEATS],
+    at: usize,
+    seat: Seat,
 }
 
 // The frames of a capture, one after the other. Cells and marks are changed as by a call for each frame.
@@ -105,9 +107,10 @@ pub fn take_capture(
                 let fate = m.fate;
                 counts = one_more(counts, fate);
                 let after = m.desk;
-                let seats = m.row;
+                let changed = m.at;
+                let seat = m.seat;
                 desk = after;
-                row = seats;
+                row[changed] = seat;
                 at = next.at;
             }
         }
@@ -116,35 +119,38 @@ pub fn take_capture(
 
 fn meet(desk: Desk, row: [Seat; SEATS], cells: &mut [u8], marks: &mut [u32], frame: &[u8]) -> Met
     requires { ⌜ isDesk (memory desk row (now cells) (now marks)) ≡ true ⌝ }
-    ensures { λ r. ⌜ Meets (meets (memory desk row (now (cells .entry)) (now (marks .entry))) (now (frame .entry))) r (now (cells .exit)) (now (marks .exit)) ⌝ }
+    ensures { λ r. ⌜ Meets row (meets (memory desk row (now (cells .entry)) (now (marks .entry))) (now (frame .entry))) r (now (cells .exit)) (now (marks .exit)) ⌝ }
 {
     let lead = byte_at(frame, 0);
     if lead == REQUEST_LEAD {
-        let d = open_on_desk(desk, row, cells, marks, frame);
-        let answer = d.answer;
-        let desk = d.desk;
-        let row = d.row;
+        let step = open_on_desk(desk, row, cells, marks, frame);
+        let answer = step.answer;
+        let desk = step.desk;
+        let seat = step.seat;
         return Met {
             fate: open_fate(answer),
             desk,
-            row,
+            at: step.at,
+            seat,
         };
     }
     if lead == REPLY_LEAD {
-        let d = reply_on_desk(desk, row, cells, marks, frame);
-        let answer = d.answer;
-        let desk = d.desk;
-        let row = d.row;
+        let step = reply_on_desk(desk, row, cells, marks, frame);
+        let answer = step.answer;
+        let desk = step.desk;
+        let seat = step.seat;
         return Met {
             fate: reply_fate(answer),
             desk,
-            row,
+            at: step.at,
+            seat,
         };
     }
     Met {
         fate: dynamic_fate(frame),
         desk,
-        row,
+        at: 0,
+        seat: row[0],
     }
 }
 

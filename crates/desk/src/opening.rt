@@ -4,6 +4,7 @@ use crate::call::find;
 use crate::state::Desk;
 use crate::state::SEATS;
 use crate::state::Seat;
+use crate::state::with_seat;
 use crate::test::is_desk;
 use frames::refusals::ReadRefusal;
 use frames::request::RequestRead;
@@ -11,11 +12,12 @@ use frames::request::StaticRequest;
 use frames::request::read_request;
 ghost use mathlib.Core.Path.{_≡_};
 ghost use Prim.Native.Nat.{_+_, _^_, _<_};
+ghost use lib.ListN.{set};
 ghost use Rattle.desk.specs.Limits.{seatCount};
 ghost use Rattle.desk.specs.Memory.{memory};
 ghost use Rattle.desk.specs.Key.{requestKey};
 ghost use Rattle.desk.specs.Seats.{lowestClear};
-ghost use Rattle.desk.specs.Calls.{whatIsGiven, openedRow, opens, openTold, requestTried, keyTried, Did};
+ghost use Rattle.desk.specs.Calls.{whatIsGiven, newSeat, opens, openTold, requestTried, keyTried, Did};
 ghost use Rattle.desk.specs.Desk.{isDesk};
 ghost use Rattle.frames.specs.Kind.{read};
 ghost use Rattle.frames.specs.Request.{request};
@@ -43,6 +45,14 @@ pub struct OpenDone {
     pub row: [Seat; SEATS],
 }
 
+// What an opening leaves, as ReplyStep says it.
+pub(crate) struct OpenStep {
+    pub(crate) answer: OpenAnswer,
+    pub(crate) desk: Desk,
+    pub(crate) at: usize,
+    pub(crate) seat: Seat,
+}
+
 // The seat that a request gets, and its key.
 struct Opening {
     pub seat: usize,
@@ -58,7 +68,15 @@ pub fn open(desk: Desk, row: [Seat; SEATS], cells: &[u8], marks: &[u32], frame: 
     ensures { λ r. ⌜ Did (openTold (r .answer)) (memory (r .desk) (r .row) (now (cells .entry)) (now (marks .entry))) (opens (memory desk row (now (cells .entry)) (now (marks .entry))) (now (frame .entry))) ⌝ }
 {
     if is_desk(desk, row, cells, marks) {
-        open_on_desk(desk, row, cells, marks, frame)
+        let step = open_on_desk(desk, row, cells, marks, frame);
+        let answer = step.answer;
+        let desk = step.desk;
+        let seat = step.seat;
+        OpenDone {
+            answer,
+            desk,
+            row: with_seat(row, step.at, seat),
+        }
     } else {
         OpenDone {
             answer: OpenAnswer::Refused(OpenRefusal::Desk),
@@ -75,23 +93,26 @@ pub(crate) fn open_on_desk(
     cells: &[u8],
     marks: &[u32],
     frame: &[u8],
-) -> OpenDone
+) -> OpenStep
     requires { ⌜ isDesk (memory desk row (now cells) (now marks)) ≡ true ⌝ }
-    ensures { λ r. ⌜ Did (openTold (r .answer)) (memory (r .desk) (r .row) (now (cells .entry)) (now (marks .entry))) (opens (memory desk row (now (cells .entry)) (now (marks .entry))) (now (frame .entry))) ⌝ }
+    ensures { λ r. ⌜ (r .at < seatCount) × Did (openTold (r .answer)) (memory (r .desk) (set row (r .at) (r .seat)) (now (cells .entry)) (now (marks .entry))) (opens (memory desk row (now (cells .entry)) (now (marks .entry))) (now (frame .entry))) ⌝ }
 {
     match judged(row, desk.bits, frame) {
         OpenJudged::Opens(opening) => {
-            let seat = opening.seat;
-            OpenDone {
-                answer: OpenAnswer::Opened(seat),
-                desk: opened_state(desk, seat),
-                row: opened_row(row, opening),
+            let at = opening.seat;
+            let key = opening.key;
+            OpenStep {
+                answer: OpenAnswer::Opened(at),
+                desk: opened_state(desk, at),
+                at,
+                seat: new_seat(key),
             }
         }
-        OpenJudged::Refuses(refusal) => OpenDone {
+        OpenJudged::Refuses(refusal) => OpenStep {
             answer: OpenAnswer::Refused(refusal),
             desk,
-            row,
+            at: 0,
+            seat: row[0],
         },
     }
 }
@@ -144,20 +165,15 @@ fn lowest_clear(bits: u64) -> usize
     u64::trailing_zeros(!bits) as usize
 }
 
-fn opened_row(row: [Seat; SEATS], o: Opening) -> [Seat; SEATS]
-    requires { ⌜ o .seat < seatCount ⌝ }
-    ensures { λ r. ⌜ r ≡ openedRow row o ⌝ }
+fn new_seat(key: Key) -> Seat
+    ensures { λ r. ⌜ r ≡ newSeat key ⌝ }
 {
-    let key = o.key;
-    let s = o.seat;
-    let mut after = row;
-    after[s] = Seat {
+    Seat {
         requester: key.requester,
         number: key.number,
         held: 0,
         ended: 0,
-    };
-    after
+    }
 }
 
 fn opened_state(desk: Desk, seat: usize) -> Desk

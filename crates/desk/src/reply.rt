@@ -10,16 +10,16 @@ use crate::state::Desk;
 use crate::state::SEATS;
 use crate::state::Seat;
 use crate::state::capacity;
+use crate::state::with_seat;
 use crate::test::is_desk;
 use frames::refusals::ReadRefusal;
 ghost use mathlib.Core.Path.{_≡_};
 ghost use Prim.Native.Nat.{_+_, _≤_, _<_};
-ghost use lib.ListN.{length};
+ghost use lib.ListN.{length, set};
 ghost use lib.Seq.{paste};
 ghost use Rattle.desk.specs.Limits.{seatCount};
 ghost use Rattle.desk.specs.Memory.{memory};
-ghost use Rattle.desk.specs.Seats.{seatAt};
-ghost use Rattle.desk.specs.Calls.{whatIsGiven, grown, grownRow, replies, replyTold, callTried, seatTried, Did};
+ghost use Rattle.desk.specs.Calls.{whatIsGiven, grown, replies, replyTold, callTried, seatTried, Did};
 ghost use Rattle.desk.specs.Desk.{isDesk};
 ghost use Rattle.desk.specs.Call.{heard};
 ghost use mathlib.Core.Bool.{true};
@@ -47,6 +47,14 @@ pub struct ReplyDone {
     pub row: [Seat; SEATS],
 }
 
+// What a reply leaves: the state, and the one seat that changed, with its place. Where none changed that is the first, as it was.
+pub(crate) struct ReplyStep {
+    pub(crate) answer: ReplyAnswer,
+    pub(crate) desk: Desk,
+    pub(crate) at: usize,
+    pub(crate) seat: Seat,
+}
+
 // The seat that takes a reply, and the reply's status.
 struct Taking {
     pub seat: usize,
@@ -68,7 +76,15 @@ pub fn reply(
     ensures { λ r. ⌜ Did (replyTold (r .answer)) (memory (r .desk) (r .row) (now (cells .exit)) (now (marks .exit))) (replies (memory desk row (now (cells .entry)) (now (marks .entry))) (now (frame .entry))) ⌝ }
 {
     if is_desk(desk, row, cells, marks) {
-        reply_on_desk(desk, row, cells, marks, frame)
+        let step = reply_on_desk(desk, row, cells, marks, frame);
+        let answer = step.answer;
+        let desk = step.desk;
+        let seat = step.seat;
+        ReplyDone {
+            answer,
+            desk,
+            row: with_seat(row, step.at, seat),
+        }
     } else {
         ReplyDone {
             answer: ReplyAnswer::Refused(ReplyRefusal::Desk),
@@ -85,31 +101,33 @@ pub(crate) fn reply_on_desk(
     cells: &mut [u8],
     marks: &mut [u32],
     frame: &[u8],
-) -> ReplyDone
+) -> ReplyStep
     requires { ⌜ isDesk (memory desk row (now cells) (now marks)) ≡ true ⌝ }
-    ensures { λ r. ⌜ Did (replyTold (r .answer)) (memory (r .desk) (r .row) (now (cells .exit)) (now (marks .exit))) (replies (memory desk row (now (cells .entry)) (now (marks .entry))) (now (frame .entry))) ⌝ }
+    ensures { λ r. ⌜ (r .at < seatCount) × Did (replyTold (r .answer)) (memory (r .desk) (set row (r .at) (r .seat)) (now (cells .exit)) (now (marks .exit))) (replies (memory desk row (now (cells .entry)) (now (marks .entry))) (now (frame .entry))) ⌝ }
 {
     let free = (desk.count as usize) < capacity(cells.len(), marks.len());
     match judged(row, desk.bits, free, frame) {
         ReplyJudged::Takes(taking) => {
-            let seat = taking.seat;
+            let at = taking.seat;
             let bits = desk.bits;
             let count = desk.count;
             put_cell(cells, count as usize * CELL_SIZE, frame);
-            marks[count as usize] = seat as u32;
-            ReplyDone {
-                answer: ReplyAnswer::Taken(seat),
+            marks[count as usize] = at as u32;
+            ReplyStep {
+                answer: ReplyAnswer::Taken(at),
                 desk: Desk {
                     bits,
                     count: count + 1,
                 },
-                row: grown_row(row, taking),
+                at,
+                seat: grown_seat(row[at], taking.status),
             }
         }
-        ReplyJudged::Refuses(refusal) => ReplyDone {
+        ReplyJudged::Refuses(refusal) => ReplyStep {
             answer: ReplyAnswer::Refused(refusal),
             desk,
-            row,
+            at: 0,
+            seat: row[0],
         },
     }
 }
@@ -167,16 +185,6 @@ fn put_cell(cells: &mut [u8], at: usize, frame: &[u8])
         cells[at + j] = frame[j];
         j += 1;
     }
-}
-
-fn grown_row(row: [Seat; SEATS], t: Taking) -> [Seat; SEATS]
-    requires { ⌜ (t .seat < seatCount) × (seatAt row (t .seat) .held < 65536) ⌝ }
-    ensures { λ r. ⌜ r ≡ grownRow row t ⌝ }
-{
-    let s = t.seat;
-    let mut after = row;
-    after[s] = grown_seat(after[s], t.status);
-    after
 }
 
 fn grown_seat(seat: Seat, status: u8) -> Seat

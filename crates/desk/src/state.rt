@@ -1,6 +1,9 @@
 // The state of a desk: what goes by value, and what it is when empty.
 use crate::call::least;
 ghost use mathlib.Core.Path.{_≡_};
+ghost use Prim.Native.Nat.{_<_};
+ghost use lib.ListN.{set};
+ghost use Rattle.desk.specs.Limits.{seatCount};
 ghost use Rattle.desk.specs.Memory.{capacityOf};
 ghost use Rattle.desk.specs.Calls.{seatsInUse, emptyRow, emptyState};
 
@@ -30,6 +33,16 @@ pub struct Desk {
 pub struct Emptied {
     pub desk: Desk,
     pub row: [Seat; SEATS],
+}
+
+// A row with another seat at a place.
+pub(crate) fn with_seat(row: [Seat; SEATS], at: usize, seat: Seat) -> [Seat; SEATS]
+    requires { ⌜ at < seatCount ⌝ }
+    ensures { λ r. ⌜ r ≡ set row at seat ⌝ }
+{
+    let mut after = row;
+    after[at] = seat;
+    after
 }
 
 // The empty desk, whatever state it takes the place of. Cells and marks are not touched.

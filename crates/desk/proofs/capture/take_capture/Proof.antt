@@ -100,6 +100,12 @@ meet-requires c κs = search needs
 one-more-requires-2 : tie.Need-one-more-requires-2 Inv-loop μ-loop
 one-more-requires-2 c κs = let t = subst (Told _ _) (c .before .before .before .before .before .before .before .before .before .start .given .1) (here (c .before .before .before .before .before .before .before .before .before .before .before)) in let g = c .before .before .before .before .before .before .before .before .before .before .before .before .loop .inv .0 in omega (arith, g .few, t .0 .from, t .0 .some, t .0 .within)
 
+mul-row : tie.Need-mul-row Inv-loop μ-loop
+mul-row c = let h = c .before .before .before .before .before .before .before .meet .ensures .at in omega (arith, h)
+
+array-set-from-row : tie.Need-array-set-from-row Inv-loop μ-loop
+array-set-from-row c = c .before .before .before .before .before .before .before .meet .ensures .at
+
 loop-less-2 : tie.Need-loop-less-2 Inv-loop μ-loop
 loop-less-2 c = let t = subst (Told _ _) (c .before .before .before .before .before .before .before .before .before .before .before .before .start .given .1) (here (c .before .before .before .before .before .before .before .before .before .before .before .before .before .before)) in omega (arith, t .0 .from, t .0 .some, t .0 .within, t .1)
 
@@ -137,5 +143,7 @@ take-capture-spec =
     part-meet-end
     meet-requires
     one-more-requires-2
+    mul-row
+    array-set-from-row
     loop-less-2
     loop-again-2)

@@ -1,20 +1,22 @@
 -- `desk::opening::open_on_desk` meets its contract. Assumes nothing.
 use mathlib.Core.List.{List}
+use mathlib.Core.Path.{_≡_, sym, subst, _∙_}
+use native.Mathlib.Omega.{arith}
+use Prim.Native.Nat.{ℕ}
 use denote.Ref.{now}
+use lib.ListN.{set}
 use Rattle.digits.specs.Told.{gives}
 use Rattle.desk.specs.Memory.{Memory, memory}
-use Rattle.desk.specs.Calls.{openTried}
+use Rattle.desk.specs.Calls.{openTried, opens, openRefused, Did}
 use Rattle.desk.specs.Inside.{openJudged}
 use Rattle.desk.proofs.StepLaws.{Opens, opens-taken}
-use Rattle.desk.proofs.OutcomeLaws.{open-on, opening-done, not-opened}
-use mathlib.Core.Path.{_≡_, sym, _∙_}
-use Prim.Native.Nat.{ℕ}
+use Rattle.desk.proofs.OutcomeLaws.{same-first, open-on, opening-done, not-opened}
 use borrow.Author.Needs.{needs}
 use Rattle.desk.proofs.opening.open_on_desk.Statement.{statement}
 use Rattle.desk.proofs.opening.open_on_desk.Tie as tie
 
 abbrev M : tie.After-judged → Memory
-M c = memory (c .before .before .before .before .args .desk) (c .before .before .before .before .args .row) (now (c .before .before .before .before .args .cells)) (now (c .before .before .before .before .args .marks))
+M c = memory (c .before .before .before .before .args .desk) (c .before .before .before .before .args .t2) (now (c .before .before .before .before .args .cells)) (now (c .before .before .before .before .args .marks))
 
 abbrev F : tie.After-judged → List ℕ
 F c = now (c .before .before .before .before .args .frame)
@@ -35,19 +37,26 @@ enum-known-opening : tie.Need-enum-known-opening
 enum-known-opening c = search needs
 
 opened-state-requires : tie.Need-opened-state-requires
-opened-state-requires c κs = (known (c .before) .below, known (c .before) .facts .bits)
+opened-state-requires c κs = (known (c .before .before) .below, known (c .before .before) .facts .bits)
 
-opened-row-requires : tie.Need-opened-row-requires
-opened-row-requires c κs = known (c .before .before) .below
+new-seat-requires : tie.Need-new-seat-requires
+new-seat-requires c κs = search needs
 
 enum-known-refusal : tie.Need-enum-known-refusal
 enum-known-refusal c = search needs
 
+array-copy-out-t20 : tie.Need-array-copy-out-t20
+array-copy-out-t20 c = search needs
+
 returns : tie.Need-returns
-returns c = opening-done (M (c .before .before .before .before .before)) (F (c .before .before .before .before .before)) (c .before .before .before .opening .given .0 .0) _ (judged-opens (c .before .before .before)) (λ i. record { row = c .opened-row .ensures i; bits = c .before .opened-state .ensures .0 i; count = c .before .opened-state .ensures .1 i; cells = now (c .before .before .before .before .before .before .before .before .before .args .cells); marks = now (c .before .before .before .before .before .before .before .before .before .args .marks) })
+returns c = (known (c .before .before .before .before) .below, opening-done (M (c .before .before .before .before .before .before)) (F (c .before .before .before .before .before .before)) (c .before .before .before .before .opening .given .0 .0) _ (judged-opens (c .before .before .before .before)) (λ i. record { row = set (c .before .before .before .before .before .before .before .before .before .before .args .t2) (c .before .before .before .before .opening .given .0 .0 .seat) (c .new-seat .ensures i); bits = c .before .opened-state .ensures .0 i; count = c .before .opened-state .ensures .1 i; cells = now (c .before .before .before .before .before .before .before .before .before .before .args .cells); marks = now (c .before .before .before .before .before .before .before .before .before .before .args .marks) }))
 
 returns-2 : tie.Need-returns-2
-returns-2 c = not-opened (M (c .before .before .before)) (F (c .before .before .before)) (c .before .refusal .given .0 .0) (rw (c .before .refusal .given .1) at (tried (c .before .before .before)))
+returns-2 c =
+    let m = M (c .before .before .before .before) in
+    let f = F (c .before .before .before .before) in
+    let r = c .before .before .refusal .given .0 .0 in
+    (omega arith, subst (λ (x : Memory). Did (openRefused r) x (opens m f)) (sym (same-first m)) (not-opened m f r (rw (c .before .before .refusal .given .1) at (tried (c .before .before .before .before)))))
 
 pub open-on-desk-spec : {M : Type 1} → statement M
 open-on-desk-spec =
@@ -56,7 +65,8 @@ open-on-desk-spec =
     judged-requires
     enum-known-opening
     opened-state-requires
-    opened-row-requires
+    new-seat-requires
     enum-known-refusal
+    array-copy-out-t20
     returns
     returns-2)

@@ -1,9 +1,9 @@
 -- `desk::reply::reply` meets its contract. Assumes nothing.
+use mathlib.Core.Path.{sym, _∙_}
 use denote.Ref.{now}
 use Rattle.desk.specs.Memory.{Memory, memory}
 use Rattle.desk.specs.declared.reply.ReplyRefusal.the-variants.{Desk}
 use Rattle.desk.proofs.OutcomeLaws.{reply-off, not-taken}
-use mathlib.Core.Path.{sym, _∙_}
 use borrow.Author.Needs.{needs}
 use Rattle.desk.proofs.reply.reply.Statement.{statement}
 use Rattle.desk.proofs.reply.reply.Tie as tie
@@ -17,6 +17,9 @@ is-desk-requires c κs = search needs
 reply-on-desk-requires : tie.Need-reply-on-desk-requires
 reply-on-desk-requires c κs = sym (c .before .before .before .is-desk .ensures) ∙ c .before .before .if1 .taken
 
+with-seat-requires : tie.Need-with-seat-requires
+with-seat-requires c κs = c .before .before .before .before .before .before .reply-on-desk .ensures .0
+
 same-length : tie.Need-same-length
 same-length c = search needs
 
@@ -24,7 +27,7 @@ same-length-2 : tie.Need-same-length-2
 same-length-2 c = search needs
 
 returns : tie.Need-returns
-returns c = search needs
+returns c = rw (c .with-seat .ensures) (c .before .before .before .before .before .before .before .reply-on-desk .ensures .1)
 
 same-length-3 : tie.Need-same-length-3
 same-length-3 c = search needs
@@ -41,6 +44,7 @@ reply-spec =
     (tie.spec
     is-desk-requires
     reply-on-desk-requires
+    with-seat-requires
     same-length
     same-length-2
     returns

@@ -1,22 +1,22 @@
 -- `desk::reply::reply_on_desk` meets its contract. Assumes nothing.
 use mathlib.Core.List.{List}
+use mathlib.Core.Path.{_≡_, sym, subst, _∙_}
+use native.Mathlib.Omega.{arith}
+use Prim.Native.Nat.{ℕ, _+_, _*_}
 use denote.Ref.{now}
 use lib.ListN.{set}
 use Rattle.digits.specs.Told.{gives}
 use Rattle.desk.specs.Memory.{Memory, memory}
-use Rattle.desk.specs.Calls.{replyTried}
+use Rattle.desk.specs.Calls.{replyTried, replies, replyRefused, Did}
 use Rattle.desk.specs.Inside.{replyJudged}
 use Rattle.desk.proofs.StepLaws.{took, Room, took-room}
-use Rattle.desk.proofs.OutcomeLaws.{reply-on, with-cell, reply-done, not-taken}
-use native.Mathlib.Omega.{arith}
-use mathlib.Core.Path.{_≡_, sym, _∙_}
-use Prim.Native.Nat.{ℕ, _+_, _*_}
+use Rattle.desk.proofs.OutcomeLaws.{same-first, reply-on, with-cell, reply-done, not-taken}
 use borrow.Author.Needs.{needs}
 use Rattle.desk.proofs.reply.reply_on_desk.Statement.{statement}
 use Rattle.desk.proofs.reply.reply_on_desk.Tie as tie
 
 abbrev M : tie.After-judged → Memory
-M c = memory (c .before .before .before .before .before .before .args .desk) (c .before .before .before .before .before .before .args .row) (now (c .before .before .before .before .before .before .args .cells)) (now (c .before .before .before .before .before .before .args .marks))
+M c = memory (c .before .before .before .before .before .before .args .desk) (c .before .before .before .before .before .before .args .t2) (now (c .before .before .before .before .before .before .args .cells)) (now (c .before .before .before .before .before .before .args .marks))
 
 abbrev F : tie.After-judged → List ℕ
 F c = now (c .before .before .before .before .before .before .args .frame)
@@ -65,14 +65,23 @@ mul-marks c = search needs
 slice-write-marks : tie.Need-slice-write-marks
 slice-write-marks c = room (c .before .before .before .before .before) .marks
 
-add-t23 : tie.Need-add-t23
-add-t23 c = let r = room (c .before .before .before .before .before) in omega (arith, r .count)
+add-t25 : tie.Need-add-t25
+add-t25 c = let r = room (c .before .before .before .before .before) in omega (arith, r .count)
 
-grown-row-requires : tie.Need-grown-row-requires
-grown-row-requires c κs = let r = room (c .before .before .before .before .before) in (r .seat, omega (arith, r .held, r .count))
+mul-grown-seat : tie.Need-mul-grown-seat
+mul-grown-seat c = let r = room (c .before .before .before .before .before) in omega (arith, r .seat)
+
+array-copy-out-grown-seat : tie.Need-array-copy-out-grown-seat
+array-copy-out-grown-seat c = room (c .before .before .before .before .before) .seat
+
+grown-seat-requires : tie.Need-grown-seat-requires
+grown-seat-requires c κs = let r = room (c .before .before .before .before .before .before) in omega (arith, r .held, r .count)
 
 enum-known-refusal : tie.Need-enum-known-refusal
 enum-known-refusal c = search needs
+
+array-copy-out-t36 : tie.Need-array-copy-out-t36
+array-copy-out-t36 c = search needs
 
 same-length : tie.Need-same-length
 same-length c = search needs
@@ -81,10 +90,14 @@ same-length-2 : tie.Need-same-length-2
 same-length-2 c = search needs
 
 returns : tie.Need-returns
-returns c = reply-done (M (c .before .before .before .before .before .before .before .before)) (F (c .before .before .before .before .before .before .before .before)) (c .before .before .before .before .before .before .taking .given .0 .0) _ (judged-takes (c .before .before .before .before .before .before)) (λ i. record { row = c .grown-row .ensures i; bits = c .before .before .before .before .before .before .before .before .before .before .before .before .before .before .args .desk .bits; count = c .before .before .before .before .before .before .before .before .before .before .before .before .before .before .args .desk .count + 1; cells = (c .before .before .before .put-cell .ensures ∙ with-cell (now (c .before .before .before .before .before .before .before .before .before .before .before .before .before .before .args .cells)) (c .before .before .before .before .before .before .before .before .before .before .before .before .before .before .args .desk .count * 51) (F (c .before .before .before .before .before .before .before .before)) (room (c .before .before .before .before .before .before) .frame)) i; marks = set (now (c .before .before .before .before .before .before .before .before .before .before .before .before .before .before .args .marks)) (c .before .before .before .before .before .before .before .before .before .before .before .before .before .before .args .desk .count) (c .before .before .before .before .before .before .taking .given .0 .0 .seat) })
+returns c = (room (c .before .before .before .before .before .before .before) .seat, reply-done (M (c .before .before .before .before .before .before .before .before .before)) (F (c .before .before .before .before .before .before .before .before .before)) (c .before .before .before .before .before .before .before .taking .given .0 .0) _ (judged-takes (c .before .before .before .before .before .before .before)) (λ i. record { row = set (c .before .before .before .before .before .before .before .before .before .before .before .before .before .before .before .args .t2) (c .before .before .before .before .before .before .before .taking .given .0 .0 .seat) (c .grown-seat .ensures i); bits = c .before .before .before .before .before .before .before .before .before .before .before .before .before .before .before .args .desk .bits; count = c .before .before .before .before .before .before .before .before .before .before .before .before .before .before .before .args .desk .count + 1; cells = (c .before .before .before .before .put-cell .ensures ∙ with-cell (now (c .before .before .before .before .before .before .before .before .before .before .before .before .before .before .before .args .cells)) (c .before .before .before .before .before .before .before .before .before .before .before .before .before .before .before .args .desk .count * 51) (F (c .before .before .before .before .before .before .before .before .before)) (room (c .before .before .before .before .before .before .before) .frame)) i; marks = set (now (c .before .before .before .before .before .before .before .before .before .before .before .before .before .before .before .args .marks)) (c .before .before .before .before .before .before .before .before .before .before .before .before .before .before .before .args .desk .count) (c .before .before .before .before .before .before .before .taking .given .0 .0 .seat) }))
 
 returns-2 : tie.Need-returns-2
-returns-2 c = not-taken (M (c .before .before .before)) (F (c .before .before .before)) (c .before .refusal .given .0 .0) (rw (c .before .refusal .given .1) at (tried (c .before .before .before)))
+returns-2 c =
+    let m = M (c .before .before .before .before) in
+    let f = F (c .before .before .before .before) in
+    let r = c .before .before .refusal .given .0 .0 in
+    (omega arith, subst (λ (x : Memory). Did (replyRefused r) x (replies m f)) (sym (same-first m)) (not-taken m f r (rw (c .before .before .refusal .given .1) at (tried (c .before .before .before .before)))))
 
 pub reply-on-desk-spec : {M : Type 1} → statement M
 reply-on-desk-spec =
@@ -101,9 +114,12 @@ reply-on-desk-spec =
     cast-marks-2
     mul-marks
     slice-write-marks
-    add-t23
-    grown-row-requires
+    add-t25
+    mul-grown-seat
+    array-copy-out-grown-seat
+    grown-seat-requires
     enum-known-refusal
+    array-copy-out-t36
     same-length
     same-length-2
     returns
