@@ -123,6 +123,20 @@ count-ext (suc n) p q h = rw (count-ext n p q (λ k l. h k (omega arith)), h n (
 
 -- ---- the first below
 
+pub count-none : (n : ℕ) (p : ℕ → Bool) → ((k : ℕ) → k < n → p k ≡ false) → countBelow n p ≡ 0
+unfolding countBelow
+count-none zero p h = refl
+count-none (suc n) p h = rw (h n (omega arith)) (count-none n p (λ k l. h k (omega arith)))
+
+pub count-one : (n s : ℕ) (p : ℕ → Bool) → s < n → p s ≡ true → ((k : ℕ) → k < n → p k ≡ true → k ≡ s) → countBelow n p ≡ 1
+unfolding countBelow
+count-one zero s p l t u = absurd (omega arith)
+count-one (suc n) s p l t u =
+    below-case s n l
+    (λ b. rw (false-or (p n) (λ q. let e = u n (omega arith) q in omega arith)) (count-one n s p b t (λ k j q. u k (omega arith) q)))
+    (λ e. let y : p n ≡ true = sym (ap p e) ∙ t in
+    rw y (ap suc (count-none n p (λ k j. false-or (p k) (λ q. let g = u k (omega arith) q in omega arith)))))
+
 first-most : (n : ℕ) (p : ℕ → Bool) → first n p ≤ n
 unfolding first
 first-most zero p = omega arith

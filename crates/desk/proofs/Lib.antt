@@ -7,6 +7,7 @@ pub mod OutcomeLaws
 pub mod HeldLaws
 pub mod DeskLaws
 pub mod MixLaws
+pub mod AwaitedLaws
 pub mod CaptureLaws
 pub mod KeepsLaws
 pub mod LeavesLaws

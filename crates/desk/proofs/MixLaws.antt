@@ -85,7 +85,7 @@ clash m k i j d l h hi hj =
     let a : not (keyedAt (m .row) (m .bits) k j) ≡ true = rw (u, e) at (d .apart i l j h) in
     never (not (keyedAt (m .row) (m .bits) k j)) a (ap not hj)
 
-one-seat : (m : Memory) (k : Key) (s : ℕ) → Facts m → s < seatCount → keyedAt (m .row) (m .bits) k s ≡ true → seatWith (m .row) (m .bits) k ≡ s
+pub one-seat : (m : Memory) (k : Key) (s : ℕ) → Facts m → s < seatCount → keyedAt (m .row) (m .bits) k s ≡ true → seatWith (m .row) (m .bits) k ≡ s
 unfolding seatWith
 one-seat m k s d l h =
     first-at seatCount s (keyedAt (m .row) (m .bits) k) l

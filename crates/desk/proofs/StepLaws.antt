@@ -30,7 +30,7 @@ use Rattle.desk.proofs.CallLaws.{given, heard-long, same-key, request-l
 use Rattle.desk.proofs.TestLaws.{Facts, desk-facts}
 
 -- the seat that is found is in use and has the key
-found-keyed : (row : List Seat) (bits : ℕ) (k : Key) → seatWith row bits k < seatCount → keyedAt row bits k (seatWith row bits k) ≡ true
+pub found-keyed : (row : List Seat) (bits : ℕ) (k : Key) → seatWith row bits k < seatCount → keyedAt row bits k (seatWith row bits k) ≡ true
 unfolding seatWith
 found-keyed row bits k l = first-sound seatCount (keyedAt row bits k) l
 
@@ -126,7 +126,7 @@ pub record Opens (m : Memory) (f : List ℕ) (o : Opening) : Type 0 where
   pub below : o .seat < seatCount
   pub clear : usedBit (m .bits) (o .seat) ≡ false
 
-fresh-below : (row : List Seat) (bits : ℕ) (k : Key) → seatCount ≤ seatWith row bits k → (i : ℕ) → i < seatCount → keyedAt row bits k i ≡ false
+pub fresh-below : (row : List Seat) (bits : ℕ) (k : Key) → seatCount ≤ seatWith row bits k → (i : ℕ) → i < seatCount → keyedAt row bits k i ≡ false
 unfolding seatWith
 fresh-below row bits k l i h = first-before seatCount (keyedAt row bits k) i (omega arith)
 

@@ -1,8 +1,9 @@
 -- Mixed replies: what each request holds after them, and what each of its replies was answered.
-use Prim.Native.Nat.{ℕ, _+_, _≤_, _<_}
+use Prim.Native.Nat.{ℕ, zero, suc, _+_, _≤_, _<_}
 use mathlib.Core.List.{List, [], _∷_, _++_}
 use mathlib.Core.Bool.{Bool, true, false, cond, not, _||_}
 use mathlib.Core.Path.{_≡_}
+use lib.ListN.{length}
 use lib.Dec.{eqb, ltb}
 use Rattle.digits.specs.Told.{Told, gives, refuses}
 use Rattle.frames.specs.Kind.{read}
@@ -89,6 +90,15 @@ expected m (toReply f) = seated m (heard f)
 unfoldable pub repliesTo : Memory → List Event → ℕ
 repliesTo m [] = 0
 repliesTo m (e ∷ es) = cond (expected m e) 1 0 + repliesTo m es
+
+-- the frames addressed to the open requests at the seats below n, request by request
+unfoldable pub awaited : Memory → List Event → ℕ → ℕ
+awaited m es zero = 0
+awaited m es (suc n) = cond (usedBit (m .bits) n) (length (framesTo (seatKey (seatAt (m .row) n)) es)) 0 + awaited m es n
+
+-- both counts are one: no frame is counted that is addressed to none, and none twice
+abbrev pub RepliesAreAwaited : Type 0
+RepliesAreAwaited = (m : Memory) (es : List Event) → isDesk m ≡ true → repliesTo m es ≡ awaited m es seatCount
 
 -- ---- the rule, over the frames of one request alone
 

@@ -1,14 +1,16 @@
 -- How long a list can be, and that its numbers are shown whole. Assumes nothing.
-use Prim.Native.Nat.{ℕ, zero, suc, _+_, _*_, _^_, _<_, _≤_}
+use Prim.Native.Nat.{ℕ, zero, suc, _+_, _*_, _%_, _^_, _<_, _≤_}
 use mathlib.Core.List.{List, [], _∷_, _++_}
 use mathlib.Core.Bool.{cond}
 use mathlib.Core.Path.{_≡_, refl, sym, ap, _∙_}
 use native.Mathlib.Omega.{arith}
 use native.Mathlib.Numerals.{add-one}
-use lib.ListN.{length, length-append}
+use lib.ListN.{length, length-append, getD}
 use lib.Dec.{eqb, ltb}
 use borrow.Author.Tests.{lt-ltb, ltb-true, ltb-false, eqb-true, eqb-false, ne-eqb, le-ltb}
 use Rattle.digits.specs.Text.{codes}
+use Rattle.digits.specs.declared.Number.the-variants.{Is}
+use Rattle.digits.specs.Digits.{digits, numberAt}
 use Rattle.digits.proofs.Forms.{number-back}
 use Rattle.finder.specs.Leads.{isLead}
 use Rattle.finder.specs.Demands.{count}
@@ -21,9 +23,9 @@ use Rattle.desk.proofs.Below.{count-most}
 use Rattle.desk.proofs.CaptureLaws.{counts-add-up}
 use Rattle.listing.specs.Text.{width, decimal, rowText, rowsText, countText, heading, endText, LF}
 use Rattle.listing.specs.Listing.{store, after, counts, short, seatsText, listText, listOf}
-use Rattle.listing.specs.Sizes.{ListFits, NumbersRead, CountsAreSmall}
+use Rattle.listing.specs.Sizes.{ListFits, Whole, NumbersAreWhole}
 use Rattle.listing.specs.Inside.{seatsOf}
-use Rattle.listing.proofs.PutLaws.{width-some, count-short}
+use Rattle.listing.proofs.PutLaws.{width-some, count-short, decimal-length}
 use Rattle.listing.proofs.ColumnLaws.{row-short}
 use Rattle.listing.proofs.RowLaws.{rows-more}
 use Rattle.listing.proofs.StoreLaws.{after-fits}
@@ -39,11 +41,51 @@ width-holds n l =
     (λ b. by-test (ltb n 1000) (λ c. rw (a, b, c) (ltb-true n 1000 c))
     (λ c. by-test (ltb n 10000) (λ d. rw (a, b, c, d) (ltb-true n 10000 d)) (λ d. rw (a, b, c, d) l))))
 
-pub numbers-read : NumbersRead
+reads-whole : (n : ℕ) → n < 100000 → numberAt (decimal n) 0 (width n) ≡ Is n
 unfolding decimal
-numbers-read n l =
+reads-whole n l =
     let w = width-some n in
     number-back (width n) n (w .0) (omega (arith, w .1)) (width-holds n l)
+
+-- a first digit 0 is the whole number, or there is none: two digits and more show no number below ten
+one-digit : (n : ℕ) → n < 10 → getD (digits 1 n) 0 0 ≡ 48 → digits 1 n ≡ 48 ∷ []
+unfolding digits
+one-digit n l z = let h : n % 10 ≡ 0 = omega (arith, z) in rw h
+
+two-digits : (n : ℕ) → 10 ≤ n → n < 100 → getD (digits 2 n) 0 0 ≡ 48 → ⊥
+unfolding digits
+two-digits n m l z = omega (arith, z)
+
+three-digits : (n : ℕ) → 100 ≤ n → n < 1000 → getD (digits 3 n) 0 0 ≡ 48 → ⊥
+unfolding digits
+three-digits n m l z = omega (arith, z)
+
+four-digits : (n : ℕ) → 1000 ≤ n → n < 10000 → getD (digits 4 n) 0 0 ≡ 48 → ⊥
+unfolding digits
+four-digits n m l z = omega (arith, z)
+
+five-digits : (n : ℕ) → 10000 ≤ n → n < 100000 → getD (digits 5 n) 0 0 ≡ 48 → ⊥
+unfolding digits
+five-digits n m l z = omega (arith, z)
+
+plain-whole : (n : ℕ) → n < 100000 → getD (decimal n) 0 0 ≡ 48 → decimal n ≡ 48 ∷ []
+unfolding decimal width
+plain-whole n l z =
+    by-test (ltb n 10)
+    (λ a. let w : width n ≡ 1 = rw a in rw w (one-digit n (ltb-true n 10 a) (first w)))
+    (λ a. by-test (ltb n 100)
+    (λ b. let w : width n ≡ 2 = rw (a, b) in absurd (two-digits n (ltb-false n 10 a) (ltb-true n 100 b) (first w)))
+    (λ b. by-test (ltb n 1000)
+    (λ c. let w : width n ≡ 3 = rw (a, b, c) in absurd (three-digits n (ltb-false n 100 b) (ltb-true n 1000 c) (first w)))
+    (λ c. by-test (ltb n 10000)
+    (λ d. let w : width n ≡ 4 = rw (a, b, c, d) in absurd (four-digits n (ltb-false n 1000 c) (ltb-true n 10000 d) (first w)))
+    (λ d. let w : width n ≡ 5 = rw (a, b, c, d) in absurd (five-digits n (ltb-false n 10000 d) l (first w))))))
+  where
+    first : {w : ℕ} → width n ≡ w → getD (digits w n) 0 0 ≡ 48
+    first e = sym (ap (λ k. getD (digits k n) 0 0) e) ∙ z
+
+whole : (n : ℕ) → n < 100000 → Whole n
+whole n l = record { reads = rw (decimal-length n) (reads-whole n l); plain = plain-whole n l }
 
 seat-width : (s : ℕ) → s < seatCount → width s ≤ 2
 unfolding width
@@ -59,12 +101,13 @@ module _ (cells marks s : List ℕ) (l : length s ≤ 32768) where
   sum-small : counts cells marks s .opened + counts cells marks s .collected + counts cells marks s .dynamic + counts cells marks s .refused ≤ 32768
   sum-small = let a = counts-add-up (store cells marks) s in let b = leads-most s in omega (arith, a, b)
 
-pub counts-are-small : CountsAreSmall
-counts-are-small = record {
-  opened = λ cells marks s l. let h = sum-small cells marks s l in omega (arith, h);
-  collected = λ cells marks s l. let h = sum-small cells marks s l in omega (arith, h);
-  dynamic = λ cells marks s l. let h = sum-small cells marks s l in omega (arith, h);
-  refused = λ cells marks s l. let h = sum-small cells marks s l in omega (arith, h);
+pub numbers-are-whole : NumbersAreWhole
+numbers-are-whole = record {
+  opened = λ cells marks s l. let h = sum-small cells marks s l in whole (counts cells marks s .opened) (omega (arith, h));
+  collected = λ cells marks s l. let h = sum-small cells marks s l in whole (counts cells marks s .collected) (omega (arith, h));
+  dynamic = λ cells marks s l. let h = sum-small cells marks s l in whole (counts cells marks s .dynamic) (omega (arith, h));
+  refused = λ cells marks s l. let h = sum-small cells marks s l in whole (counts cells marks s .refused) (omega (arith, h));
+  seat = λ s l. whole s (omega (arith, l));
 }
 
 -- ---- rows: no more than 55 bytes for each mark that names a seat

@@ -1,15 +1,15 @@
 -- How long a list can be, how many rows it has, and that its numbers are shown whole.
 use Prim.Native.Nat.{ℕ, zero, suc, _+_, _<_, _≤_}
-use mathlib.Core.List.{List}
+use mathlib.Core.List.{List, [], _∷_}
 use mathlib.Core.Path.{_≡_}
 use lib.Dec.{eqb}
-use lib.ListN.{length}
+use lib.ListN.{length, getD}
 use Rattle.digits.specs.declared.Number.the-variants.{Is}
 use Rattle.digits.specs.Digits.{numberAt}
 use Rattle.finder.specs.Demands.{count}
 use Rattle.desk.specs.Limits.{seatCount}
 use Rattle.desk.specs.Memory.{Memory, heldBy}
-use Rattle.listing.specs.Text.{LF, width, decimal}
+use Rattle.listing.specs.Text.{LF, decimal}
 use Rattle.listing.specs.Listing.{mostInput, after, counts, listOf}
 
 -- an output of 14,170 bytes has room for every list
@@ -33,13 +33,15 @@ lines = count (λ b. eqb b LF)
 abbrev pub LinesAreRows : Type 0
 LinesAreRows = (cells marks s : List ℕ) → length s ≤ mostInput → lines (listOf cells marks s) ≡ 1 + counts cells marks s .collected + 1
 
--- what is shown reads as the number
-abbrev pub NumbersRead : Type 0
-NumbersRead = (n : ℕ) → n < 100000 → numberAt (decimal n) 0 (width n) ≡ Is n
+-- a number is shown whole: what stands there reads as the number, and begins with 0 only if it is the one digit 0
+pub record Whole (n : ℕ) : Type 0 where
+  pub reads : numberAt (decimal n) 0 (length (decimal n)) ≡ Is n
+  pub plain : getD (decimal n) 0 0 ≡ 48 → decimal n ≡ 48 ∷ []
 
--- and no count of a list is larger
-pub record CountsAreSmall : Type 0 where
-  pub opened : (cells marks s : List ℕ) → length s ≤ mostInput → counts cells marks s .opened < 100000
-  pub collected : (cells marks s : List ℕ) → length s ≤ mostInput → counts cells marks s .collected < 100000
-  pub dynamic : (cells marks s : List ℕ) → length s ≤ mostInput → counts cells marks s .dynamic < 100000
-  pub refused : (cells marks s : List ℕ) → length s ≤ mostInput → counts cells marks s .refused < 100000
+-- every number of a list that is not copied from a frame is shown so: its counts, and its seats
+pub record NumbersAreWhole : Type 0 where
+  pub opened : (cells marks s : List ℕ) → length s ≤ mostInput → Whole (counts cells marks s .opened)
+  pub collected : (cells marks s : List ℕ) → length s ≤ mostInput → Whole (counts cells marks s .collected)
+  pub dynamic : (cells marks s : List ℕ) → length s ≤ mostInput → Whole (counts cells marks s .dynamic)
+  pub refused : (cells marks s : List ℕ) → length s ≤ mostInput → Whole (counts cells marks s .refused)
+  pub seat : (s : ℕ) → s < seatCount → Whole s
