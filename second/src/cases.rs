@@ -1,5 +1,5 @@
-//! Makes the file of cases. Each subject adds its own; the file is the same for the same seed. The
-//! captures to be listed stand apart from it, each by itself.
+//! Makes the two files of cases, the single cases and the scripts. Each subject adds its own; a file
+//! is the same for the same seed. The captures to be listed stand apart, each by itself.
 
 pub mod bulk;
 pub mod captures;
@@ -39,22 +39,23 @@ impl Cases {
     }
 }
 
-/// The whole file for one seed.
-pub fn file(seed: u64) -> String {
+/// The file of the cases that are answered each by itself, whatever stands before it.
+pub fn single_cases(seed: u64) -> String {
     let mut cases = Cases::default();
-    add_single_cases(&mut cases, seed);
-    desk::add_all(&mut cases, seed);
+    digits::add_all(&mut cases, seed);
+    times::add_all(&mut cases, seed);
+    request::add_all(&mut cases, seed);
+    reply::add_all(&mut cases, seed);
+    dynamic::add_all(&mut cases, seed);
+    finder::add_all(&mut cases, seed);
     cases.text
 }
 
-/// The cases that are answered each by itself, whatever stands before it.
-fn add_single_cases(cases: &mut Cases, seed: u64) {
-    digits::add_all(cases, seed);
-    times::add_all(cases, seed);
-    request::add_all(cases, seed);
-    reply::add_all(cases, seed);
-    dynamic::add_all(cases, seed);
-    finder::add_all(cases, seed);
+/// The file of the scripts, which work on one desk from its first line to its last.
+pub fn scripts(seed: u64) -> String {
+    let mut cases = Cases::default();
+    desk::add_all(&mut cases, seed);
+    cases.text
 }
 
 /// `text` with the bytes from `place` on replaced by `part`.
@@ -65,28 +66,61 @@ fn replaced(text: &[u8], place: usize, part: &[u8]) -> Vec<u8> {
 }
 
 #[cfg(test)]
-mod tests {
+pub mod tests {
     use super::*;
     use crate::answers;
 
-    const MOST_BYTES_OF_FILE: usize = 1_400_000;
+    /// The words of the single cases and those of the scripts.
+    const SINGLE_WORDS: [&str; 21] = [
+        "number",
+        "digits",
+        "clock",
+        "clock-text",
+        "day",
+        "net",
+        "net-parts",
+        "running",
+        "read-request",
+        "write-request",
+        "damage-request",
+        "read-reply",
+        "write-reply",
+        "damage-reply",
+        "read-reply-value",
+        "write-reply-value",
+        "read-dynamic",
+        "write-dynamic",
+        "damage-dynamic",
+        "find",
+        "find-from",
+    ];
+    pub const SCRIPT_WORDS: [&str; 12] = [
+        "lend", "bits", "count", "seat", "mark", "cell", "open", "reply", "reset", "used", "held",
+        "mixes",
+    ];
+
+    const MOST_BYTES_OF_FILE: usize = 700_000;
     const MOST_BYTES_OF_LINE: usize = 1_000;
 
+    /// The words that lines begin with.
+    pub fn words<'a>(lines: impl Iterator<Item = &'a str>) -> BTreeSet<&'a str> {
+        lines.filter_map(|line| line.split(' ').next()).collect()
+    }
+
     #[test]
-    fn the_file_keeps_its_limits() {
+    fn the_files_keep_their_limits() {
         for seed in [0, 1, 2, u64::MAX] {
-            let file = file(seed);
-            assert!(file.len() < MOST_BYTES_OF_FILE, "{} bytes", file.len());
-            assert!(file.lines().all(|line| line.len() < MOST_BYTES_OF_LINE));
+            for file in [single_cases(seed), scripts(seed)] {
+                assert!(file.len() < MOST_BYTES_OF_FILE, "{} bytes", file.len());
+                assert!(file.lines().all(|line| line.len() < MOST_BYTES_OF_LINE));
+            }
         }
     }
 
     #[test]
     fn every_line_is_a_case() {
         for seed in 0..20 {
-            let mut cases = Cases::default();
-            add_single_cases(&mut cases, seed);
-            let answers = answers::file(cases.text.as_bytes());
+            let answers = answers::file(single_cases(seed).as_bytes());
             assert!(answers.is_ok(), "{answers:?}");
         }
     }
@@ -94,27 +128,28 @@ mod tests {
     /// But for the mixes, which take their time. A test of their own asks each of their words.
     #[test]
     fn every_line_of_a_script_is_a_case() {
-        let mut cases = Cases::default();
-        desk::add_all(&mut cases, 1);
-        let (scripts, _) = cases.text.split_once("mixes ").expect("mixes");
+        let scripts = scripts(1);
+        let (scripts, _) = scripts.split_once("mixes ").expect("mixes");
         let answers = answers::file(scripts.as_bytes());
         assert!(answers.is_ok(), "{answers:?}");
     }
 
+    /// Each file has all words of its own, and none of the other's.
     #[test]
-    fn scripts_come_last() {
-        let file = file(1);
-        let scripts = file
-            .find("\nused\n")
-            .expect("the first line of the scripts");
-        let (before, scripts) = file.split_at(scripts);
-        assert!(before.lines().all(|line| !line.starts_with("lend ")));
-        assert!(scripts.lines().all(|line| !line.starts_with("find ")));
+    fn each_file_has_its_own_words() {
+        let (singles, scripted) = (SINGLE_WORDS.into(), BTreeSet::from(SCRIPT_WORDS));
+        assert!(scripted.is_disjoint(&singles));
+        for seed in [1, 2] {
+            assert_eq!(words(single_cases(seed).lines()), singles);
+            assert_eq!(words(scripts(seed).lines()), scripted);
+        }
     }
 
     #[test]
-    fn a_seed_gives_the_same_file() {
-        assert_eq!(file(1), file(1));
-        assert_ne!(file(1), file(2));
+    fn a_seed_gives_the_same_files() {
+        for file in [single_cases, scripts] {
+            assert_eq!(file(1), file(1));
+            assert_ne!(file(1), file(2));
+        }
     }
 }

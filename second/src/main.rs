@@ -29,7 +29,7 @@ use std::io::{self, Read, Write};
 use std::path::Path;
 use std::process::ExitCode;
 
-const USAGE: &str = "usage: second cases SEED | second answers < CASES | \
+const USAGE: &str = "usage: second cases SEED | second scripts SEED | second answers < CASES | \
                      second captures SEED DIR | second list < CAPTURE | second lists FILE.. | \
                      second bulk RUN ROOM [OPTION..]";
 
@@ -61,6 +61,7 @@ fn main() -> ExitCode {
 fn run(words: &[&str]) -> Result<Vec<u8>, String> {
     match words {
         ["cases", seed] => make_cases(seed),
+        ["scripts", seed] => make_scripts(seed),
         ["answers"] => answer_standard_input(),
         ["captures", seed, directory] => make_captures(seed, Path::new(directory)),
         ["list"] => list_standard_input(),
@@ -70,7 +71,11 @@ fn run(words: &[&str]) -> Result<Vec<u8>, String> {
 }
 
 fn make_cases(seed: &str) -> Result<Vec<u8>, String> {
-    Ok(cases::file(parse_seed(seed)?).into_bytes())
+    Ok(cases::single_cases(parse_seed(seed)?).into_bytes())
+}
+
+fn make_scripts(seed: &str) -> Result<Vec<u8>, String> {
+    Ok(cases::scripts(parse_seed(seed)?).into_bytes())
 }
 
 fn answer_standard_input() -> Result<Vec<u8>, String> {
@@ -141,6 +146,10 @@ mod tests {
     fn wrong_usage() {
         for words in [
             &[][..],
+            &["cases"],
+            &["cases", "1", "1"],
+            &["scripts"],
+            &["scripts", "1", "1"],
             &["captures"],
             &["captures", "1"],
             &["captures", "1", ".", "."],
@@ -150,9 +159,22 @@ mod tests {
             assert_eq!(complaint(words), USAGE);
         }
         for seed in ["", "x", "-1", "18446744073709551616"] {
-            let complaint = complaint(&["captures", seed, "."]);
-            assert_eq!(complaint, format!("SEED is a number below 2^64; {USAGE}"));
+            for words in [
+                &["cases", seed][..],
+                &["scripts", seed],
+                &["captures", seed, "."],
+            ] {
+                let complaint = complaint(words);
+                assert_eq!(complaint, format!("SEED is a number below 2^64; {USAGE}"));
+            }
         }
+    }
+
+    #[test]
+    fn cases_and_scripts_are_made_apart() {
+        let made = |word| run(&[word, "3"]);
+        assert_eq!(made("cases"), Ok(cases::single_cases(3).into_bytes()));
+        assert_eq!(made("scripts"), Ok(cases::scripts(3).into_bytes()));
     }
 
     #[test]

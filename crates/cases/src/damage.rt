@@ -1,10 +1,4 @@
 // Every damage of one byte: each place of a frame, each of the 256 values.
-use crate::line;
-use crate::print;
-use crate::told::Told;
-use crate::told::done;
-use crate::told::read_told;
-use crate::told::same_told;
 use digits::byte_at;
 use digits::put_byte;
 use frames::dynamic::DynamicRead;
@@ -20,6 +14,11 @@ use frames::request::RequestRead;
 use frames::request::StaticRequest;
 use frames::request::read_request;
 use frames::request::write_request;
+use spelling::line;
+use spelling::print;
+use spelling::told::Told;
+use spelling::told::done;
+use spelling::told::read_told;
 
 // Which reader and writer a case is for.
 pub enum Damaged {
@@ -63,6 +62,10 @@ fn damage_place(kind: Damaged, frame: &mut [u8], place: usize) {
     print_run(count, last);
     print::end_line();
     put_byte(frame, place, own);
+}
+
+fn same_told(a: Told, b: Told) -> bool {
+    (a.number == b.number) & (a.offset == b.offset)
 }
 
 fn print_run(count: u64, t: Told) {

@@ -1,13 +1,15 @@
 // Cases on the dynamic request.
-use crate::line;
-use crate::print;
-use crate::told::print_told;
-use crate::told::print_written;
-use crate::told::read_told;
+use crate::words::also_code;
+use crate::words::code;
+use crate::written::print_written;
 use frames::dynamic::DynamicRead;
 use frames::dynamic::DynamicRequest;
 use frames::dynamic::read_dynamic;
 use frames::dynamic::write_dynamic;
+use spelling::line;
+use spelling::print;
+use spelling::told::print_told;
+use spelling::told::read_told;
 
 pub fn reading(s: &[u8]) {
     let mut b = [0u8; 100];
@@ -21,8 +23,8 @@ pub fn reading(s: &[u8]) {
 
 fn print_dynamic(r: DynamicRequest) {
     print::text(b"0 0");
-    print::also_code(r.requester);
-    print::also_code(r.order);
+    also_code(r.requester);
+    also_code(r.order);
     print::also(r.bib);
     print::also(r.channel);
     print::also(r.run);
@@ -33,7 +35,7 @@ fn print_dynamic(r: DynamicRequest) {
     print::also(r.time);
     print::also(r.days);
     print::also(r.period);
-    print::also_code(r.output);
+    also_code(r.output);
 }
 
 pub fn writing(s: &[u8]) {
@@ -49,8 +51,8 @@ fn writing_to(r: DynamicRequest, out: &mut [u8]) {
 
 fn dynamic_asked(s: &[u8]) -> DynamicRequest {
     DynamicRequest {
-        requester: line::code(s, 2),
-        order: line::code(s, 3),
+        requester: code(s, 2),
+        order: code(s, 3),
         bib: line::small(s, 4),
         channel: line::small(s, 5),
         run: line::small(s, 6),
@@ -61,6 +63,6 @@ fn dynamic_asked(s: &[u8]) -> DynamicRequest {
         time: line::small(s, 11),
         days: line::small(s, 12),
         period: line::small(s, 13),
-        output: line::code(s, 14),
+        output: code(s, 14),
     }
 }

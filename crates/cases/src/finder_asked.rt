@@ -1,9 +1,9 @@
 // Cases on the finder.
-use crate::line;
-use crate::print;
 use finder::Cursor;
 use finder::Found;
 use finder::next;
+use spelling::line;
+use spelling::print;
 
 pub fn find(s: &[u8]) {
     let mut b = [0u8; 400];

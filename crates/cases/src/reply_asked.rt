@@ -1,9 +1,9 @@
 // Cases on the static reply.
-use crate::line;
-use crate::print;
-use crate::told::print_told;
-use crate::told::print_written;
-use crate::told::read_told;
+use crate::words::also_code;
+use crate::words::code;
+use crate::words::print_signed;
+use crate::words::signed;
+use crate::written::print_written;
 use frames::refusals::ReadVerdict;
 use frames::reply::ReplyRead;
 use frames::reply::StaticReply;
@@ -12,6 +12,10 @@ use frames::reply::read_reply_value;
 use frames::reply::write_reply;
 use frames::reply::write_reply_value;
 use frames::timing::Timing;
+use spelling::line;
+use spelling::print;
+use spelling::told::print_told;
+use spelling::told::read_told;
 ghost use Prim.Native.Nat.{_<_};
 
 pub fn reading(s: &[u8]) {
@@ -50,17 +54,17 @@ fn print_reply(r: StaticReply) {
 }
 
 fn print_head(r: StaticReply) {
-    print::also_code(r.program);
-    print::also_code(r.mode);
-    print::also_code(r.status);
-    print::also_code(r.requester);
+    also_code(r.program);
+    also_code(r.mode);
+    also_code(r.status);
+    also_code(r.requester);
     print::also(r.number);
     print::also(r.bib);
     print::also(r.group);
     print::also(r.run);
     print::also(r.physical);
     print::also(r.channel);
-    print::also_code(r.information);
+    also_code(r.information);
 }
 
 fn print_timing(t: Timing) {
@@ -86,7 +90,7 @@ fn print_clock(ticks: u32, day: u32, month: u32, year: u32) {
 
 fn print_net(value: i64) {
     print::text(b" net ");
-    print::signed(value);
+    print_signed(value);
 }
 
 pub fn writing(s: &[u8]) {
@@ -120,7 +124,7 @@ fn reply_asked(s: &[u8], k: usize) -> StaticReply {
             return reply_with(s, k, timing, k + 16);
         }
         if line::is_word(s, k + 11, b"net") {
-            return reply_with(s, k, Timing::Net(line::signed(s, k + 12)), k + 13);
+            return reply_with(s, k, Timing::Net(signed(s, k + 12)), k + 13);
         }
         return reply_with(s, k, Timing::Raw, k + 12);
     }
@@ -138,17 +142,17 @@ fn reply_with(s: &[u8], k: usize, timing: Timing, p: usize) -> StaticReply
     let mut spare = [0u8; 2];
     line::bytes(s, p + 2, &mut spare);
     StaticReply {
-        program: line::code(s, k),
-        mode: line::code(s, k + 1),
-        status: line::code(s, k + 2),
-        requester: line::code(s, k + 3),
+        program: code(s, k),
+        mode: code(s, k + 1),
+        status: code(s, k + 2),
+        requester: code(s, k + 3),
         number: line::small(s, k + 4),
         bib: line::small(s, k + 5),
         group: line::small(s, k + 6),
         run: line::small(s, k + 7),
         physical: line::small(s, k + 8),
         channel: line::small(s, k + 9),
-        information: line::code(s, k + 10),
+        information: code(s, k + 10),
         timing,
         raw_time,
         raw_date,

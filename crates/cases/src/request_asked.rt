@@ -1,13 +1,15 @@
 // Cases on the static request.
-use crate::line;
-use crate::print;
-use crate::told::print_told;
-use crate::told::print_written;
-use crate::told::read_told;
+use crate::words::also_code;
+use crate::words::code;
+use crate::written::print_written;
 use frames::request::RequestRead;
 use frames::request::StaticRequest;
 use frames::request::read_request;
 use frames::request::write_request;
+use spelling::line;
+use spelling::print;
+use spelling::told::print_told;
+use spelling::told::read_told;
 
 pub fn reading(s: &[u8]) {
     let mut b = [0u8; 100];
@@ -21,14 +23,14 @@ pub fn reading(s: &[u8]) {
 
 fn print_request(r: StaticRequest) {
     print::text(b"0 0");
-    print::also_code(r.requester);
+    also_code(r.requester);
     print::also(r.number);
     print::also(r.bib);
-    print::also_code(r.information);
+    also_code(r.information);
     print::also(r.channel);
     print::also(r.run);
     print::also(r.group);
-    print::also_code(r.output);
+    also_code(r.output);
 }
 
 pub fn writing(s: &[u8]) {
@@ -44,13 +46,13 @@ fn writing_to(r: StaticRequest, out: &mut [u8]) {
 
 fn request_asked(s: &[u8]) -> StaticRequest {
     StaticRequest {
-        requester: line::code(s, 2),
+        requester: code(s, 2),
         number: line::small(s, 3),
         bib: line::small(s, 4),
-        information: line::code(s, 5),
+        information: code(s, 5),
         channel: line::small(s, 6),
         run: line::small(s, 7),
         group: line::small(s, 8),
-        output: line::code(s, 9),
+        output: code(s, 9),
     }
 }

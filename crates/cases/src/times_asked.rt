@@ -1,9 +1,11 @@
 // Cases on digits and times.
-use crate::line;
-use crate::print;
+use crate::words::print_signed;
+use crate::words::signed;
 use digits::Number;
 use digits::number_at;
 use digits::put_number;
+use spelling::line;
+use spelling::print;
 use times::clock::clock_at;
 use times::clock::put_clock;
 use times::day::is_day;
@@ -71,14 +73,14 @@ pub fn net(s: &[u8]) {
         time: line::small(s, 3),
     };
     match net_value(parts) {
-        NetValue::Is(v) => print::signed(v),
+        NetValue::Is(v) => print_signed(v),
         NetValue::Wrong => print::text(b"wrong"),
     }
     print::end_line();
 }
 
 pub fn net_parts_of(s: &[u8]) {
-    shown(line::signed(s, 1));
+    shown(signed(s, 1));
     print::end_line();
 }
 
@@ -112,7 +114,7 @@ pub fn running(s: &[u8]) {
     match running_time(of) {
         Running::Ticks(v) => {
             print::text(b"0 0 ");
-            print::signed(v);
+            print_signed(v);
         }
         Running::Time => print::text(b"8 0 0"),
     }

@@ -24,6 +24,15 @@ impl Subject {
             Subject::Captures => "captures",
         }
     }
+
+    /// The name of the program that answers it.
+    fn program(self) -> &'static str {
+        match self {
+            Subject::Frames => "cases",
+            Subject::Scripts => "scripts",
+            Subject::Captures => "lists",
+        }
+    }
 }
 
 #[derive(Clone, Copy, Debug)]
@@ -68,7 +77,7 @@ impl Piece {
     ) -> Result<Option<Outcome>, String> {
         let asked = Asked::of_groups(groups);
         let input = asked.text();
-        let running = programs.start_cases(&input)?;
+        let running = programs.start_reading(self.subject.program(), &input)?;
         // While the program is at work.
         let own = answers::by_case(input.as_bytes())?;
         let mut tally = Tally::default();
@@ -88,7 +97,7 @@ impl Piece {
         programs: &Programs,
         captures: &[Vec<u8>],
     ) -> Result<Option<Outcome>, String> {
-        let running = programs.start_lists(captures)?;
+        let running = programs.start_listing(self.subject.program(), captures)?;
         let own: Vec<Vec<String>> = captures.iter().map(|capture| list(capture)).collect();
         let mut tally = Tally::default();
         for list in &own {

@@ -12,7 +12,7 @@ use std::time::Duration;
 const PATIENCE: Duration = Duration::from_millis(20);
 
 /// What the room has in it: a file whose being there ends the run, the directory of the captures,
-/// and what `cases` reads and both programs write.
+/// and what a program reads and writes.
 const STOP: &str = "stop";
 const CAPTURES: &str = "captures";
 const ASKED: &str = "asked";
@@ -51,26 +51,26 @@ impl Programs {
         self.room.join(STOP).exists()
     }
 
-    /// Asks `cases` all this.
-    pub fn start_cases(&self, input: &str) -> Result<Running<'_>, String> {
+    /// Has the program of this name answer all this, which it reads as its standard input.
+    pub fn start_reading(&self, name: &str, input: &str) -> Result<Running<'_>, String> {
         let path = self.room.join(ASKED);
         fs::write(&path, input).map_err(complaint(&path))?;
         let asked = File::open(&path).map_err(complaint(&path))?;
         let mut command = Command::new(&self.run);
-        command.arg("cases").stdin(asked);
+        command.arg(name).stdin(asked);
         self.start(command)
     }
 
-    /// Has `lists` list all these captures.
-    pub fn start_lists(&self, captures: &[Vec<u8>]) -> Result<Running<'_>, String> {
+    /// Has the program of this name list all these captures, which it reads as files.
+    pub fn start_listing(&self, name: &str, captures: &[Vec<u8>]) -> Result<Running<'_>, String> {
         let directory = self.room.join(CAPTURES);
         let mut command = Command::new(&self.run);
-        command.arg("lists").stdin(Stdio::null());
+        command.arg(name).stdin(Stdio::null());
         for (number, capture) in captures.iter().enumerate() {
-            let name = number.to_string();
-            let path = directory.join(&name);
+            let file = number.to_string();
+            let path = directory.join(&file);
             fs::write(&path, capture).map_err(complaint(&path))?;
-            command.arg(name);
+            command.arg(file);
         }
         command.current_dir(directory);
         self.start(command)

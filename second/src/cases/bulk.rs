@@ -1,5 +1,5 @@
 //! Frames in bulk: for each seed a piece of cases that ask about so many frames. The scripts and the
-//! captures in bulk stand beside those of the file.
+//! captures in bulk stand beside those of the files.
 
 mod bounds;
 mod damages;

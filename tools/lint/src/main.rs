@@ -3,9 +3,13 @@
 //! `lint ROOT` reads each library crate of ROOT/crates. A function that another crate can reach shall ask nothing of its
 //! caller (no `requires`), say what it does (an `ensures`), and say what is at the end in all memory that it is lent by
 //! `&mut` (`out .exit` in an `ensures`). Each fault is a line, and the last line counts; `--list` prints each public
-//! function first. Exit status: 0 if there are public functions and none falls short, else 1; 2 if it cannot tell.
+//! function first. Exit status: 0 if there are public functions and no fault, else 1; 2 if it cannot tell.
+//!
+//! `--tests NAME,..` names libraries that are for tests alone. No contract can say what they print or read, so their
+//! functions need no `ensures`. No other library may depend on them: ROOT/crates.txt tells what depends on what.
 
 mod lex;
+mod listed;
 mod parse;
 mod reach;
 
@@ -15,14 +19,37 @@ use std::process::ExitCode;
 
 fn main() -> ExitCode {
     let words = std::env::args_os().skip(1).map(|word| word.to_string_lossy().into_owned());
-    let (flags, roots): (Vec<String>, Vec<String>) = words.partition(|word| word.starts_with('-'));
-    if roots.len() != 1 || flags.iter().any(|flag| flag != "--list") {
-        return refuse("usage: lint ROOT [--list]");
-    }
-    match public_functions(Path::new(&roots[0])) {
-        Ok(functions) => report(&functions, !flags.is_empty()),
+    let Some(Asked { root, list, tests }) = asked(words) else {
+        return refuse("usage: lint ROOT [--list] [--tests NAME,..]");
+    };
+    let listed = listed::faults(&root, &tests);
+    match listed.and_then(|listed| Ok((public_functions(&root, &tests)?, listed))) {
+        Ok((functions, listed)) => report(&functions, &listed, list),
         Err(what) => refuse(&what),
     }
+}
+
+/// What the command line asks for.
+struct Asked {
+    root: PathBuf,
+    list: bool,
+    /// The libraries that are for tests alone.
+    tests: Vec<String>,
+}
+
+/// Reads the command line, if it is in order.
+fn asked(mut words: impl Iterator<Item = String>) -> Option<Asked> {
+    let (mut roots, mut list, mut tests) = (Vec::new(), false, Vec::new());
+    while let Some(word) = words.next() {
+        match word.as_str() {
+            "--list" => list = true,
+            "--tests" => tests.extend(words.next()?.split(',').map(String::from)),
+            flag if flag.starts_with('-') => return None,
+            _ => roots.push(word),
+        }
+    }
+    let [root] = roots.as_slice() else { return None };
+    Some(Asked { root: PathBuf::from(root), list, tests })
 }
 
 /// Says why the lint cannot tell.
@@ -40,8 +67,8 @@ struct Public {
     faults: Vec<String>,
 }
 
-/// Prints what was found.
-fn report(functions: &[Public], list: bool) -> ExitCode {
+/// Prints what was found in the functions, and in crates.txt.
+fn report(functions: &[Public], listed: &[String], list: bool) -> ExitCode {
     let place = |f: &Public| format!("{}:{}: {}", f.file.display(), f.line, f.name);
     for function in functions.iter().filter(|_| list) {
         println!("{}", place(function));
@@ -49,21 +76,25 @@ fn report(functions: &[Public], list: bool) -> ExitCode {
     for function in functions {
         function.faults.iter().for_each(|fault| println!("{}: {fault}", place(function)));
     }
+    listed.iter().for_each(|fault| println!("{fault}"));
     let short = functions.iter().filter(|f| !f.faults.is_empty()).count();
-    println!("lint: {} public functions, {short} fall short", functions.len());
-    ExitCode::from(u8::from(short > 0 || functions.is_empty()))
+    let rest = if listed.is_empty() { String::new() } else { format!("; faults in crates.txt: {}", listed.len()) };
+    println!("lint: {} public functions, {short} fall short{rest}", functions.len());
+    ExitCode::from(u8::from(short > 0 || functions.is_empty() || !listed.is_empty()))
 }
 
 /// The public functions of all library crates, by file and line.
-fn public_functions(root: &Path) -> Result<Vec<Public>, String> {
+fn public_functions(root: &Path, tests: &[String]) -> Result<Vec<Public>, String> {
     let mut found = Vec::new();
     for source in libraries(root)? {
+        let for_tests = tests.iter().any(|name| source == Path::new("crates").join(name).join("src"));
         let mut krate = Crate::default();
         krate.read(root, &source.join("lib.rt"), &source, None)?;
         for (item, reached) in krate.items.iter().zip(reach::reached(&krate)) {
             if let (Kind::Function(function), true) = (&item.kind, reached) {
                 let file = krate.modules[item.module].file.clone();
-                found.push(Public { file, line: item.line, name: item.name.clone(), faults: faults(function) });
+                let faults = faults(function, for_tests);
+                found.push(Public { file, line: item.line, name: item.name.clone(), faults });
             }
         }
     }
@@ -84,12 +115,15 @@ fn libraries(root: &Path) -> Result<Vec<PathBuf>, String> {
     Ok(found)
 }
 
-/// What the contract of a public function lacks.
-fn faults(function: &Function) -> Vec<String> {
+/// What the contract of a public function lacks; of one for tests alone, a `requires` is all that counts.
+fn faults(function: &Function, for_tests: bool) -> Vec<String> {
     let clauses = |wanted| function.clauses.iter().filter(move |(keyword, _)| keyword == wanted);
     let mut found = Vec::new();
     if clauses("requires").next().is_some() {
         found.push("has a `requires`".to_string());
+    }
+    if for_tests {
+        return found;
     }
     if clauses("ensures").next().is_none() {
         found.push("has no `ensures`".to_string());

@@ -272,6 +272,77 @@ fn method_is_reached_where_a_value_is_handed_out() {
     reaches("mod inner { impl Unknown { pub fn f(self) {} fn g(self) {} } }", &["Unknown::f"]);
 }
 
+// Libraries that are for tests alone.
+
+/// Two libraries: `a` in order, `t` with faults that a library for tests alone may have.
+const TWO: [(&str, &str); 2] = [
+    ("crates/a/src/lib.rt", "pub fn f() ensures { a } {}"),
+    ("crates/t/src/lib.rt", "pub fn read(out: &mut u8) ensures { a } {}\npub fn print() {}\n"),
+];
+
+/// Asserts what the lint prints, and that it fails, with `TWO` and another file and this crates.txt.
+#[track_caller]
+fn fails_listed(file: (&str, &str), crates: &str, tests: &str, printed: &str) {
+    let repo = Repo::new(&[TWO[0], TWO[1], file, ("crates.txt", crates)]);
+    assert_eq!(repo.lint(&["--tests", tests]), (1, printed.to_string(), String::new()));
+}
+
+#[test]
+fn library_for_tests_needs_no_ensures() {
+    let crates = ("crates.txt", "# Crates.\na:\n\nt: a io # and more\np: a t\n");
+    let repo = Repo::new(&[TWO[0], TWO[1], crates, ("crates/p/src/main.rt", "fn main() {}")]);
+    let passed = (0, "lint: 3 public functions, 0 fall short\n".to_string(), String::new());
+    assert_eq!(repo.lint(&["--tests", "t"]), passed);
+    let faults = "crates/t/src/lib.rt:1: read: `out` is lent by `&mut`, and no `ensures` names `out .exit`\n\
+        crates/t/src/lib.rt:2: print: has no `ensures`\nlint: 3 public functions, 2 fall short\n";
+    assert_eq!(repo.lint(&[]), (1, faults.to_string(), String::new()));
+    assert_eq!(repo.lint(&["--tests", "a"]).0, 1);
+}
+
+#[test]
+fn requires_of_a_library_for_tests_is_a_fault() {
+    let file = ("crates/u/src/lib.rt", "pub fn f(n: u8) requires { ⌜ n < 9 ⌝ } {}\n");
+    let printed = "crates/u/src/lib.rt:1: f: has a `requires`\nlint: 4 public functions, 1 fall short\n";
+    fails_listed(file, "a:\nt:\nu: t\n", "t,u", printed);
+}
+
+#[test]
+fn library_that_depends_on_one_for_tests_is_a_fault() {
+    let file = ("crates/b/src/lib.rt", "pub fn g() ensures { a } {}\n");
+    let printed = "crates.txt:3: b: depends on `t`, which is for tests alone\n\
+        lint: 4 public functions, 0 fall short; faults in crates.txt: 1\n";
+    fails_listed(file, "a:\nt:\nb: a t\n", "t", printed);
+}
+
+#[test]
+fn library_for_tests_that_is_not_listed_is_a_fault() {
+    let file = ("crates/p/src/main.rt", "fn main() {}");
+    let printed = "crates.txt: t: is named by `--tests`, and not listed\n\
+        lint: 3 public functions, 0 fall short; faults in crates.txt: 1\n";
+    fails_listed(file, "a:\n#t:\np: a # t\n", "t", printed);
+    let printed = "crates.txt: no: is named by `--tests`, and not listed\n\
+        crates.txt: : is named by `--tests`, and not listed\n\
+        lint: 3 public functions, 0 fall short; faults in crates.txt: 2\n";
+    fails_listed(file, "a:\nt:\np: t\n", "t,no,", printed);
+}
+
+#[test]
+fn program_for_tests_is_a_fault() {
+    let file = ("crates/p/src/main.rt", "fn main() {}");
+    let printed = "crates.txt:3: p: is named by `--tests`, and not a library\n\
+        lint: 3 public functions, 0 fall short; faults in crates.txt: 1\n";
+    fails_listed(file, "a:\nt:\np: t\n", "t,p", printed);
+}
+
+#[test]
+fn list_of_crates_that_cannot_be_read_is_refused() {
+    let refused = |repo: Repo, error: &str| {
+        assert_eq!(repo.lint(&["--tests", "t"]), (2, String::new(), format!("lint: crates.txt{error}\n")));
+    };
+    refused(Repo::new(&TWO), ": cannot be read: No such file or directory (os error 2)");
+    refused(Repo::new(&[TWO[0], TWO[1], ("crates.txt", "t:\na\n")]), ":2: expected NAME: DEP DEP ..");
+}
+
 // How text is read.
 
 #[test]
@@ -426,10 +497,11 @@ fn text_that_cannot_be_read_is_refused() {
 
 #[test]
 fn bad_usage_is_refused() {
-    let usage = (2, String::new(), "lint: usage: lint ROOT [--list]\n".to_string());
+    let usage = (2, String::new(), "lint: usage: lint ROOT [--list] [--tests NAME,..]\n".to_string());
     let repo = Repo::new(&[("crates/a/src/lib.rt", "pub fn f() ensures { a } {}")]);
     assert_eq!(run(&mut Command::new(env!("CARGO_BIN_EXE_lint"))), usage);
     assert_eq!(repo.lint(&["--lst"]), usage);
     assert_eq!(repo.lint(&["other"]), usage);
+    assert_eq!(repo.lint(&["--tests"]), usage);
     assert_eq!(repo.lint(&["--list"]).0, 0);
 }

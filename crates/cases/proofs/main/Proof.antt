@@ -6,13 +6,10 @@ use Rattle.cases.proofs.main.Tie as tie
 use lib.ListN.{length}
 
 abbrev Inv-loop : tie.InvT-loop
-Inv-loop buffer₀ cells₀ marks₀ script₀ turns₀ buffer cells marks script turns = (length buffer ≡ 1024) × ((length cells ≡ 15400) × (length marks ≡ 310))
+Inv-loop buffer₀ turns₀ buffer turns = length buffer ≡ 1024
 
 abbrev μ-loop : tie.MeasureT-loop
-μ-loop buffer₀ cells₀ marks₀ script₀ turns₀ buffer cells marks script turns = turns
-
-empty-requires : tie.Need-empty-requires Inv-loop μ-loop
-empty-requires c κs = search needs
+μ-loop buffer₀ turns₀ buffer turns = turns
 
 loop-holds : tie.Need-loop-holds Inv-loop μ-loop
 loop-holds c = search needs
@@ -26,23 +23,17 @@ read-line-requires c κs = search needs
 returns : tie.Need-returns Inv-loop μ-loop
 returns c = search needs
 
-sub-answer-line : tie.Need-sub-answer-line Inv-loop μ-loop
-sub-answer-line c = search needs
+sub-answer : tie.Need-sub-answer Inv-loop μ-loop
+sub-answer c = search needs
 
-part-answer-line-start : tie.Need-part-answer-line-start Inv-loop μ-loop
-part-answer-line-start c = search needs
+part-answer-start : tie.Need-part-answer-start Inv-loop μ-loop
+part-answer-start c = search needs
 
-part-answer-line-end : tie.Need-part-answer-line-end Inv-loop μ-loop
-part-answer-line-end c = search needs
+part-answer-end : tie.Need-part-answer-end Inv-loop μ-loop
+part-answer-end c = search needs
 
-slice-aggregate-answer-line : tie.Need-slice-aggregate-answer-line Inv-loop μ-loop
-slice-aggregate-answer-line c = search needs
-
-slice-aggregate-answer-line-2 : tie.Need-slice-aggregate-answer-line-2 Inv-loop μ-loop
-slice-aggregate-answer-line-2 c = search needs
-
-answer-line-requires : tie.Need-answer-line-requires Inv-loop μ-loop
-answer-line-requires c κs = search needs
+answer-requires : tie.Need-answer-requires Inv-loop μ-loop
+answer-requires c κs = search needs
 
 sub-turns : tie.Need-sub-turns Inv-loop μ-loop
 sub-turns c = search needs
@@ -62,17 +53,14 @@ main-spec =
     (tie.spec
     Inv-loop
     μ-loop
-    empty-requires
     loop-holds
     slice-aggregate-read-line
     read-line-requires
     returns
-    sub-answer-line
-    part-answer-line-start
-    part-answer-line-end
-    slice-aggregate-answer-line
-    slice-aggregate-answer-line-2
-    answer-line-requires
+    sub-answer
+    part-answer-start
+    part-answer-end
+    answer-requires
     sub-turns
     loop-less
     loop-again

@@ -155,6 +155,7 @@ mod tests {
     use super::*;
     use crate::answers;
     use crate::bulk::tally::Tally;
+    use crate::cases::tests::{words, SCRIPT_WORDS};
 
     #[test]
     fn a_seed_gives_the_same_piece() {
@@ -180,6 +181,13 @@ mod tests {
             );
             assert!(!script[1..].iter().any(|line| line.starts_with("lend ")));
         }
+    }
+
+    #[test]
+    fn every_word_of_the_scripts_comes_and_no_other() {
+        let scripts = piece(1, 300);
+        let lines = scripts.iter().flatten().map(String::as_str);
+        assert_eq!(words(lines), SCRIPT_WORDS.into());
     }
 
     #[test]

@@ -1,0 +1,234 @@
+// Every mix of two answers, played on a desk of its own.
+use crate::desk_told::opening_said;
+use crate::desk_told::reply_said;
+use crate::digest;
+use crate::memory::FRESH_BYTE;
+use crate::memory::FRESH_MARK;
+use desk::opening::open;
+use desk::reply::reply;
+use desk::state::Desk;
+use desk::state::SEATS;
+use desk::state::Seat;
+use desk::state::reset;
+use digits::byte_at;
+use digits::put_byte;
+use digits::put_number;
+use spelling::line;
+use spelling::print;
+ghost use Prim.Native.Nat.{_≤_};
+
+// What is lent for a mix.
+pub const MIX_BYTES: usize = 408;
+
+pub const MIX_MARKS: usize = 8;
+
+const REQUEST_A: [u8; 24] = *b"\x11R 100700000P000000000S\r";
+
+const REQUEST_B: [u8; 24] = *b"\x11R A00700000P000000000S\r";
+
+// A reply of A; its status stands at 5, its requester at 6, its bib at 12.
+const REPLY: [u8; 51] = *b"\x12R SOR10000700040000002000000P000000000000000000  \r";
+
+// How many mixes were played, and the number over all of them.
+struct Played {
+    mixes: u64,
+    sum: u64,
+}
+
+// The desk of a mix, how many replies of A and of B it was given, and the number so far.
+struct Mix {
+    desk: Desk,
+    row: [Seat; SEATS],
+    a: usize,
+    b: usize,
+    sum: u64,
+}
+
+pub fn playing(s: &[u8]) {
+    let b = letters(s, 2);
+    let p = play_all(s, b, letters(s, 1) + b);
+    print::pair(p.mixes, p.sum);
+    print::end_line();
+}
+
+// How many letters the k-th word has, four at most.
+fn letters(s: &[u8], k: usize) -> usize
+    ensures { λ r. ⌜ r ≤ 4 ⌝ }
+{
+    if line::is_word(s, k, b"-") {
+        return 0;
+    }
+    let w = line::nth_word(s, k);
+    let at = w.at;
+    let end = w.end;
+    if end < at {
+        return 0;
+    }
+    let n = end - at;
+    if n < 4 { n } else { 4 }
+}
+
+// The letter i of the k-th word; past its end 0.
+fn letter(s: &[u8], k: usize, i: usize) -> u8 {
+    let w = line::nth_word(s, k);
+    let at = w.at;
+    let end = w.end;
+    if end < at {
+        return 0;
+    }
+    if i < end - at {
+        return byte_at(s, at + i);
+    }
+    0
+}
+
+// Every mix of n letters, b of them B's. With eight letters at most their numbers are below 256.
+fn play_all(s: &[u8], b: usize, n: usize) -> Played
+    requires { ⌜ n ≤ 8 ⌝ }
+{
+    let mut p = Played {
+        mixes: 0,
+        sum: digest::START,
+    };
+    let mut m: u32 = 0;
+    while m < 256 {
+        p = play_if(p, s, b, n, m);
+        m += 1;
+    }
+    p
+}
+
+fn play_if(p: Played, s: &[u8], b: usize, n: usize, m: u32) -> Played
+    requires { ⌜ n ≤ 8 ⌝ }
+{
+    if is_mix(m, b, n) {
+        return Played {
+            mixes: p.mixes % 256 + 1,
+            sum: play(s, n, m, p.sum),
+        };
+    }
+    p
+}
+
+// No bit above n, and as many ones as B has letters.
+fn is_mix(m: u32, b: usize, n: usize) -> bool
+    requires { ⌜ n ≤ 8 ⌝ }
+{
+    (m >> n == 0) & (ones(m) as usize == b)
+}
+
+fn ones(m: u32) -> u32 {
+    u32::count_ones(m)
+}
+
+fn play(s: &[u8], n: usize, m: u32, sum: u64) -> u64
+    requires { ⌜ n ≤ 8 ⌝ }
+{
+    let mut cells = [FRESH_BYTE; MIX_BYTES];
+    let mut marks = [FRESH_MARK; MIX_MARKS];
+    let mut x = both_opened(sum, &cells, &marks);
+    let mut i: usize = 0;
+    while i < n {
+        let next = play_reply(x, s, (m >> i) % 2 == 1, &mut cells, &mut marks);
+        x = next;
+        i += 1;
+    }
+    take_mix(x, &cells, &marks)
+}
+
+fn both_opened(sum: u64, cells: &[u8], marks: &[u32]) -> Mix {
+    let empty = reset();
+    let desk = empty.desk;
+    let row = empty.row;
+    let x = Mix {
+        desk,
+        row,
+        a: 0,
+        b: 0,
+        sum,
+    };
+    let y = opened(x, &REQUEST_A, cells, marks);
+    opened(y, &REQUEST_B, cells, marks)
+}
+
+fn opened(x: Mix, frame: &[u8], cells: &[u8], marks: &[u32]) -> Mix {
+    let row = x.row;
+    let done = open(x.desk, row, cells, marks, frame);
+    let answer = done.answer;
+    let desk_after = done.desk;
+    let row_after = done.row;
+    Mix {
+        desk: desk_after,
+        row: row_after,
+        a: x.a,
+        b: x.b,
+        sum: digest::take_said(x.sum, opening_said(answer)),
+    }
+}
+
+// The next reply of A, or of B.
+fn play_reply(x: Mix, s: &[u8], of_b: bool, cells: &mut [u8], marks: &mut [u32]) -> Mix {
+    let a = x.a % 8;
+    let b = x.b % 8;
+    if of_b {
+        let frame = reply_with(letter(s, 2, b), 65, (30 - b) as u64);
+        return play_three(counted(x, a, b + 1), frame, cells, marks);
+    }
+    let frame = reply_with(letter(s, 1, a), 49, (40 - a) as u64);
+    play_three(counted(x, a + 1, b), frame, cells, marks)
+}
+
+fn counted(x: Mix, a: usize, b: usize) -> Mix {
+    let desk = x.desk;
+    let row = x.row;
+    Mix {
+        desk,
+        row,
+        a,
+        b,
+        sum: x.sum,
+    }
+}
+
+fn reply_with(status: u8, requester: u8, bib: u64) -> [u8; 51] {
+    let mut frame = REPLY;
+    put_byte(&mut frame, 5, status);
+    put_byte(&mut frame, 6, requester);
+    put_number(&mut frame, 12, 5, bib);
+    frame
+}
+
+// A stray, a damaged one, and the reply.
+fn play_three(x: Mix, frame: [u8; 51], cells: &mut [u8], marks: &mut [u32]) -> Mix {
+    let mut stray = frame;
+    put_byte(&mut stray, 6, 97);
+    let mut damaged = frame;
+    put_byte(&mut damaged, 50, 0);
+    let y = replied(x, &stray, cells, marks);
+    let z = replied(y, &damaged, cells, marks);
+    replied(z, &frame, cells, marks)
+}
+
+fn replied(x: Mix, frame: &[u8], cells: &mut [u8], marks: &mut [u32]) -> Mix {
+    let row = x.row;
+    let done = reply(x.desk, row, cells, marks, frame);
+    let answer = done.answer;
+    let desk_after = done.desk;
+    let row_after = done.row;
+    Mix {
+        desk: desk_after,
+        row: row_after,
+        a: x.a,
+        b: x.b,
+        sum: digest::take_said(x.sum, reply_said(answer)),
+    }
+}
+
+// All that a mix leaves behind.
+fn take_mix(x: Mix, cells: &[u8], marks: &[u32]) -> u64 {
+    let desk = x.desk;
+    let row = x.row;
+    let state = digest::take_small(digest::take(x.sum, desk.bits), desk.count);
+    let seats = digest::take_row(state, row);
+    digest::take_marks(digest::take_bytes(seats, cells), marks)
+}
