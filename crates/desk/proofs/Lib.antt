@@ -8,6 +8,7 @@ pub mod HeldLaws
 pub mod DeskLaws
 pub mod MixLaws
 pub mod AwaitedLaws
+pub mod Cases
 pub mod CaptureLaws
 pub mod KeepsLaws
 pub mod LeavesLaws

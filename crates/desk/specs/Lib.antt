@@ -9,4 +9,5 @@ pub mod Calls
 pub mod Keeps
 pub mod Capture
 pub mod Mix
+pub mod Cases
 pub mod Inside

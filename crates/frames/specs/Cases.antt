@@ -1,4 +1,4 @@
--- Twelve worked cases, with both sides of each line, as one statement over the definitions.
+-- Twelve worked cases, with both sides of each line, and each refusal of reading and writing by its number, as one statement over the definitions.
 use Prim.Native.Nat.{ℕ}
 use Prim.Native.String.{String}
 use mathlib.Core.List.{List, [], _∷_, _++_}
@@ -11,9 +11,9 @@ use Rattle.times.specs.Clock.{clock}
 use Rattle.times.specs.Running.{runningTime}
 use Rattle.frames.specs.declared.timing.Timing.{Timing}
 use Rattle.frames.specs.declared.timing.Timing.the-variants.{Clock, Net}
+use Rattle.frames.specs.declared.request.StaticRequest.{StaticRequest}
 use Rattle.frames.specs.declared.reply.StaticReply.{StaticReply}
-use Rattle.frames.specs.Refusals.{KIND, LENGTH, FIELD}
-use Rattle.frames.specs.Kind.{Kind, read}
+use Rattle.frames.specs.Kind.{Kind, read, wrongIn, writeTried}
 use Rattle.frames.specs.Request.{request}
 use Rattle.frames.specs.Reply.{reply}
 use Rattle.frames.specs.Dynamic.{dynamic}
@@ -22,14 +22,18 @@ use Rattle.frames.specs.Dynamic.{dynamic}
 abbrev pub Good : {R : Type 0} → Kind R → List ℕ → Type 0
 Good {R} k s = (r : R) × (read k s ≡ gives r)
 
--- a frame is turned away by FIELD with this offset
+-- a frame is turned away by FIELD, which is 5, with this offset
 abbrev pub FieldAt : {R : Type 0} → Kind R → List ℕ → ℕ → Type 0
-FieldAt k s at = read k s ≡ refuses FIELD at
+FieldAt k s at = read k s ≡ refuses 5 at
 
 -- a request with this requester, letter, channel and run
 abbrev pub asking : String → String → String → String → List ℕ
 asking requester letter channel run =
     17 ∷ (codes "R " ++ (codes requester ++ (codes "01200041" ++ (codes letter ++ (codes channel ++ (codes run ++ (codes "000S" ++ (13 ∷ []))))))))
+
+-- the record of such a request from A, with letter 1 and channel 255
+abbrev pub asked : ℕ → StaticRequest
+asked run = record { requester = 65; number = 12; bib = 41; information = 49; channel = 255; run = run; group = 0; output = 83 }
 
 -- a reply with this bib, channel, letter, time and date
 abbrev pub replying : String → String → String → String → String → List ℕ
@@ -78,12 +82,12 @@ pub record Worked : Type 0 where
   pub period-a : Good dynamic (running "a" "00041" "00000")
   pub period-A : FieldAt dynamic (running "A" "00041" "00000") 39
   -- 9. nothing, and a lead byte alone
-  pub empty-request : read request [] ≡ refuses KIND 0
-  pub empty-reply : read reply [] ≡ refuses KIND 0
-  pub empty-dynamic : read dynamic [] ≡ refuses KIND 0
-  pub lead-alone : read request (17 ∷ []) ≡ refuses LENGTH 0
-  pub lead-to-reply : read reply (17 ∷ []) ≡ refuses KIND 0
-  pub lead-to-dynamic : read dynamic (17 ∷ []) ≡ refuses KIND 0
+  pub empty-request : read request [] ≡ refuses 1 0
+  pub empty-reply : read reply [] ≡ refuses 1 0
+  pub empty-dynamic : read dynamic [] ≡ refuses 1 0
+  pub lead-alone : read request (17 ∷ []) ≡ refuses 2 0
+  pub lead-to-reply : read reply (17 ∷ []) ≡ refuses 1 0
+  pub lead-to-dynamic : read dynamic (17 ∷ []) ≡ refuses 1 0
   -- 10. a sign between Z and a
   pub bracket : FieldAt request (asking "[" "1" "255" "001") 3
   -- 11. the lowest running time
@@ -92,3 +96,10 @@ pub record Worked : Type 0 where
   pub bib-59999 : Good reply (replying "59999" "255" "1" "0001125400" "+0000000")
   pub bib-60000 : FieldAt reply (replying "60000" "255" "1" "0001125400" "+0000000") 12
   pub running-60000 : Good dynamic (running "A" "60000" "00001")
+  -- the refusals that no numbered case has: END, ADDRESS, RECORD with its offset, ROOM
+  pub line-feed : read request (17 ∷ (codes "R A012000411255001000S" ++ (10 ∷ []))) ≡ refuses 3 0
+  pub address-1 : read request (17 ∷ (codes "R1A012000411255001000S" ++ (13 ∷ []))) ≡ refuses 4 0
+  pub address-S : read reply (18 ∷ (codes "S SOEA000120004100000101525510001125400+0000000  " ++ (13 ∷ []))) ≡ refuses 4 0
+  pub record-251 : writeTried (wrongIn request (asked 251)) 24 24 ≡ refuses 6 16
+  pub room-23 : writeTried (wrongIn request (asked 250)) 24 23 ≡ refuses 7 0
+  pub room-24 : writeTried (wrongIn request (asked 250)) 24 24 ≡ gives tt

@@ -1,5 +1,5 @@
 -- Running time as a difference of two natural numbers. Assumes nothing.
-use mathlib.Core.Path.{_≡_, sym, ap, _∙_}
+use mathlib.Core.Path.{_≡_, refl, sym, ap, _∙_}
 use mathlib.Core.Bool.{true, false}
 use Prim.Native.Nat.{ℕ, _+_, _*_}
 use lib.IntN.{ℤ, pos, negℤ, subℕ, _+ℤ_, _-ℤ_, negℤ-+ℤ, negℤ-negℤ, +ℤ-assoc, +ℤ-comm}
@@ -7,7 +7,7 @@ use borrow.Author.Tests.{eq-eqb, ne-eqb}
 use Rattle.digits.specs.Told.{gives, refuses}
 use Rattle.times.specs.declared.running.RunningOf.{RunningOf}
 use Rattle.times.specs.Clock.{aDay}
-use Rattle.times.specs.Running.{TIME, inRange, runningTime}
+use Rattle.times.specs.Running.{TIME, inRange, runningTime, RunningWorked}
 use Rattle.times.proofs.SignedLaws.{pos-pos}
 
 take-plus : (n e m : ℕ) → (pos n -ℤ pos e) -ℤ pos m ≡ subℕ n (e + m)
@@ -33,3 +33,7 @@ module _ (o : RunningOf) where
     pub with-plus : (o .sign ≡ 1 → ⊥) → z ≡ subℕ (o .tnow) (o .tev + (o .days * aDay + o .time)) → gives z ≡ runningTime o
     unfolding runningTime
     with-plus m e = rw (good, ne-eqb (o .sign) 1 m) (ap gives (e ∙ sym (take-plus (o .tnow) (o .tev) (o .days * aDay + o .time))))
+
+pub running-worked : RunningWorked
+unfolding runningTime inRange
+running-worked = record { minus = refl; tnow = refl; tev = refl; tev-of-none = refl; sign = refl; days = refl; time = refl }
