@@ -170,7 +170,7 @@ emptyState = record { bits = 0; count = 0 }
 
 -- cells and marks stay
 abbrev pub emptied : Memory → Memory
-emptied m = record { row = emptyRow; bits = 0; count = 0; cells = m .cells; marks = m .marks }
+emptied m = record { row = emptyRow; bits = emptyState .bits; count = emptyState .count; cells = m .cells; marks = m .marks }
 
 -- refused only if the row is not of sixteen seats; it looks at nothing else
 unfoldable pub resets : Memory → Outcome

@@ -34,6 +34,7 @@ worked = record {
   replied-L = refl;
   period-a = (_, refl);
   period-A = refl;
+  period-B = refl;
   empty-request = refl;
   empty-reply = refl;
   empty-dynamic = refl;

@@ -81,6 +81,7 @@ pub record Worked : Type 0 where
   -- 8. no period
   pub period-a : Good dynamic (running "a" "00041" "00000")
   pub period-A : FieldAt dynamic (running "A" "00041" "00000") 39
+  pub period-B : FieldAt dynamic (running "B" "00041" "00000") 39
   -- 9. nothing, and a lead byte alone
   pub empty-request : read request [] ≡ refuses 1 0
   pub empty-reply : read reply [] ≡ refuses 1 0

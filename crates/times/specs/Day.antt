@@ -1,6 +1,8 @@
 -- The days of the years 2000 to 2099 by the Gregorian calendar.
 use Prim.Native.Nat.{ℕ, _%_}
-use mathlib.Core.Bool.{Bool, cond, not, _&&_, _||_}
+use mathlib.Core.List.{List, [], _∷_}
+use mathlib.Core.Bool.{Bool, true, false, cond, not, _&&_, _||_}
+use mathlib.Core.Path.{_≡_}
 use lib.Dec.{eqb, leb}
 
 -- every fourth year, but of the full centuries only every fourth
@@ -18,3 +20,23 @@ monthLength m y =
 
 unfoldable pub realDay : ℕ → ℕ → ℕ → Bool
 realDay d m y = leb 2000 y && leb y 2099 && leb 1 m && leb m 12 && leb 1 d && leb d (monthLength m y)
+
+-- the lengths of a year's months
+abbrev pub months : ℕ → List ℕ
+months y =
+    monthLength 1 y ∷ monthLength 2 y ∷ monthLength 3 y ∷ monthLength 4 y ∷ monthLength 5 y ∷ monthLength 6 y
+    ∷ monthLength 7 y ∷ monthLength 8 y ∷ monthLength 9 y ∷ monthLength 10 y ∷ monthLength 11 y ∷ monthLength 12 y ∷ []
+
+-- worked cases: a common year and two leap years, one of them a full century, and both sides of each limit
+pub record CalendarWorked : Type 0 where
+  pub of-2023 : months 2023 ≡ 31 ∷ 28 ∷ 31 ∷ 30 ∷ 31 ∷ 30 ∷ 31 ∷ 31 ∷ 30 ∷ 31 ∷ 30 ∷ 31 ∷ []
+  pub of-2020 : months 2020 ≡ 31 ∷ 29 ∷ 31 ∷ 30 ∷ 31 ∷ 30 ∷ 31 ∷ 31 ∷ 30 ∷ 31 ∷ 30 ∷ 31 ∷ []
+  pub of-2000 : months 2000 ≡ 31 ∷ 29 ∷ 31 ∷ 30 ∷ 31 ∷ 30 ∷ 31 ∷ 31 ∷ 30 ∷ 31 ∷ 30 ∷ 31 ∷ []
+  pub first-day : realDay 1 1 2000 ≡ true
+  pub last-day : realDay 31 12 2099 ≡ true
+  pub day-before : realDay 31 12 1999 ≡ false
+  pub day-after : realDay 1 1 2100 ≡ false
+  pub day-0 : realDay 0 1 2023 ≡ false
+  pub day-32 : realDay 32 1 2023 ≡ false
+  pub month-0 : realDay 1 0 2023 ≡ false
+  pub month-13 : realDay 1 13 2023 ≡ false
