@@ -1,17 +1,19 @@
 -- How long a list can be, and that its numbers are shown whole. Assumes nothing.
-use Prim.Native.Nat.{ℕ, zero, suc, _+_, _*_, _%_, _^_, _<_, _≤_}
+use Prim.Native.Nat.{ℕ, zero, suc, _+_, _*_, _/_, _%_, _^_, _<_, _≤_}
 use mathlib.Core.List.{List, [], _∷_, _++_}
 use mathlib.Core.Bool.{cond}
 use mathlib.Core.Path.{_≡_, refl, sym, ap, _∙_}
 use native.Mathlib.Omega.{arith}
+use native.Mathlib.Nat.{pow-suc}
 use native.Mathlib.Numerals.{add-one}
-use lib.ListN.{length, length-append, getD}
+use lib.ListN.{length, length-append, getD, List·getD-append}
 use lib.Dec.{eqb, ltb}
 use borrow.Author.Tests.{lt-ltb, ltb-true, ltb-false, eqb-true, eqb-false, ne-eqb, le-ltb}
 use Rattle.digits.specs.Text.{codes}
 use Rattle.digits.specs.declared.Number.the-variants.{Is}
 use Rattle.digits.specs.Digits.{digits, numberAt}
 use Rattle.digits.proofs.Forms.{number-back}
+use Rattle.digits.proofs.Writing.{length-digits}
 use Rattle.finder.specs.Leads.{isLead}
 use Rattle.finder.specs.Demands.{count}
 use Rattle.desk.specs.declared.capture.Counts.{Counts}
@@ -47,42 +49,38 @@ reads-whole n l =
     let w = width-some n in
     number-back (width n) n (w .0) (omega (arith, w .1)) (width-holds n l)
 
--- a first digit 0 is the whole number, or there is none: two digits and more show no number below ten
-one-digit : (n : ℕ) → n < 10 → getD (digits 1 n) 0 0 ≡ 48 → digits 1 n ≡ 48 ∷ []
+-- a number whose first digit is 0 has a digit too many
+first-zero : (w n : ℕ) → n < 10 ^ suc w → getD (digits (suc w) n) 0 0 ≡ 48 → n < 10 ^ w
 unfolding digits
-one-digit n l z = let h : n % 10 ≡ 0 = omega (arith, z) in rw h
-
-two-digits : (n : ℕ) → 10 ≤ n → n < 100 → getD (digits 2 n) 0 0 ≡ 48 → ⊥
-unfolding digits
-two-digits n m l z = omega (arith, z)
-
-three-digits : (n : ℕ) → 100 ≤ n → n < 1000 → getD (digits 3 n) 0 0 ≡ 48 → ⊥
-unfolding digits
-three-digits n m l z = omega (arith, z)
-
-four-digits : (n : ℕ) → 1000 ≤ n → n < 10000 → getD (digits 4 n) 0 0 ≡ 48 → ⊥
-unfolding digits
-four-digits n m l z = omega (arith, z)
-
-five-digits : (n : ℕ) → 10000 ≤ n → n < 100000 → getD (digits 5 n) 0 0 ≡ 48 → ⊥
-unfolding digits
-five-digits n m l z = omega (arith, z)
+first-zero zero n l z = omega (arith, z)
+first-zero (suc w) n l z =
+    let p = pow-suc 10 (suc w) in
+    let q = pow-suc 10 w in
+    let e = List·getD-append (digits (suc w) (n / 10)) ((48 + n % 10) ∷ []) 0 0 (omega (arith, length-digits (suc w) (n / 10))) in
+    let h = first-zero w (n / 10) (omega (arith, l, p)) (sym e ∙ z) in
+    omega (arith, h, q)
 
 plain-whole : (n : ℕ) → n < 100000 → getD (decimal n) 0 0 ≡ 48 → decimal n ≡ 48 ∷ []
-unfolding decimal width
+unfolding decimal width digits
 plain-whole n l z =
     by-test (ltb n 10)
-    (λ a. let w : width n ≡ 1 = rw a in rw w (one-digit n (ltb-true n 10 a) (first w)))
+    (λ a. let w : width n ≡ 1 = rw a in let h : n ≡ 0 = small (first-zero 0 n (ltb-true n 10 a) (first w)) in rw (w, h))
     (λ a. by-test (ltb n 100)
-    (λ b. let w : width n ≡ 2 = rw (a, b) in absurd (two-digits n (ltb-false n 10 a) (ltb-true n 100 b) (first w)))
+    (λ b. let w : width n ≡ 2 = rw (a, b) in absurd (apart (ltb-false n 10 a) (first-zero 1 n (ltb-true n 100 b) (first w))))
     (λ b. by-test (ltb n 1000)
-    (λ c. let w : width n ≡ 3 = rw (a, b, c) in absurd (three-digits n (ltb-false n 100 b) (ltb-true n 1000 c) (first w)))
+    (λ c. let w : width n ≡ 3 = rw (a, b, c) in absurd (apart (ltb-false n 100 b) (first-zero 2 n (ltb-true n 1000 c) (first w))))
     (λ c. by-test (ltb n 10000)
-    (λ d. let w : width n ≡ 4 = rw (a, b, c, d) in absurd (four-digits n (ltb-false n 1000 c) (ltb-true n 10000 d) (first w)))
-    (λ d. let w : width n ≡ 5 = rw (a, b, c, d) in absurd (five-digits n (ltb-false n 10000 d) l (first w))))))
+    (λ d. let w : width n ≡ 4 = rw (a, b, c, d) in absurd (apart (ltb-false n 1000 c) (first-zero 3 n (ltb-true n 10000 d) (first w))))
+    (λ d. let w : width n ≡ 5 = rw (a, b, c, d) in absurd (apart (ltb-false n 10000 d) (first-zero 4 n l (first w)))))))
   where
     first : {w : ℕ} → width n ≡ w → getD (digits w n) 0 0 ≡ 48
     first e = sym (ap (λ k. getD (digits k n) 0 0) e) ∙ z
+
+    apart : {m : ℕ} → m ≤ n → n < m → ⊥
+    apart p q = omega (arith, p, q)
+
+    small : n < 1 → n ≡ 0
+    small p = omega (arith, p)
 
 whole : (n : ℕ) → n < 100000 → Whole n
 whole n l = record { reads = rw (decimal-length n) (reads-whole n l); plain = plain-whole n l }
