@@ -31,6 +31,7 @@ worked = record {
   stray = refl;
   taken = refl;
   ended = refl;
+  ended-by-Z = refl;
   out-of-place = refl;
   full = refl;
 }

@@ -46,5 +46,6 @@ pub record Worked : Type 0 where
   pub stray : replies bare (replying "R") .answer ≡ refuses 13 0
   pub taken : replies asked (replying "R") .answer ≡ gives 0
   pub ended : replies (replies asked (replying "E") .after) (replying "R") .answer ≡ refuses 14 0
+  pub ended-by-Z : replies (replies asked (replying "Z") .after) (replying "R") .answer ≡ refuses 14 0
   pub out-of-place : replies (replies asked (replying "R") .after) (replying "Z") .answer ≡ refuses 15 0
   pub full : replies (replies (replies asked (replying "R") .after) (replying "R") .after) (replying "R") .answer ≡ refuses 16 0
