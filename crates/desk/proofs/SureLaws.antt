@@ -3,7 +3,6 @@ use Prim.Native.Nat.{ℕ}
 use mathlib.Core.List.{List}
 use mathlib.Core.Bool.{Bool, true, false, cond, not}
 use mathlib.Core.Path.{refl}
-use native.Mathlib.Omega.{arith}
 use lib.Dec.{eqb, ltb, leb}
 use Rattle.digits.specs.Told.{Told, gives, refuses, Sure}
 use Rattle.digits.proofs.Sure.{sure-number, sure-gives, sure-tried}
@@ -46,42 +45,42 @@ sure-taken m f (refuses n o) s = sure-number n o (s n o refl)
 sure-key : (row : List Seat) (bits : ℕ) (k : Key) → Sure (keyTried row bits k)
 unfolding keyTried
 sure-key row bits k =
-    sure-tried (leb seatCount (seatWith row bits k)) IN-USE 0 _ (omega arith)
-    (sure-tried (ltb (lowestClear bits) seatCount) NO-SEAT 0 _ (omega arith)
+    sure-tried (leb seatCount (seatWith row bits k)) IN-USE 0 _ (λ _. refl)
+    (sure-tried (ltb (lowestClear bits) seatCount) NO-SEAT 0 _ (λ _. refl)
     (sure-gives (record { seat = lowestClear bits; key = k })))
 
 sure-request : (row : List Seat) (bits : ℕ) (r : StaticRequest) → Sure (requestTried row bits r)
 unfolding requestTried
-sure-request row bits r = sure-tried (not (eqb (r .information) letterQ)) NO-ANSWER-DUE 0 _ (omega arith) (sure-key row bits (requestKey r))
+sure-request row bits r = sure-tried (not (eqb (r .information) letterQ)) NO-ANSWER-DUE 0 _ (λ _. refl) (sure-key row bits (requestKey r))
 
 sure-seat : (s : Seat) (free : Bool) (t : Taking) → Sure (seatTried s free t)
 unfolding seatTried
 sure-seat s free t =
-    sure-tried (not (over s)) ENDED 0 _ (omega arith)
-    (sure-tried (inPlace (s .held) (t .status)) OUT-OF-PLACE 0 _ (omega arith)
-    (sure-tried free FULL 0 _ (omega arith)
+    sure-tried (not (over s)) ENDED 0 _ (λ _. refl)
+    (sure-tried (inPlace (s .held) (t .status)) OUT-OF-PLACE 0 _ (λ _. refl)
+    (sure-tried free FULL 0 _ (λ _. refl)
     (sure-gives t)))
 
 sure-call : (row : List Seat) (bits : ℕ) (free : Bool) (c : Call) → Sure (callTried row bits free c)
 unfolding callTried
-sure-call row bits free c = sure-tried (ltb (seatWith row bits (c .key)) seatCount) STRAY 0 _ (omega arith) (sure-seat _ free _)
+sure-call row bits free c = sure-tried (ltb (seatWith row bits (c .key)) seatCount) STRAY 0 _ (λ _. refl) (sure-seat _ free _)
 
 pub sure-opens : (m : Memory) (f : List ℕ) → Sure (opens m f .answer)
 unfolding opens openTried
 sure-opens m f =
     sure-opened m (openTried m f)
-    (sure-tried (isDesk m) DESK 0 _ (omega arith) (sure-given (read request f) (requestTried (m .row) (m .bits)) (sure-read request f) (sure-request (m .row) (m .bits))))
+    (sure-tried (isDesk m) DESK 0 _ (λ _. refl) (sure-given (read request f) (requestTried (m .row) (m .bits)) (sure-read request f) (sure-request (m .row) (m .bits))))
 
 pub sure-replies : (m : Memory) (f : List ℕ) → Sure (replies m f .answer)
 unfolding replies replyTried heard
 sure-replies m f =
     let free = ltb (m .count) (capacity m) in
     sure-taken m f (replyTried m f)
-    (sure-tried (isDesk m) DESK 0 _ (omega arith) (sure-given (heard f) (callTried (m .row) (m .bits) free) (sure-called (read reply f) (sure-read reply f)) (sure-call (m .row) (m .bits) free)))
+    (sure-tried (isDesk m) DESK 0 _ (λ _. refl) (sure-given (heard f) (callTried (m .row) (m .bits) free) (sure-called (read reply f) (sure-read reply f)) (sure-call (m .row) (m .bits) free)))
 
 sure-reset : (b : Bool) (m : Memory) → Sure (cond {A = Outcome} b (record { answer = gives 0; after = emptied m }) (record { answer = refuses DESK 0; after = m }) .answer)
 sure-reset true m = sure-gives 0
-sure-reset false m = sure-number DESK 0 (omega arith)
+sure-reset false m = sure-number DESK 0 refl
 
 pub sure-resets : (m : Memory) → Sure (resets m .answer)
 unfolding resets

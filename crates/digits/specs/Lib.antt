@@ -2,3 +2,4 @@ pub mod Digits
 pub mod Form
 pub mod Text
 pub mod Told
+pub mod Once

@@ -1,8 +1,8 @@
 -- What is tried before the fields, and what is tried before a frame is written, test by test. Assumes nothing.
 use Prim.Native.Nat.{ℕ, _-_, _≤_, _<_}
 use mathlib.Core.List.{List, [], _∷_}
-use mathlib.Core.Bool.{Bool, true, false, _&&_}
-use mathlib.Core.Path.{_≡_, refl, sym}
+use mathlib.Core.Bool.{Bool, true, false, not, _&&_}
+use mathlib.Core.Path.{_≡_, refl, sym, ap}
 use native.Mathlib.Omega.{arith}
 use lib.Dec.{eqb}
 use lib.ListN.{length, getD}
@@ -34,17 +34,17 @@ sure-then (refuses n o) rest s s′ = sure-number n o (s n o refl)
 sure-head : (lead size : ℕ) (s : List ℕ) → Sure (headTold lead size s)
 unfolding headTold
 sure-head lead size s =
-    sure-tried (leadIs lead s) KIND 0 _ (omega arith)
-    (sure-tried (eqb (length s) size) LENGTH 0 _ (omega arith)
-    (sure-tried (eqb (getD s (size - 1) 0) CR) END 0 _ (omega arith)
-    (sure-tried (eqb (getD s 1 0) letterR && isAddress (getD s 2 0)) ADDRESS 0 _ (omega arith)
+    sure-tried (leadIs lead s) KIND 0 _ (λ _. refl)
+    (sure-tried (eqb (length s) size) LENGTH 0 _ (λ _. refl)
+    (sure-tried (eqb (getD s (size - 1) 0) CR) END 0 _ (λ _. refl)
+    (sure-tried (eqb (getD s 1 0) letterR && isAddress (getD s 2 0)) ADDRESS 0 _ (λ _. refl)
     (sure-gives tt))))
 
 pub sure-read : {R : Type 0} (k : Kind R) (s : List ℕ) → Sure (read k s)
 unfolding read
 sure-read k s =
     let wrong = firstWrong (k .fields) 3 s in
-    sure-then (headTold (k .lead) (k .size) s) _ (sure-head (k .lead) (k .size) s) (sure-tried (eqb wrong 0) FIELD wrong _ (omega arith) (sure-gives (k .ofValues (values (k .fields) 3 s))))
+    sure-then (headTold (k .lead) (k .size) s) _ (sure-head (k .lead) (k .size) s) (sure-tried (eqb wrong 0) FIELD wrong _ (λ e. ap not e) (sure-gives (k .ofValues (values (k .fields) 3 s))))
 
 -- ---- the head of a frame
 

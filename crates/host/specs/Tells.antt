@@ -1,4 +1,4 @@
--- What is demanded of the numbers: 0 exactly if the call was done, and no two answers have the same numbers.
+-- What is demanded of the numbers: 0 exactly if the call was done, otherwise one of the table, with an offset just at 5 and 6; and no two answers have the same numbers.
 use Prim.Native.Nat.{ℕ}
 use mathlib.Core.List.{List}
 use mathlib.Core.Path.{_≡_}
