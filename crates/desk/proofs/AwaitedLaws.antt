@@ -17,9 +17,10 @@ use Rattle.desk.specs.Seats.{seatAt, usedBit, keyed, keyedAt, seatWith}
 use Rattle.desk.specs.Memory.{Memory}
 use Rattle.desk.specs.Mix.{Event, toOpen, toReply, addressed, framesTo, seated, expected, repliesTo, awaited, RepliesAreAwaited}
 use Rattle.digits.proofs.Tests.{by-test}
-use Rattle.desk.proofs.Below.{and-false-r, count-none, count-one}
+use Rattle.desk.proofs.Below.{and-false-r, count-ext, count-none, count-one}
 use Rattle.desk.proofs.TestLaws.{Facts, desk-facts}
 use Rattle.desk.proofs.StepLaws.{found-keyed, fresh-below}
+use Rattle.desk.proofs.RuleLaws.{addressed-heard}
 use Rattle.desk.proofs.MixLaws.{one-seat}
 
 module _ (m : Memory) where
@@ -62,7 +63,7 @@ module _ (m : Memory) where
   one-own : Facts m → (e : Event) → countBelow seatCount (own e) ≡ cond (expected m e) 1 0
   unfolding addressed
   one-own d (toOpen f) = count-none seatCount _ (λ k l. and-false-r (usedBit (m .bits) k) refl)
-  one-own d (toReply f) = one-call d (heard f)
+  one-own d (toReply f) = count-ext seatCount (own (toReply f)) (ownCall (heard f)) (λ i l. rw (addressed-heard (seatKey (seatAt (m .row) i)) f)) ∙ one-call d (heard f)
 
   all-awaited : Facts m → (es : List Event) → repliesTo m es ≡ awaited m es seatCount
   unfolding repliesTo

@@ -137,6 +137,22 @@ count-one (suc n) s p l t u =
     (λ e. let y : p n ≡ true = sym (ap p e) ∙ t in
     rw y (ap suc (count-none n p (λ k j. false-or (p k) (λ q. let g = u k (omega arith) q in omega arith)))))
 
+-- a test that turns from false to true at one place
+pub count-turned : (n s : ℕ) (p q : ℕ → Bool) → s < n → p s ≡ false → q s ≡ true → ((k : ℕ) → (k ≡ s → ⊥) → q k ≡ p k) → countBelow n q ≡ countBelow n p + 1
+unfolding countBelow
+count-turned zero s p q l a b e = absurd (omega arith)
+count-turned (suc n) s p q l a b e =
+    below-case s n l
+    (λ h.
+    let ih = count-turned n s p q h a b e in
+    let same = e n (λ g. omega (arith, g, h)) in
+    by-test (p n) (λ c. rw (same, c) (omega (arith, ih))) (λ c. rw (same, c) (omega (arith, ih))))
+    (λ h.
+    let rest = count-ext n q p (λ k i. e k (λ g. omega (arith, g, h, i))) in
+    let x : p n ≡ false = sym (ap p h) ∙ a in
+    let y : q n ≡ true = sym (ap q h) ∙ b in
+    rw (x, y) (omega (arith, rest)))
+
 first-most : (n : ℕ) (p : ℕ → Bool) → first n p ≤ n
 unfolding first
 first-most zero p = omega arith

@@ -114,10 +114,10 @@ record More (c d : Counts) (fate : Fate) : Type 0 where
   one : d .opened + d .collected + d .dynamic + d .refused ≡ c .opened + c .collected + c .dynamic + c .refused + 1
 
 more-than : (c : Counts) (fate : Fate) → More c (oneMore c fate) fate
-more-than c Opened = record { opened = refl; collected = omega arith; dynamic = omega arith; refused = omega arith; one = omega arith }
-more-than c Collected = record { opened = omega arith; collected = refl; dynamic = omega arith; refused = omega arith; one = omega arith }
-more-than c Dynamic = record { opened = omega arith; collected = omega arith; dynamic = refl; refused = omega arith; one = omega arith }
-more-than c Refused = record { opened = omega arith; collected = omega arith; dynamic = omega arith; refused = refl; one = omega arith }
+more-than c Opened = record { opened = omega arith; collected = omega arith; dynamic = omega arith; refused = omega arith; one = omega arith }
+more-than c Collected = record { opened = omega arith; collected = omega arith; dynamic = omega arith; refused = omega arith; one = omega arith }
+more-than c Dynamic = record { opened = omega arith; collected = omega arith; dynamic = omega arith; refused = omega arith; one = omega arith }
+more-than c Refused = record { opened = omega arith; collected = omega arith; dynamic = omega arith; refused = omega arith; one = omega arith }
 
 module _ (m₀ : Memory) (s : List ℕ) (at : ℕ) (m : Memory) (c : Counts) (g : Going m₀ s at m c) where
   module _ (none : piecesFrom s at ≡ []) where

@@ -12,11 +12,11 @@ use Rattle.desk.specs.Below.{allBelow, countBelow, first}
 use Rattle.desk.specs.Key.{sameKey, isKey}
 use Rattle.desk.specs.Call.{heard, ends, inPlace}
 use Rattle.desk.specs.Seats.{keyed, seatWith, lowestClear}
-use Rattle.desk.specs.Memory.{capacityOf}
+use Rattle.desk.specs.Memory.{capacityOf, recordsOf}
 use Rattle.desk.specs.Desk.{isZero, markNames, lastEnds, isDesk}
 use Rattle.desk.specs.Calls.{keyTried, requestTried, openTried, opens, seatTried, callTried, replyTried, replies}
-use Rattle.desk.specs.Mix.{run}
-use Rattle.desk.specs.Cases.{Worked}
+use Rattle.desk.specs.Mix.{run, repliesTo}
+use Rattle.desk.specs.Cases.{Worked, MixWorked}
 
 pub worked : Worked
 unfolding numberAt numberFrom oneOf between upTo isRaw isRequester isOutput firstWrong values headTold read timingKind timeAndDate timed Q.isInformation Q.isChannel Q.requestFields P.isStatus P.isLetter P.isChannel P.leastRun P.replyFields allBelow countBelow first sameKey isKey heard ends inPlace keyed seatWith lowestClear capacityOf isZero markNames lastEnds isDesk keyTried requestTried openTried opens seatTried callTried replyTried replies run
@@ -35,3 +35,7 @@ worked = record {
   out-of-place = refl;
   full = refl;
 }
+
+pub mix-worked : MixWorked
+unfolding numberAt numberFrom oneOf between upTo isRaw isRequester isOutput firstWrong values headTold read timingKind timeAndDate timed Q.isInformation Q.isChannel Q.requestFields P.isStatus P.isLetter P.isChannel P.leastRun P.replyFields allBelow countBelow first sameKey isKey heard ends inPlace keyed seatWith lowestClear capacityOf isZero markNames lastEnds isDesk keyTried requestTried openTried opens seatTried callTried replyTried replies run repliesTo recordsOf
+mix-worked = record { answers = refl; marks = refl; count = refl; bits = refl; seats = refl; held-by-1 = refl; held-by-A = refl; held-by-z = refl; bound = refl }

@@ -1,4 +1,4 @@
--- A capture holds a cell more for each reply that it collects. Assumes nothing.
+-- A capture holds a cell more for each reply that it collects, and has a seat more in use for each request that it opens. Assumes nothing.
 use Prim.Native.Nat.{ℕ, suc, _+_}
 use mathlib.Core.List.{List, [], _∷_}
 use mathlib.Core.Bool.{Bool, true, false, cond}
@@ -13,13 +13,38 @@ use Rattle.frames.specs.declared.dynamic.DynamicRequest.{DynamicRequest}
 use Rattle.finder.specs.Pieces.{Piece, whole, cut}
 use Rattle.desk.specs.declared.opening.Opening.{Opening}
 use Rattle.desk.specs.declared.reply.Taking.{Taking}
+use Rattle.desk.specs.declared.capture.Fate.{Fate}
 use Rattle.desk.specs.declared.capture.Fate.the-variants.{Opened, Collected}
+use Rattle.desk.specs.Seats.{usedBit}
 use Rattle.desk.specs.Memory.{Memory}
-use Rattle.desk.specs.Calls.{openTried, openOutcome, opens, replyTried, replyOutcome, replies}
-use Rattle.desk.specs.Capture.{fateBy, dynamicFate, meets, meetsPiece, fates, afterAll, isCollected, howMany}
+use Rattle.desk.specs.Calls.{openTried, openOutcome, opens, opened, replyTried, replyOutcome, replies, seatsInUse}
+use Rattle.desk.specs.Capture.{fateBy, dynamicFate, meets, meetsPiece, fates, afterAll, isOpened, isCollected, howMany}
+use Rattle.desk.proofs.Below.{count-turned}
+use Rattle.desk.proofs.StepLaws.{Opens, opens-taken}
+use Rattle.desk.proofs.DeskLaws.{opened-bit, other-bit}
 use Rattle.digits.proofs.Tests.{by-test}
 
--- one frame
+-- ---- what grows by one with each frame of a fate
+
+module _ (size : Memory → ℕ) (test : Fate → Bool) (one : (m : Memory) (p : Piece) → size (meetsPiece m p .after) ≡ size m + cond (test (meetsPiece m p .fate)) 1 0) where
+  more : (b : Bool) (n h : ℕ) → n + cond b 1 0 + h ≡ n + cond b (suc h) h
+  more true n h = omega arith
+  more false n h = omega arith
+
+  grows : (m : Memory) (ps : List Piece) → size (afterAll m ps) ≡ size m + howMany test (fates m ps)
+  unfolding afterAll fates howMany
+  grows m [] = omega arith
+  grows m (p ∷ ps) =
+      let after = meetsPiece m p .after in
+      let h = howMany test (fates after ps) in
+      let b = test (meetsPiece m p .fate) in
+      let x = grows after ps in
+      let y = one m p in
+      let z = more b (size m) h in
+      x ∙ (let w : size after + h ≡ size m + cond b 1 0 + h = omega (arith, y) in w) ∙ z
+
+-- ---- a cell more for each reply that it collects
+
 open-cells : (m : Memory) (t : Told Opening) → openOutcome m t .after .count ≡ m .count + cond (isCollected (fateBy Opened (openOutcome m t .answer))) 1 0
 open-cells m (gives o) = omega arith
 open-cells m (refuses number offset) = omega arith
@@ -43,19 +68,40 @@ piece-cells : (m : Memory) (p : Piece) → meetsPiece m p .after .count ≡ m .c
 piece-cells m (whole a f) = meets-cells m f
 piece-cells m (cut a f) = omega arith
 
-more : (b : Bool) (n h : ℕ) → n + cond b 1 0 + h ≡ n + cond b (suc h) h
-more true n h = omega arith
-more false n h = omega arith
-
 -- all frames
 pub all-cells : (m : Memory) (ps : List Piece) → afterAll m ps .count ≡ m .count + howMany isCollected (fates m ps)
-unfolding afterAll fates howMany
-all-cells m [] = omega arith
-all-cells m (p ∷ ps) =
-    let after = meetsPiece m p .after in
-    let h = howMany isCollected (fates after ps) in
-    let b = isCollected (meetsPiece m p .fate) in
-    let x = all-cells after ps in
-    let y = piece-cells m p in
-    let z = more b (m .count) h in
-    x ∙ (let w : after .count + h ≡ m .count + cond b 1 0 + h = omega (arith, y) in w) ∙ z
+all-cells = grows (λ (m : Memory). m .count) isCollected piece-cells
+
+-- ---- and a seat more for each request that it opens
+
+more-seats : (m : Memory) (f : List ℕ) (o : Opening) → Opens m f o → seatsInUse (opened m o .bits) ≡ seatsInUse (m .bits) + 1
+unfolding seatsInUse
+more-seats m f o k =
+    let l = k .below in
+    count-turned 64 (o .seat) (usedBit (m .bits)) (usedBit (opened m o .bits)) (omega (arith, l)) (k .clear) (opened-bit m f o k) (λ i n. other-bit m f o k i n)
+
+open-seats : (m : Memory) (f : List ℕ) (t : Told Opening) → openTried m f ≡ t → seatsInUse (openOutcome m t .after .bits) ≡ seatsInUse (m .bits) + cond (isOpened (fateBy Opened (openOutcome m t .answer))) 1 0
+open-seats m f (gives o) e = more-seats m f o (opens-taken m f o e)
+open-seats m f (refuses number offset) e = omega arith
+
+reply-seats : (m : Memory) (f : List ℕ) (t : Told Taking) → seatsInUse (replyOutcome m f t .after .bits) ≡ seatsInUse (m .bits) + cond (isOpened (fateBy Collected (replyOutcome m f t .answer))) 1 0
+reply-seats m f (gives t) = omega arith
+reply-seats m f (refuses number offset) = omega arith
+
+dynamic-seats : (m : Memory) (t : Told DynamicRequest) → seatsInUse (m .bits) ≡ seatsInUse (m .bits) + cond (isOpened (dynamicFate t)) 1 0
+dynamic-seats m (gives r) = omega arith
+dynamic-seats m (refuses number offset) = omega arith
+
+meets-seats : (m : Memory) (f : List ℕ) → seatsInUse (meets m f .after .bits) ≡ seatsInUse (m .bits) + cond (isOpened (meets m f .fate)) 1 0
+unfolding meets opens replies
+meets-seats m f =
+    by-test (eqb (getD f 0 0) 17)
+    (λ e. rw e (open-seats m f (openTried m f) refl))
+    (λ e. by-test (eqb (getD f 0 0) 18) (λ g. rw (e, g) (reply-seats m f (replyTried m f))) (λ g. rw (e, g) (dynamic-seats m (read dynamic f))))
+
+piece-seats : (m : Memory) (p : Piece) → seatsInUse (meetsPiece m p .after .bits) ≡ seatsInUse (m .bits) + cond (isOpened (meetsPiece m p .fate)) 1 0
+piece-seats m (whole a f) = meets-seats m f
+piece-seats m (cut a f) = omega arith
+
+pub all-seats : (m : Memory) (ps : List Piece) → seatsInUse (afterAll m ps .bits) ≡ seatsInUse (m .bits) + howMany isOpened (fates m ps)
+all-seats = grows (λ (m : Memory). seatsInUse (m .bits)) isOpened piece-seats

@@ -1,18 +1,23 @@
 -- What a call leaves as it was. Assumes nothing.
 use Prim.Native.Nat.{ℕ, _+_, _*_, _-_, _<_, _≤_}
-use mathlib.Core.List.{List, _++_}
+use mathlib.Core.List.{List, [], _++_}
+use mathlib.Core.Bool.{Bool, true, false, cond}
 use mathlib.Core.Path.{_≡_, refl, sym, ap, _∙_}
 use native.Mathlib.Omega.{arith}
 use lib.ListN.{length, getD, take, drop, length-set, length-append}
 use lib.Seq.{getD-append-add, getD-drop, getD-take, getD-set-other, take-at, length-take-le}
-use Rattle.digits.specs.Told.{Told, gives, refuses}
+use Rattle.digits.specs.Told.{Told, gives, refuses, tried}
+use Rattle.finder.specs.Pieces.{pieces}
 use Rattle.desk.specs.declared.opening.Opening.{Opening}
 use Rattle.desk.specs.declared.reply.Taking.{Taking}
 use Rattle.desk.specs.Memory.{Memory, markAt}
-use Rattle.desk.specs.Calls.{openTried, opens, withCell, replyTried, replies}
-use Rattle.desk.specs.Keeps.{KeepsMemory}
-use Rattle.desk.proofs.StepLaws.{took, took-room}
-use Rattle.desk.proofs.DeskLaws.{length-with}
+use Rattle.desk.specs.declared.capture.Counts.{Counts}
+use Rattle.desk.specs.Desk.{isDesk, sixteenSeats}
+use Rattle.desk.specs.Calls.{DESK, Outcome, openTried, opens, withCell, replyTried, replies, emptied, resets}
+use Rattle.desk.specs.Capture.{fates, afterAll, countsOf}
+use Rattle.desk.specs.Keeps.{RefusedKeeps, SameSeat, KeepsMemory}
+use Rattle.desk.proofs.StepLaws.{took, took-room, opens-taken}
+use Rattle.desk.proofs.DeskLaws.{length-with, taken-other, records-other, opened-other, other-bit}
 use Rattle.desk.proofs.MixLaws.{after-taken, after-refused, after-opened, after-not-opened}
 
 getD-front : (a r : List ℕ) (j : ℕ) → j < length a → getD (a ++ r) j 0 ≡ getD a j 0
@@ -46,6 +51,10 @@ module _ (m : Memory) (f : List ℕ) where
   not-opened number offset h (gives o) e = not-both (o .seat) number offset (rw (after-opened m f o e) at h)
   not-opened number offset h (refuses n o) e = rw (after-not-opened m f n o e)
 
+  lends-count : (a : Told Opening) → openTried m f ≡ a → opens m f .after .count ≡ m .count
+  lends-count (gives o) e = rw (after-opened m f o e)
+  lends-count (refuses n o) e = rw (after-not-opened m f n o e)
+
   lends-cells : (a : Told Opening) → openTried m f ≡ a → opens m f .after .cells ≡ m .cells
   lends-cells (gives o) e = rw (after-opened m f o e)
   lends-cells (refuses n o) e = rw (after-not-opened m f n o e)
@@ -59,6 +68,10 @@ module _ (m : Memory) (f : List ℕ) where
   not-taken : (number offset : ℕ) → replies m f .answer ≡ refuses number offset → (a : Told Taking) → replyTried m f ≡ a → replies m f .after ≡ m
   not-taken number offset h (gives t) e = not-both (t .seat) number offset (rw (after-taken m f t e) at h)
   not-taken number offset h (refuses n o) e = rw (after-refused m f n o e)
+
+  same-bits : (a : Told Taking) → replyTried m f ≡ a → replies m f .after .bits ≡ m .bits
+  same-bits (gives t) e = rw (after-taken m f t e)
+  same-bits (refuses n o) e = rw (after-refused m f n o e)
 
   sizes : (a : Told Taking) → replyTried m f ≡ a → (length (replies m f .after .cells) ≡ length (m .cells)) × (length (replies m f .after .marks) ≡ length (m .marks))
   sizes (gives t) e =
@@ -82,12 +95,56 @@ module _ (m : Memory) (f : List ℕ) where
   else-marks j n (gives t) e = rw (after-taken m f t e) (getD-set-other (m .marks) (m .count) j (t .seat) 0 n)
   else-marks j n (refuses k o) e = rw (after-refused m f k o e)
 
+  -- ---- the other seats
+
+  opened-else : (s i : ℕ) → (i ≡ s → ⊥) → opens m f .answer ≡ gives s → (a : Told Opening) → openTried m f ≡ a → SameSeat m (opens m f .after) i
+  opened-else s i n h (gives o) e =
+      let k = opens-taken m f o e in
+      let g : gives (o .seat) ≡ gives s = rw (after-opened m f o e) at h in
+      let q : o .seat ≡ s = cc in
+      let x : i ≡ o .seat → ⊥ = λ y. n (y ∙ q) in
+      rw (after-opened m f o e) (record { seat = opened-other m f o k i x; used = other-bit m f o k i x; held = refl })
+  opened-else s i n h (refuses k o) e = not-both s k o (sym (rw (after-not-opened m f k o e) at h))
+
+  taken-else : (s i : ℕ) → (i ≡ s → ⊥) → replies m f .answer ≡ gives s → (a : Told Taking) → replyTried m f ≡ a → SameSeat m (replies m f .after) i
+  taken-else s i n h (gives t) e =
+      let k = took m f t e in
+      let g : gives (t .seat) ≡ gives s = rw (after-taken m f t e) at h in
+      let q : t .seat ≡ s = cc in
+      let x : i ≡ t .seat → ⊥ = λ y. n (y ∙ q) in
+      rw (after-taken m f t e) (record { seat = taken-other m f t k i x; used = refl; held = records-other m f t k i x })
+  taken-else s i n h (refuses k o) e = not-both s k o (sym (rw (after-refused m f k o e) at h))
+
+-- ---- reset and capture
+
+abbrev resetBy : Bool → Memory → Outcome
+resetBy b m = cond b (record { answer = gives 0; after = emptied m }) (record { answer = refuses DESK 0; after = m })
+
+not-reset : (b : Bool) (m : Memory) (number offset : ℕ) → resetBy b m .answer ≡ refuses number offset → resetBy b m .after ≡ m
+not-reset true m number offset h = not-both m [] 0 number offset h
+not-reset false m number offset h = refl
+
+not-captured : (b : Bool) (m x : Memory) (c : Counts) (number offset : ℕ) → tried b DESK 0 (gives c) ≡ refuses number offset → cond b x m ≡ m
+not-captured true m x c number offset h = absurd (let z : _≡_ {A = ℕ} 0 1 = cc in omega arith)
+not-captured false m x c number offset h = refl
+
+pub refused-keeps : RefusedKeeps
+unfolding resets
+refused-keeps = record {
+  reset = λ m number offset h. not-reset (sixteenSeats m) m number offset h;
+  opening = λ m f number offset h. not-opened m f number offset h (openTried m f) refl;
+  reply = λ m f number offset h. not-taken m f number offset h (replyTried m f) refl;
+  capture = λ m s number offset h. not-captured (isDesk m) m (afterAll m (pieces s)) (countsOf (fates m (pieces s))) number offset h;
+}
+
 pub keeps-memory : KeepsMemory
 keeps-memory = record {
-  opening-refused = λ m f number offset h. not-opened m f number offset h (openTried m f) refl;
-  reply-refused = λ m f number offset h. not-taken m f number offset h (replyTried m f) refl;
+  opening-others = λ m f s h i n. opened-else m f s i n h (openTried m f) refl;
+  reply-others = λ m f s h i n. taken-else m f s i n h (replyTried m f) refl;
+  opening-count = λ m f. lends-count m f (openTried m f) refl;
   opening-cells = λ m f. lends-cells m f (openTried m f) refl;
   opening-marks = λ m f. lends-marks m f (openTried m f) refl;
+  reply-bits = λ m f. same-bits m f (replyTried m f) refl;
   reply-sizes = λ m f. sizes m f (replyTried m f) refl;
   cells-before = λ m f j l. front-cells m f j l (replyTried m f) refl;
   cells-behind = λ m f j l. back-cells m f j l (replyTried m f) refl;

@@ -5,7 +5,9 @@ pub mod TestLaws
 pub mod StepLaws
 pub mod OutcomeLaws
 pub mod HeldLaws
+pub mod ReadBackLaws
 pub mod DeskLaws
+pub mod RuleLaws
 pub mod MixLaws
 pub mod AwaitedLaws
 pub mod Cases
@@ -13,5 +15,6 @@ pub mod CaptureLaws
 pub mod KeepsLaws
 pub mod LeavesLaws
 pub mod CellLaws
+pub mod CaptureDemands
 pub mod Unique
 pub mod SureLaws

@@ -21,10 +21,12 @@ use Rattle.desk.specs.Call.{heard, hasKey, ends, inPlace, endedBy, statu
 use Rattle.desk.specs.Seats.{seatAt, usedBit, keyed, keyedAt, seatWith}
 use Rattle.desk.specs.Memory.{Memory, capacity, heldBy}
 use Rattle.desk.specs.Calls.{Outcome, over, newSeat, openTried, openOutcome, opens, opened, seatTried, callTried, replyTried, replyOutcome, replies, taken, emptied, ENDED, OUT-OF-PLACE}
-use Rattle.desk.specs.Mix.{Frame, Event, toOpen, toReply, run, openings, heardAll, Stretch, addressed, framesTo, answersTo, seated, expected, repliesTo, fits, endsIt, kept, said, Sorted, SortsFromAnyDesk, SortsOpenedRequests, StaysDesk}
+use Rattle.desk.specs.Rule.{Frame}
+use Rattle.desk.specs.Mix.{Event, toOpen, toReply, run, openings, heardAll, Stretch, addressed, framesTo, answersTo, seated, expected, repliesTo, Sorted, SortsFromAnyDesk, SortsOpenedRequests, StaysDesk}
 use Rattle.digits.proofs.Tests.{and-true, by-test}
 use Rattle.desk.proofs.Below.{never, false-or, first-at, first-ext}
 use Rattle.desk.proofs.CallLaws.{own-key}
+use Rattle.desk.proofs.RuleLaws.{fits, endsIt, keeps, says, addressed-heard, keeps-kept, says-said}
 use Rattle.desk.proofs.TestLaws.{Facts, desk-facts, facts-desk}
 use Rattle.desk.proofs.StepLaws.{keyed-used, keyed-key, Took, took, took-key, opens-taken}
 use Rattle.desk.proofs.DeskLaws.{taken-own, taken-other, taken-key, taken-capacity, records-own, records-other, taken-desk, opened-own, opened-other, opened-bit, other-bit, used-other, opened-holds, opened-desk, emptied-desk}
@@ -136,8 +138,7 @@ record Kept (m x : Memory) (s : ℕ) : Type 0 where
   held : heldBy x s ≡ heldBy m s
 
 hears-own : (m : Memory) (f : Frame) (t : Taking) → Took m f t → addressed (seatKey (seatAt (m .row) (t .seat))) (toReply f) ≡ true
-unfolding addressed
-hears-own m f t k = rw (k .hears, took-key m f t k) (own-key (k .call .key))
+hears-own m f t k = rw (addressed-heard (seatKey (seatAt (m .row) (t .seat))) f, k .hears, took-key m f t k) (own-key (k .call .key))
 
 else-by : (m : Memory) (f : Frame) (s : ℕ) → addressed (seatKey (seatAt (m .row) s)) (toReply f) ≡ false → (a : Told Taking) → replyTried m f ≡ a → Kept m (replies m f .after) s
 else-by m f s h (gives t) e =
@@ -194,8 +195,7 @@ own-heard m f s d l u r (refuses n o) e h = never true refl (sym h)
 
 own : (m : Memory) (f : Frame) (s : ℕ) → Facts m → s < seatCount → usedBit (m .bits) s ≡ true → m .count < capacity m
     → addressed (seatKey (seatAt (m .row) s)) (toReply f) ≡ true → Own m f s
-unfolding addressed
-own m f s d l u r h = own-heard m f s d l u r (heard f) refl h
+own m f s d l u r h = own-heard m f s d l u r (heard f) refl (rw (addressed-heard (seatKey (seatAt (m .row) s)) f) at h)
 
 -- a frame addressed to a used seat is one of those that are counted, so a cell is free
 own-seated : (m : Memory) (s : ℕ) → Facts m → s < seatCount → usedBit (m .bits) s ≡ true → (got : Told Call) → hasKey (seatKey (seatAt (m .row) s)) got ≡ true → seated m got ≡ true
@@ -205,16 +205,16 @@ own-seated m s d l u (refuses n o) h = h
 
 own-room : (m : Memory) (f : Frame) (s : ℕ) (es : List Event) → Facts m → s < seatCount → usedBit (m .bits) s ≡ true → addressed (seatKey (seatAt (m .row) s)) (toReply f) ≡ true
     → m .count + repliesTo m (toReply f ∷ es) ≤ capacity m → m .count < capacity m
-unfolding repliesTo addressed
+unfolding repliesTo
 own-room m f s es d l u h r =
-    let k : m .count + (1 + repliesTo m es) ≤ capacity m = rw (own-seated m s d l u (heard f) h) at r in
+    let k : m .count + (1 + repliesTo m es) ≤ capacity m = rw (own-seated m s d l u (heard f) (rw (addressed-heard (seatKey (seatAt (m .row) s)) f) at h)) at r in
     omega arith
 
 -- ---- the mix
 
 record Ends (m : Memory) (es : List Event) (s : ℕ) (k : Key) (before : List Frame) (any ended : Bool) (mine : List Frame) : Type 0 where
-  held : heldBy (run m es) s ≡ before ++ kept any ended mine
-  answers : answersTo k m es ≡ said s any ended mine
+  held : heldBy (run m es) s ≡ before ++ keeps any ended mine
+  answers : answersTo k m es ≡ says s any ended mine
 
 ends-any : (status : ℕ) → not (eqb (endedBy status) 0) ≡ ends status
 ends-any status = by-test (ends status) (λ e. rw e) (λ e. rw e)
@@ -228,11 +228,11 @@ Rest o es s k = Ends (o .after) es s k (heldBy (o .after) s) (anyAt (o .after) s
 
 -- with the frame that was just answered in front
 record Own-ends (m : Memory) (f : Frame) (es : List Event) (s : ℕ) (k : Key) : Type 0 where
-  held : heldBy (run (replies m f .after) es) s ≡ heldBy m s ++ kept (anyAt m s) (overAt m s) (f ∷ framesTo k es)
-  answers : replies m f .answer ∷ answersTo k (replies m f .after) es ≡ said s (anyAt m s) (overAt m s) (f ∷ framesTo k es)
+  held : heldBy (run (replies m f .after) es) s ≡ heldBy m s ++ keeps (anyAt m s) (overAt m s) (f ∷ framesTo k es)
+  answers : replies m f .answer ∷ answersTo k (replies m f .after) es ≡ says s (anyAt m s) (overAt m s) (f ∷ framesTo k es)
 
 own-ends : (m : Memory) (f : Frame) (es : List Event) (s : ℕ) (k : Key) → Own m f s → Rest (replies m f) es s k → Own-ends m f es s k
-unfolding kept said
+unfolding keeps says
 own-ends m f es s k (late eo e) ih =
     let r = rw e at ih in
     record { held = rw (eo, e) (rw eo at (r .held)); answers = rw (eo, e) (ap (λ (l : List (Told ℕ)). refuses ENDED 0 ∷ l) (rw eo at (r .answers))) }
@@ -247,7 +247,7 @@ own-ends m f es s k (kept-one status eo ef st q e) ih =
     let a : anyAt (taken m f t) s ≡ true = rw own-seat (more-any (seatAt (m .row) s .held)) in
     let b : overAt (taken m f t) s ≡ endsIt f = rw (own-seat, st) (ends-any status) in
     record {
-      held = rw (eo, ef, e) (rw (a, b, own-held) at (r .held) ∙ append-assoc (heldBy m s) (f ∷ []) (kept true (endsIt f) (framesTo k es)));
+      held = rw (eo, ef, e) (rw (a, b, own-held) at (r .held) ∙ append-assoc (heldBy m s) (f ∷ []) (keeps true (endsIt f) (framesTo k es)));
       answers = rw (eo, ef, e) (ap (λ (l : List (Told ℕ)). gives s ∷ l) (rw (a, b) at (r .answers)));
     }
 
@@ -264,7 +264,7 @@ else-mix m f es s k q h ih =
 
 mix : (es : List Event) (m : Memory) (s : ℕ) (k : Key) → Facts m → Stretch es → m .count + repliesTo m es ≤ capacity m → s < seatCount → usedBit (m .bits) s ≡ true
     → seatKey (seatAt (m .row) s) ≡ k → Ends m es s k (heldBy m s) (anyAt m s) (overAt m s) (framesTo k es)
-unfolding run answersTo framesTo kept said
+unfolding run answersTo framesTo keeps says
 mix [] m s k d st r l u ek = record { held = sym (append-nil (heldBy m s)); answers = refl }
 mix (toOpen f ∷ es) m s k d st r l u ek = never true refl (sym (st .0))
 mix (toReply f ∷ es) m s k d st r l u ek =
@@ -312,8 +312,8 @@ sorted m es s k d st r l u ek =
     let b = mix (heardAll (framesTo k es)) m s k d (heard-stretch (framesTo k es)) (omega arith) l u ek in
     let i = frames-alone k es st in
     record {
-      held = a .held;
-      answers = a .answers;
+      held = a .held ∙ ap (λ (l : List Frame). heldBy m s ++ l) (keeps-kept (anyAt m s) (overAt m s) (framesTo k es));
+      answers = a .answers ∙ says-said s (anyAt m s) (overAt m s) (framesTo k es);
       held-alone = a .held ∙ sym (rw i at (b .held));
       answers-alone = a .answers ∙ sym (rw i at (b .answers));
     }

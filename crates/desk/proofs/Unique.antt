@@ -21,7 +21,8 @@ use Rattle.desk.specs.declared.capture.CaptureAnswer.the-variants.{Taken
 use Rattle.desk.specs.declared.capture.CaptureDone.{CaptureDone}
 use Rattle.desk.specs.Memory.{Memory, memory}
 use Rattle.desk.specs.Capture.{captureTold, TookCapture}
-use Rattle.desk.specs.Calls.{DESK, NO-ANSWER-DUE, IN-USE, STRAY, ENDED, OUT-OF-PLACE, FULL, Outcome, openTold, replyTold, Did}
+use Rattle.desk.specs.Calls.{DESK, NO-ANSWER-DUE, IN-USE, STRAY, ENDED, OUT-OF-PLACE, FULL, openTold, replyTold, OpenDid, ReplyDid}
+use Rattle.desk.specs.Unique.{OneOutcome}
 
 -- ---- what was told leads back to the answer: each refusal has a number and an offset of its own
 
@@ -62,23 +63,6 @@ reply-back (Refused Ended) = refl
 reply-back (Refused OutOfPlace) = refl
 reply-back (Refused Full) = refl
 
--- ---- the outcomes
-
-pub one-opening : (o : Outcome) (cells marks : List ℕ) (r q : OpenDone)
-    → Did (openTold (r .answer)) (memory (r .desk) (r .row) cells marks) o → Did (openTold (q .answer)) (memory (q .desk) (q .row) cells marks) o → r ≡ q
-one-opening o cells marks r q d e =
-    let a = sym (open-back (r .answer)) ∙ ap openBack (d .answer ∙ sym (e .answer)) ∙ open-back (q .answer) in
-    let m = d .memory ∙ sym (e .memory) in
-    λ i. record { answer = a i; desk = record { bits = m i .bits; count = m i .count }; row = m i .row }
-
-pub one-reply : (o : Outcome) (r q : ReplyDone) (cells marks cells′ marks′ : List ℕ)
-    → Did (replyTold (r .answer)) (memory (r .desk) (r .row) cells marks) o → Did (replyTold (q .answer)) (memory (q .desk) (q .row) cells′ marks′) o
-    → (r ≡ q) × ((cells ≡ cells′) × (marks ≡ marks′))
-one-reply o r q cells marks cells′ marks′ d e =
-    let a = sym (reply-back (r .answer)) ∙ ap replyBack (d .answer ∙ sym (e .answer)) ∙ reply-back (q .answer) in
-    let m = d .memory ∙ sym (e .memory) in
-    (λ i. record { answer = a i; desk = record { bits = m i .bits; count = m i .count }; row = m i .row }, (ap (λ (x : Memory). x .cells) m, ap (λ (x : Memory). x .marks) m))
-
 abbrev captureBack : Told Counts → CaptureAnswer
 captureBack (gives c) = All c
 captureBack (refuses number offset) = NoDesk
@@ -87,10 +71,27 @@ capture-back : (a : CaptureAnswer) → captureBack (captureTold a) ≡ a
 capture-back (All c) = refl
 capture-back NoDesk = refl
 
-pub one-capture : (m : Memory) (s : List ℕ) (r q : CaptureDone) (cells marks cells′ marks′ : List ℕ)
-    → TookCapture m s (r .answer) (memory (r .desk) (r .row) cells marks) → TookCapture m s (q .answer) (memory (q .desk) (q .row) cells′ marks′)
-    → (r ≡ q) × ((cells ≡ cells′) × (marks ≡ marks′))
-one-capture m s r q cells marks cells′ marks′ d e =
-    let a = sym (capture-back (r .answer)) ∙ ap captureBack (d .told ∙ sym (e .told)) ∙ capture-back (q .answer) in
-    let n = d .memory ∙ sym (e .memory) in
-    (λ i. record { answer = a i; desk = record { bits = n i .bits; count = n i .count }; row = n i .row }, (ap (λ (x : Memory). x .cells) n, ap (λ (x : Memory). x .marks) n))
+-- ---- the outcomes
+
+module _ (m : Memory) (f : List ℕ) where
+  one-opening : (r q : OpenDone) → OpenDid m f r → OpenDid m f q → r ≡ q
+  one-opening r q d e =
+      let a = sym (open-back (r .answer)) ∙ ap openBack (d .answer ∙ sym (e .answer)) ∙ open-back (q .answer) in
+      let n = d .memory ∙ sym (e .memory) in
+      λ i. record { answer = a i; desk = record { bits = n i .bits; count = n i .count }; row = n i .row }
+
+  one-reply : (o p : ReplyDone × (List ℕ × List ℕ)) → ReplyDid m f (o .0) (o .1 .0) (o .1 .1) → ReplyDid m f (p .0) (p .1 .0) (p .1 .1) → o ≡ p
+  one-reply o p d e =
+      let a = sym (reply-back (o .0 .answer)) ∙ ap replyBack (d .answer ∙ sym (e .answer)) ∙ reply-back (p .0 .answer) in
+      let n = d .memory ∙ sym (e .memory) in
+      λ i. (record { answer = a i; desk = record { bits = n i .bits; count = n i .count }; row = n i .row }, (n i .cells, n i .marks))
+
+  one-capture : (o p : CaptureDone × (List ℕ × List ℕ))
+      → TookCapture m f (o .0 .answer) (memory (o .0 .desk) (o .0 .row) (o .1 .0) (o .1 .1)) → TookCapture m f (p .0 .answer) (memory (p .0 .desk) (p .0 .row) (p .1 .0) (p .1 .1)) → o ≡ p
+  one-capture o p d e =
+      let a = sym (capture-back (o .0 .answer)) ∙ ap captureBack (d .told ∙ sym (e .told)) ∙ capture-back (p .0 .answer) in
+      let n = d .memory ∙ sym (e .memory) in
+      λ i. (record { answer = a i; desk = record { bits = n i .bits; count = n i .count }; row = n i .row }, (n i .cells, n i .marks))
+
+pub one-outcome : OneOutcome
+one-outcome = record { «open» = one-opening; reply = one-reply; take-capture = one-capture }

@@ -12,6 +12,7 @@ use Rattle.frames.specs.Refusals.{readRefused}
 use Rattle.frames.specs.declared.request.StaticRequest.{StaticRequest}
 use Rattle.desk.specs.declared.state.Seat.{Seat}
 use Rattle.desk.specs.declared.state.Desk.{Desk}
+use Rattle.desk.specs.declared.state.Emptied.{Emptied}
 use Rattle.desk.specs.declared.call.Key.{Key}
 use Rattle.desk.specs.declared.call.Call.{Call}
 use Rattle.desk.specs.declared.held.Held.{Held}
@@ -20,18 +21,20 @@ use Rattle.desk.specs.declared.opening.Opening.{Opening}
 use Rattle.desk.specs.declared.opening.OpenRefusal.{OpenRefusal}
 use Rattle.desk.specs.declared.opening.OpenRefusal.the-variants.{Desk as open-no-desk, Frame as open-frame, NoAnswerDue, InUse, NoSeat}
 use Rattle.desk.specs.declared.opening.OpenAnswer.{OpenAnswer}
+use Rattle.desk.specs.declared.opening.OpenDone.{OpenDone}
 use Rattle.desk.specs.declared.opening.OpenAnswer.the-variants.{Opened, Refused as not-opened}
 use Rattle.desk.specs.declared.reply.Taking.{Taking}
 use Rattle.desk.specs.declared.reply.ReplyRefusal.{ReplyRefusal}
 use Rattle.desk.specs.declared.reply.ReplyRefusal.the-variants.{Desk as no-desk, Frame, Stray, Ended, OutOfPlace, Full}
 use Rattle.desk.specs.declared.reply.ReplyAnswer.{ReplyAnswer}
+use Rattle.desk.specs.declared.reply.ReplyDone.{ReplyDone}
 use Rattle.desk.specs.declared.reply.ReplyAnswer.the-variants.{Taken, Refused}
 use Rattle.desk.specs.Limits.{seatCount, cellSize}
 use Rattle.desk.specs.Below.{first, countBelow}
 use Rattle.desk.specs.Key.{requestKey}
 use Rattle.desk.specs.Call.{heard, inPlace, endedBy}
 use Rattle.desk.specs.Seats.{zeroSeat, seatAt, usedBit, seatWith, lowestClear}
-use Rattle.desk.specs.Memory.{Memory, capacity, capacityOf, markAt}
+use Rattle.desk.specs.Memory.{Memory, memory, capacity, capacityOf, markAt}
 use Rattle.desk.specs.Desk.{isDesk, sixteenSeats}
 
 -- ---- refusals, by number
@@ -168,9 +171,12 @@ emptyRow = replicate seatCount zeroSeat
 abbrev pub emptyState : Desk
 emptyState = record { bits = 0; count = 0 }
 
+abbrev pub emptyDesk : Emptied
+emptyDesk = record { desk = emptyState; row = emptyRow }
+
 -- cells and marks stay
 abbrev pub emptied : Memory → Memory
-emptied m = record { row = emptyRow; bits = emptyState .bits; count = emptyState .count; cells = m .cells; marks = m .marks }
+emptied m = memory emptyState emptyRow (m .cells) (m .marks)
 
 -- refused only if the row is not of sixteen seats; it looks at nothing else
 unfoldable pub resets : Memory → Outcome
@@ -227,3 +233,11 @@ replyTold (Refused f) = replyRefused f
 pub record Did (told : Told ℕ) (after : Memory) (o : Outcome) : Type 0 where
   pub answer : told ≡ o .answer
   pub memory : after ≡ o .after
+
+-- of an opening: cells and marks are lent to be read
+abbrev pub OpenDid : Memory → List ℕ → OpenDone → Type 0
+OpenDid m f r = Did (openTold (r .answer)) (memory (r .desk) (r .row) (m .cells) (m .marks)) (opens m f)
+
+-- of a reply, with the cells and marks after it
+abbrev pub ReplyDid : Memory → List ℕ → ReplyDone → List ℕ → List ℕ → Type 0
+ReplyDid m f r cells′ marks′ = Did (replyTold (r .answer)) (memory (r .desk) (r .row) cells′ marks′) (replies m f)

@@ -5,10 +5,10 @@ use mathlib.Core.List.{List, [], _∷_, _++_}
 use mathlib.Core.Path.{_≡_}
 use lib.ListN.{replicate}
 use Rattle.digits.specs.Text.{codes}
-use Rattle.digits.specs.Told.{gives, refuses}
-use Rattle.desk.specs.Memory.{Memory}
+use Rattle.digits.specs.Told.{Told, gives, refuses}
+use Rattle.desk.specs.Memory.{Memory, heldBy}
 use Rattle.desk.specs.Calls.{opens, replies, emptied}
-use Rattle.desk.specs.Mix.{run, openings}
+use Rattle.desk.specs.Mix.{Event, toReply, happens, run, openings, repliesTo}
 
 -- no seats, and room for this many cells
 abbrev pub lending : ℕ → ℕ → Memory
@@ -18,9 +18,14 @@ lending bytes marks = record { row = []; bits = 0; count = 0; cells = replicate 
 abbrev pub asking : String → String → List ℕ
 asking requester letter = 17 ∷ (codes "R " ++ (codes requester ++ (codes "00700000" ++ (codes letter ++ (codes "000002000S" ++ (13 ∷ []))))))
 
+-- a reply with this status, requester, number and bib
+abbrev pub replyTo : String → String → String → String → List ℕ
+replyTo status requester number bib =
+    18 ∷ (codes "R SO" ++ (codes status ++ (codes requester ++ (codes number ++ (codes bib ++ (codes "000002000000P000000000000000000  " ++ (13 ∷ [])))))))
+
 -- a reply to that of requester 1, with this status
 abbrev pub replying : String → List ℕ
-replying status = 18 ∷ (codes "R SO" ++ (codes status ++ (codes "10000700015000002000000P000000000000000000  " ++ (13 ∷ []))))
+replying status = replyTo status "1" "00007" "00015"
 
 -- an emptied desk with two cells, and the same with that request open
 abbrev pub bare : Memory
@@ -49,3 +54,49 @@ pub record Worked : Type 0 where
   pub ended-by-Z : replies (replies asked (replying "Z") .after) (replying "R") .answer ≡ refuses 14 0
   pub out-of-place : replies (replies asked (replying "R") .after) (replying "Z") .answer ≡ refuses 15 0
   pub full : replies (replies (replies asked (replying "R") .after) (replying "R") .after) (replying "R") .answer ≡ refuses 16 0
+
+-- ---- three requests, and their replies mixed: on a desk with nine cells, as many as there are replies to them
+
+abbrev pub three : Memory
+three = run (emptied (lending 459 9)) (openings (asking "1" "P" ∷ asking "A" "P" ∷ asking "z" "P" ∷ []))
+
+abbrev pub mixed : List Event
+mixed =
+    toReply (replyTo "R" "A" "00007" "00001")
+    ∷ toReply (replyTo "R" "1" "00007" "00002")
+    -- a stray with the same number, and one with the same requester
+    ∷ toReply (replyTo "R" "B" "00007" "00003")
+    ∷ toReply (replyTo "R" "A" "00107" "00004")
+    -- damaged at the bib
+    ∷ toReply (replyTo "E" "1" "00007" "0000x")
+    -- a first Z, and one out of place
+    ∷ toReply (replyTo "Z" "z" "00007" "00005")
+    ∷ toReply (replyTo "Z" "A" "00007" "00006")
+    ∷ toReply (replyTo "E" "1" "00007" "00007")
+    -- after the end
+    ∷ toReply (replyTo "R" "z" "00007" "00008")
+    ∷ toReply (replyTo "Z" "1" "00007" "00009")
+    -- a lower bib later than a higher one
+    ∷ toReply (replyTo "R" "A" "00007" "00000")
+    ∷ toReply (replyTo "E" "A" "00007" "00010")
+    ∷ []
+
+-- every answer, in order
+abbrev pub answersOf : Memory → List Event → List (Told ℕ)
+answersOf m [] = []
+answersOf m (e ∷ es) = happens m e .answer ∷ answersOf (happens m e .after) es
+
+pub record MixWorked : Type 0 where
+  pub answers : answersOf three mixed
+      ≡ gives 1 ∷ gives 0 ∷ refuses 13 0 ∷ refuses 13 0 ∷ refuses 5 12 ∷ gives 2 ∷ refuses 15 0 ∷ gives 0 ∷ refuses 14 0 ∷ refuses 14 0 ∷ gives 1 ∷ gives 1 ∷ []
+  pub marks : run three mixed .marks ≡ 1 ∷ 0 ∷ 2 ∷ 0 ∷ 1 ∷ 1 ∷ 0 ∷ 0 ∷ 0 ∷ []
+  pub count : run three mixed .count ≡ 6
+  pub bits : run three mixed .bits ≡ 7
+  pub seats : run three mixed .row
+      ≡ record { requester = 49; number = 7; held = 2; ended = 1 } ∷ record { requester = 65; number = 7; held = 3; ended = 1 } ∷ record { requester = 122; number = 7; held = 1; ended = 1 }
+      ∷ replicate 13 (record { requester = 0; number = 0; held = 0; ended = 0 })
+  pub held-by-1 : heldBy (run three mixed) 0 ≡ replyTo "R" "1" "00007" "00002" ∷ replyTo "E" "1" "00007" "00007" ∷ []
+  pub held-by-A : heldBy (run three mixed) 1 ≡ replyTo "R" "A" "00007" "00001" ∷ replyTo "R" "A" "00007" "00000" ∷ replyTo "E" "A" "00007" "00010" ∷ []
+  pub held-by-z : heldBy (run three mixed) 2 ≡ replyTo "Z" "z" "00007" "00005" ∷ []
+  -- six are kept; the three refused after the end or out of place count as replies too
+  pub bound : repliesTo three mixed ≡ 9

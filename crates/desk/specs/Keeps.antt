@@ -3,17 +3,34 @@ use Prim.Native.Nat.{ℕ, _+_, _*_, _<_, _≤_}
 use mathlib.Core.List.{List}
 use mathlib.Core.Path.{_≡_}
 use lib.ListN.{length, getD}
-use Rattle.digits.specs.Told.{refuses}
+use Rattle.digits.specs.Told.{gives, refuses}
 use Rattle.desk.specs.Limits.{cellSize}
-use Rattle.desk.specs.Memory.{Memory, markAt}
-use Rattle.desk.specs.Calls.{opens, replies}
+use Rattle.desk.specs.Seats.{seatAt, usedBit}
+use Rattle.desk.specs.Memory.{Memory, markAt, heldBy}
+use Rattle.desk.specs.Calls.{resets, opens, replies}
+use Rattle.desk.specs.Capture.{captures}
 
--- a call turned away hands all back as it came, an opening leaves cells and marks, and a reply changes at most the next cell and its mark
-pub record KeepsMemory : Type 1 where
-  pub opening-refused : (m : Memory) (f : List ℕ) (number offset : ℕ) → opens m f .answer ≡ refuses number offset → opens m f .after ≡ m
-  pub reply-refused : (m : Memory) (f : List ℕ) (number offset : ℕ) → replies m f .answer ≡ refuses number offset → replies m f .after ≡ m
+-- a call turned away hands all back as it came
+pub record RefusedKeeps : Type 0 where
+  pub reset : (m : Memory) (number offset : ℕ) → resets m .answer ≡ refuses number offset → resets m .after ≡ m
+  pub opening : (m : Memory) (f : List ℕ) (number offset : ℕ) → opens m f .answer ≡ refuses number offset → opens m f .after ≡ m
+  pub reply : (m : Memory) (f : List ℕ) (number offset : ℕ) → replies m f .answer ≡ refuses number offset → replies m f .after ≡ m
+  pub capture : (m : Memory) (s : List ℕ) (number offset : ℕ) → captures m s .answer ≡ refuses number offset → captures m s .after ≡ m
+
+-- another seat than the one that a call took: its record, whether it is in use, and what it holds
+pub record SameSeat (m after : Memory) (i : ℕ) : Type 0 where
+  pub seat : seatAt (after .row) i ≡ seatAt (m .row) i
+  pub used : usedBit (after .bits) i ≡ usedBit (m .bits) i
+  pub held : heldBy after i ≡ heldBy m i
+
+-- a call that is taken changes one seat; an opening leaves count, cells and marks, and a reply changes at most the next cell and its mark
+pub record KeepsMemory : Type 0 where
+  pub opening-others : (m : Memory) (f : List ℕ) (s : ℕ) → opens m f .answer ≡ gives s → (i : ℕ) → (i ≡ s → ⊥) → SameSeat m (opens m f .after) i
+  pub reply-others : (m : Memory) (f : List ℕ) (s : ℕ) → replies m f .answer ≡ gives s → (i : ℕ) → (i ≡ s → ⊥) → SameSeat m (replies m f .after) i
+  pub opening-count : (m : Memory) (f : List ℕ) → opens m f .after .count ≡ m .count
   pub opening-cells : (m : Memory) (f : List ℕ) → opens m f .after .cells ≡ m .cells
   pub opening-marks : (m : Memory) (f : List ℕ) → opens m f .after .marks ≡ m .marks
+  pub reply-bits : (m : Memory) (f : List ℕ) → replies m f .after .bits ≡ m .bits
   pub reply-sizes : (m : Memory) (f : List ℕ) → (length (replies m f .after .cells) ≡ length (m .cells)) × (length (replies m f .after .marks) ≡ length (m .marks))
   pub cells-before : (m : Memory) (f : List ℕ) (j : ℕ) → j < m .count * cellSize → getD (replies m f .after .cells) j 0 ≡ getD (m .cells) j 0
   pub cells-behind : (m : Memory) (f : List ℕ) (j : ℕ) → m .count * cellSize + cellSize ≤ j → getD (replies m f .after .cells) j 0 ≡ getD (m .cells) j 0

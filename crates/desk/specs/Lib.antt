@@ -6,8 +6,12 @@ pub mod Seats
 pub mod Memory
 pub mod Desk
 pub mod Calls
-pub mod Keeps
 pub mod Capture
+pub mod Keeps
+pub mod Rule
 pub mod Mix
+pub mod CaptureDemands
+pub mod ReadBack
+pub mod Unique
 pub mod Cases
 pub mod Inside

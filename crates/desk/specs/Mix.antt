@@ -1,26 +1,24 @@
 -- Mixed replies: what each request holds after them, and what each of its replies was answered.
 use Prim.Native.Nat.{ℕ, zero, suc, _+_, _≤_, _<_}
 use mathlib.Core.List.{List, [], _∷_, _++_}
-use mathlib.Core.Bool.{Bool, true, false, cond, not, _||_}
+use mathlib.Core.Bool.{Bool, true, false, cond, not}
 use mathlib.Core.Path.{_≡_}
 use lib.ListN.{length}
 use lib.Dec.{eqb, ltb}
 use Rattle.digits.specs.Told.{Told, gives, refuses}
 use Rattle.frames.specs.Kind.{read}
 use Rattle.frames.specs.Request.{request}
+use Rattle.frames.specs.Reply.{reply}
 use Rattle.frames.specs.declared.request.StaticRequest.{StaticRequest}
 use Rattle.desk.specs.declared.call.Key.{Key}
 use Rattle.desk.specs.declared.call.Call.{Call}
 use Rattle.desk.specs.Limits.{seatCount}
-use Rattle.desk.specs.Key.{requestKey, seatKey}
-use Rattle.desk.specs.Call.{heard, hasKey, isZ, ends, statusIn}
+use Rattle.desk.specs.Call.{heard}
+use Rattle.desk.specs.Rule.{Frame, isTo, kept, said}
 use Rattle.desk.specs.Seats.{seatAt, usedBit, seatWith}
 use Rattle.desk.specs.Memory.{Memory, capacity, heldBy}
 use Rattle.desk.specs.Desk.{isDesk}
-use Rattle.desk.specs.Calls.{Outcome, opens, replies, emptied, over, ENDED, OUT-OF-PLACE}
-
-abbrev pub Frame : Type 0
-Frame = List ℕ
+use Rattle.desk.specs.Calls.{Outcome, opens, replies, emptied}
 
 -- ---- calls one after the other
 
@@ -57,10 +55,10 @@ Stretch (e ∷ es) = (isReply e ≡ true) × Stretch es
 
 -- ---- the replies of one request
 
--- a well formed reply with this key
+-- a well formed reply with this requester and number
 unfoldable pub addressed : Key → Event → Bool
 addressed k (toOpen f) = false
-addressed k (toReply f) = hasKey k (heard f)
+addressed k (toReply f) = isTo k (read reply f)
 
 abbrev pub frameOf : Event → Frame
 frameOf (toOpen f) = f
@@ -94,33 +92,12 @@ repliesTo m (e ∷ es) = cond (expected m e) 1 0 + repliesTo m es
 -- the frames addressed to the open requests at the seats below n, request by request
 unfoldable pub awaited : Memory → List Event → ℕ → ℕ
 awaited m es zero = 0
-awaited m es (suc n) = cond (usedBit (m .bits) n) (length (framesTo (seatKey (seatAt (m .row) n)) es)) 0 + awaited m es n
+awaited m es (suc n) =
+    cond (usedBit (m .bits) n) (length (framesTo (record { requester = seatAt (m .row) n .requester; number = seatAt (m .row) n .number }) es)) 0 + awaited m es n
 
 -- both counts are one: no frame is counted that is addressed to none, and none twice
 abbrev pub RepliesAreAwaited : Type 0
 RepliesAreAwaited = (m : Memory) (es : List Event) → isDesk m ≡ true → repliesTo m es ≡ awaited m es seatCount
-
--- ---- the rule, over the frames of one request alone
-
--- a request that holds records takes no Z
-abbrev pub fits : Bool → Frame → Bool
-fits any f = not (isZ (statusIn (heard f))) || not any
-
-abbrev pub endsIt : Frame → Bool
-endsIt f = ends (statusIn (heard f))
-
--- of its frames it keeps those up to the ending one, without a Z out of place: `any` says that it holds records, `ended` that it had its ending one
-unfoldable pub kept : Bool → Bool → List Frame → List Frame
-kept any ended [] = []
-kept any true (f ∷ fs) = kept any true fs
-kept any false (f ∷ fs) = cond (fits any f) (f ∷ kept true (endsIt f) fs) (kept any false fs)
-
--- a kept frame is answered with the seat, a Z out of place is OUT OF PLACE, and any frame after the ending one ENDED
-unfoldable pub said : ℕ → Bool → Bool → List Frame → List (Told ℕ)
-said s any ended [] = []
-said s any true (f ∷ fs) = refuses ENDED 0 ∷ said s any true fs
-said s any false (f ∷ fs) =
-    cond (fits any f) (gives s ∷ said s true (endsIt f) fs) (refuses OUT-OF-PLACE 0 ∷ said s any false fs)
 
 -- ---- the statements
 
@@ -140,7 +117,7 @@ SortsFromAnyDesk =
     (m : Memory) (es : List Event) (s : ℕ)
     → isDesk m ≡ true → Stretch es → m .count + repliesTo m es ≤ capacity m
     → s < seatCount → usedBit (m .bits) s ≡ true
-    → Sorted m es s (seatKey (seatAt (m .row) s)) (heldBy m s) (not (eqb (seatAt (m .row) s .held) 0)) (over (seatAt (m .row) s))
+    → Sorted m es s (record { requester = seatAt (m .row) s .requester; number = seatAt (m .row) s .number }) (heldBy m s) (not (eqb (seatAt (m .row) s .held) 0)) (not (eqb (seatAt (m .row) s .ended) 0))
 
 -- on an emptied desk, with openings first: each request that was opened
 abbrev pub SortsOpenedRequests : Type 0
@@ -148,7 +125,7 @@ SortsOpenedRequests =
     (m : Memory) (before after : List Frame) (f : Frame) (r : StaticRequest) (es : List Event) (s : ℕ)
     → read request f ≡ gives r → opens (run (emptied m) (openings before)) f .answer ≡ gives s
     → Stretch es → repliesTo (run (emptied m) (openings (before ++ f ∷ after))) es ≤ capacity m
-    → Sorted (run (emptied m) (openings (before ++ f ∷ after))) es s (requestKey r) [] false false
+    → Sorted (run (emptied m) (openings (before ++ f ∷ after))) es s (record { requester = r .requester; number = r .number }) [] false false
 
 -- a desk stays a desk, and what is emptied is one
 pub record StaysDesk : Type 1 where

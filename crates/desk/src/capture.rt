@@ -28,7 +28,7 @@ ghost use Rattle.desk.specs.Inside.{oneMore, Meets};
 ghost use Rattle.desk.specs.declared.capture.Fate.the-variants.{Opened, Collected};
 
 // What becomes of a frame.
-enum Fate {
+pub enum Fate {
     Opened,
     Collected,
     Dynamic,

@@ -17,7 +17,7 @@ ghost use Rattle.desk.specs.Limits.{seatCount};
 ghost use Rattle.desk.specs.Memory.{memory};
 ghost use Rattle.desk.specs.Key.{requestKey};
 ghost use Rattle.desk.specs.Seats.{lowestClear};
-ghost use Rattle.desk.specs.Calls.{whatIsGiven, newSeat, opens, openTold, requestTried, keyTried, Did};
+ghost use Rattle.desk.specs.Calls.{whatIsGiven, newSeat, opens, openTold, requestTried, keyTried, Did, OpenDid};
 ghost use Rattle.desk.specs.Desk.{isDesk};
 ghost use Rattle.frames.specs.Kind.{read};
 ghost use Rattle.frames.specs.Request.{request};
@@ -54,7 +54,7 @@ pub(crate) struct OpenStep {
 }
 
 // The seat that a request gets, and its key.
-struct Opening {
+pub struct Opening {
     pub seat: usize,
     pub key: Key,
 }
@@ -65,7 +65,7 @@ enum OpenJudged {
 }
 
 pub fn open(desk: Desk, row: [Seat; SEATS], cells: &[u8], marks: &[u32], frame: &[u8]) -> OpenDone
-    ensures { λ r. ⌜ Did (openTold (r .answer)) (memory (r .desk) (r .row) (now (cells .entry)) (now (marks .entry))) (opens (memory desk row (now (cells .entry)) (now (marks .entry))) (now (frame .entry))) ⌝ }
+    ensures { λ r. ⌜ OpenDid (memory desk row (now (cells .entry)) (now (marks .entry))) (now (frame .entry)) r ⌝ }
 {
     if is_desk(desk, row, cells, marks) {
         let step = open_on_desk(desk, row, cells, marks, frame);

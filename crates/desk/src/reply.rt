@@ -19,7 +19,7 @@ ghost use lib.ListN.{length, set};
 ghost use lib.Seq.{paste};
 ghost use Rattle.desk.specs.Limits.{seatCount};
 ghost use Rattle.desk.specs.Memory.{memory};
-ghost use Rattle.desk.specs.Calls.{whatIsGiven, grown, replies, replyTold, callTried, seatTried, Did};
+ghost use Rattle.desk.specs.Calls.{whatIsGiven, grown, replies, replyTold, callTried, seatTried, Did, ReplyDid};
 ghost use Rattle.desk.specs.Desk.{isDesk};
 ghost use Rattle.desk.specs.Call.{heard};
 ghost use mathlib.Core.Bool.{true};
@@ -56,7 +56,7 @@ pub(crate) struct ReplyStep {
 }
 
 // The seat that takes a reply, and the reply's status.
-struct Taking {
+pub struct Taking {
     pub seat: usize,
     pub status: u8,
 }
@@ -73,7 +73,7 @@ pub fn reply(
     marks: &mut [u32],
     frame: &[u8],
 ) -> ReplyDone
-    ensures { λ r. ⌜ Did (replyTold (r .answer)) (memory (r .desk) (r .row) (now (cells .exit)) (now (marks .exit))) (replies (memory desk row (now (cells .entry)) (now (marks .entry))) (now (frame .entry))) ⌝ }
+    ensures { λ r. ⌜ ReplyDid (memory desk row (now (cells .entry)) (now (marks .entry))) (now (frame .entry)) r (now (cells .exit)) (now (marks .exit)) ⌝ }
 {
     if is_desk(desk, row, cells, marks) {
         let step = reply_on_desk(desk, row, cells, marks, frame);

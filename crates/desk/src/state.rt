@@ -5,7 +5,7 @@ ghost use Prim.Native.Nat.{_<_};
 ghost use lib.ListN.{set};
 ghost use Rattle.desk.specs.Limits.{seatCount};
 ghost use Rattle.desk.specs.Memory.{capacityOf};
-ghost use Rattle.desk.specs.Calls.{seatsInUse, emptyRow, emptyState};
+ghost use Rattle.desk.specs.Calls.{seatsInUse, emptyDesk};
 
 pub const SEATS: usize = 16;
 
@@ -47,7 +47,7 @@ pub(crate) fn with_seat(row: [Seat; SEATS], at: usize, seat: Seat) -> [Seat; SEA
 
 // The empty desk, whatever state it takes the place of. Cells and marks are not touched.
 pub fn reset() -> Emptied
-    ensures { λ r. ⌜ (r .desk ≡ emptyState) × (r .row ≡ emptyRow) ⌝ }
+    ensures { λ r. ⌜ r ≡ emptyDesk ⌝ }
 {
     let zero = Seat {
         requester: 0,

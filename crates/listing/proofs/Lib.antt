@@ -7,3 +7,5 @@ pub mod SizeLaws
 pub mod CountLaws
 pub mod LineLaws
 pub mod Unique
+pub mod Demands
+pub mod Cases

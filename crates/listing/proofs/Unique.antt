@@ -5,7 +5,8 @@ use mathlib.Core.Path.{_≡_, refl, sym, ap, _∙_}
 use Rattle.digits.specs.Told.{Told, gives, refuses}
 use Rattle.listing.specs.declared.ListAnswer.{ListAnswer}
 use Rattle.listing.specs.declared.ListAnswer.the-variants.{Written, Room}
-use Rattle.listing.specs.Listing.{listTold, Listed}
+use Rattle.listing.specs.Listing.{listTold}
+use Rattle.listing.specs.Unique.{OneOutcome}
 
 abbrev listBack : Told ℕ → ListAnswer
 listBack (gives n) = Written n
@@ -15,10 +16,12 @@ list-back : (a : ListAnswer) → listBack (listTold a) ≡ a
 list-back (Written n) = refl
 list-back Room = refl
 
-pub one-list : (lent-cells lent-marks s out : List ℕ) (a b : ListAnswer) (cells marks bytes cells′ marks′ bytes′ : List ℕ)
-    → Listed lent-cells lent-marks s out a cells marks bytes → Listed lent-cells lent-marks s out b cells′ marks′ bytes′
-    → (a ≡ b) × ((cells ≡ cells′) × ((marks ≡ marks′) × (bytes ≡ bytes′)))
-one-list lent-cells lent-marks s out a b cells marks bytes cells′ marks′ bytes′ p q = (
-  sym (list-back a) ∙ ap listBack (p .told ∙ sym (q .told)) ∙ list-back b,
-  (p .cells ∙ sym (q .cells), (p .marks ∙ sym (q .marks), p .bytes ∙ sym (q .bytes))),
-)
+pub one-outcome : OneOutcome
+one-outcome = record {
+  list = λ cells marks s out o p d e.
+      let a = sym (list-back (o .0)) ∙ ap listBack (d .told ∙ sym (e .told)) ∙ list-back (p .0) in
+      let c = d .cells ∙ sym (e .cells) in
+      let m = d .marks ∙ sym (e .marks) in
+      let b = d .bytes ∙ sym (e .bytes) in
+      λ i. (a i, (c i, (m i, b i)));
+}

@@ -12,9 +12,12 @@ use Rattle.desk.specs.Memory.{Memory, heldBy}
 use Rattle.listing.specs.Text.{LF, decimal}
 use Rattle.listing.specs.Listing.{mostInput, after, counts, listOf}
 
--- an output of 14,170 bytes has room for every list
+-- no list is longer: an output of so many bytes has room for every one
+abbrev pub longestList : ℕ
+longestList = 14170
+
 abbrev pub ListFits : Type 0
-ListFits = (cells marks s : List ℕ) → length (listOf cells marks s) ≤ 14170
+ListFits = (cells marks s : List ℕ) → length (listOf cells marks s) ≤ longestList
 
 -- the rows that a list has of the seats below n
 unfoldable pub rowsIn : Memory → ℕ → ℕ

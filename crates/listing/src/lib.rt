@@ -23,6 +23,9 @@ pub const HEADING: [u8; 62] =
 // A longer capture is not listed.
 pub const MOST_INPUT: usize = 32768;
 
+// No list is longer: an output of so many bytes has room for every one.
+pub const LONGEST_LIST: usize = 14170;
+
 const TOO_LONG: [u8; 15] = *b"input too long\n";
 
 // Written with so many bytes; or there is not room for them all.

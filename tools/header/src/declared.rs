@@ -1,4 +1,4 @@
-//! What C sees: functions and structs, in the words of C.
+//! What C sees: functions, structs and constants, in the words of C.
 
 /// A parameter or a field. The type is spelled `size_t`, `const uint8_t *`, `uint8_t[10]`.
 #[derive(Clone, PartialEq)]
@@ -26,11 +26,21 @@ pub struct Asserted {
     pub field: Option<String>,
 }
 
+/// A constant of an enum.
+pub struct Constant {
+    /// The enum's name; empty where it has none.
+    pub group: String,
+    pub name: String,
+    pub value: u64,
+}
+
 /// All that one side declares, and what could not be read of it.
 #[derive(Default)]
 pub struct Declared {
     pub functions: Vec<Function>,
     pub structs: Vec<Struct>,
+    /// The header's alone.
+    pub constants: Vec<Constant>,
     pub asserted: Vec<Asserted>,
     pub faults: Vec<String>,
 }
@@ -50,6 +60,14 @@ impl Declared {
             self.faults.push(format!("{}: stands twice", found.name));
         }
         self.structs.push(found);
+    }
+
+    /// The same for a constant.
+    pub fn add_constant(&mut self, constant: Constant) {
+        if self.constants.iter().any(|c| c.name == constant.name) {
+            self.faults.push(format!("{}: stands twice", constant.name));
+        }
+        self.constants.push(constant);
     }
 }
 

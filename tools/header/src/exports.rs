@@ -56,7 +56,7 @@ impl Reader<'_> {
         if !marked || !ends_with(before, &["pub", "extern", "\"C\""]) {
             self.fault(&name.text, "is not exported: `#[no_mangle] pub extern \"C\"` is asked for");
         }
-        let list = group(&rest[2..]);
+        let list = lex::group(&rest[2..]);
         let mut parameters = Vec::new();
         for parameter in parted(list) {
             parameters.extend(self.parameter(source, &name.text, parameter)?);
@@ -122,7 +122,7 @@ impl Reader<'_> {
             return Ok(());
         };
         let mut fields = Vec::new();
-        for field in parted(group(&source.tokens[at + 2..])) {
+        for field in parted(lex::group(&source.tokens[at + 2..])) {
             fields.push(self.field(&source, name, field)?);
         }
         self.found.add_struct(Struct { name: c_name(name), fields });
@@ -153,7 +153,7 @@ impl Reader<'_> {
 }
 
 /// A struct's name in C: `DeskAnswer` is `rei2_desk_answer`.
-fn c_name(name: &str) -> String {
+pub fn c_name(name: &str) -> String {
     let mut snake = String::new();
     for c in name.chars() {
         if c.is_uppercase() && !snake.is_empty() {
@@ -179,31 +179,12 @@ fn attributes(tokens: &[Token]) -> String {
     lex::shown(&tokens[end..last])
 }
 
-/// What stands in the group that the first token opens.
-fn group(tokens: &[Token]) -> &[Token] {
-    let mut depth = 0;
-    let end = tokens.iter().position(|token| {
-        depth += nesting(&token.text);
-        depth == 0
-    });
-    &tokens[1..end.unwrap_or(tokens.len())]
-}
-
 /// Parts a list at its commas.
 fn parted(list: &[Token]) -> Vec<&[Token]> {
     let mut depth = 0;
     let parts = list.split(|token| {
-        depth += nesting(&token.text);
+        depth += lex::nesting(&token.text);
         depth == 0 && token.text == ","
     });
     parts.filter(|part| !part.is_empty()).collect()
-}
-
-/// 1 where a token opens a group, -1 where it closes one.
-fn nesting(text: &str) -> i32 {
-    match text {
-        "(" | "[" | "{" => 1,
-        ")" | "]" | "}" => -1,
-        _ => 0,
-    }
 }

@@ -1,7 +1,7 @@
-//! Reads a C header: structs, functions and the assertions of their layout. What it cannot read is a fault and never
-//! passed over, since a declaration that is not seen would not be compared.
+//! Reads a C header: constants, structs, functions and the assertions of their layout. What it cannot read is a fault
+//! and never passed over, since a declaration that is not seen would not be compared.
 
-use crate::declared::{Asserted, Declared, Function, Part, Struct};
+use crate::declared::{Asserted, Constant, Declared, Function, Part, Struct};
 use crate::lex::{self, Language, Token};
 
 /// The macros of the header that assert a size and an offset.
@@ -52,7 +52,8 @@ fn read_item(item: &[Token], found: &mut Declared) -> bool {
     };
     let texts: Vec<&str> = body.iter().map(|token| token.text.as_str()).collect();
     match texts.as_slice() {
-        ["enum", _, "{", .., "}"] | ["enum", "{", .., "}"] => true,
+        ["enum", name, "{", .., "}"] => read_enum(name, &body[3..body.len() - 1], found),
+        ["enum", "{", .., "}"] => read_enum("", &body[2..body.len() - 1], found),
         ["typedef", "struct", tag, "{", .., "}", name] if tag == name => {
             let fields = body[4..body.len() - 2].split_inclusive(|token| token.text == ";");
             let fields: Option<Vec<Part>> = fields.map(field).collect();
@@ -68,6 +69,20 @@ fn read_item(item: &[Token], found: &mut Declared) -> bool {
         }
         _ => function(body).map(|function| found.add_function(function)).is_some(),
     }
+}
+
+/// Reads the constants `NAME = NUMBER, ..` of an enum to what was found; says whether it could.
+fn read_enum(group: &str, list: &[Token], found: &mut Declared) -> bool {
+    let parts = list.split(|token| token.text == ",").filter(|part| !part.is_empty());
+    let constants: Option<Vec<Constant>> = parts.map(|part| constant(group, part)).collect();
+    constants.map(|constants| constants.into_iter().for_each(|c| found.add_constant(c))).is_some()
+}
+
+/// A constant `NAME = NUMBER`.
+fn constant(group: &str, tokens: &[Token]) -> Option<Constant> {
+    let [name, equals, value] = tokens else { return None };
+    let value = lex::number(&value.text).filter(|_| equals.text == "=")?;
+    Some(Constant { group: group.to_string(), name: name.text.clone(), value })
 }
 
 /// A field `type name;` or `type name[10];`.

@@ -1,4 +1,5 @@
-//! Cuts the text of a Rattle file or of a C header into tokens: words, strings, and marks of one character.
+//! Cuts the text of a Rattle file, of an antt file or of a C header into tokens: words, strings, and marks of one
+//! character.
 //!
 //! Comments and single characters in quotes leave no token, and a C header's preprocessor lines none either.
 
@@ -6,6 +7,7 @@
 #[derive(Clone, Copy, PartialEq)]
 pub enum Language {
     Rattle,
+    Antt,
     C,
 }
 
@@ -14,6 +16,8 @@ pub struct Token {
     /// The word or mark; of a string its text with the quotes.
     pub text: String,
     pub line: usize,
+    /// Does it begin its line, with no blank before it?
+    pub first: bool,
 }
 
 /// The tokens of a text.
@@ -21,7 +25,11 @@ pub fn tokens(text: &str, language: Language) -> Vec<Token> {
     let kept = if language == Language::C { without_directives(text) } else { text.to_string() };
     let mut lexer = Lexer { chars: kept.chars().collect(), at: 0, line: 1, tokens: Vec::new() };
     while lexer.at < lexer.chars.len() {
-        lexer.step();
+        if language == Language::Antt {
+            lexer.step_antt();
+        } else {
+            lexer.step();
+        }
     }
     lexer.tokens
 }
@@ -31,6 +39,34 @@ pub fn is_word(text: &str) -> bool {
     text.chars().all(in_word)
 }
 
+/// The number that a word is, in tens or after `0x` in sixteens.
+pub fn number(word: &str) -> Option<u64> {
+    let digits = word.replace('_', "");
+    match digits.strip_prefix("0x") {
+        Some(digits) => u64::from_str_radix(digits, 16).ok(),
+        None => digits.parse().ok(),
+    }
+}
+
+/// What stands in the group that the first token opens.
+pub fn group(tokens: &[Token]) -> &[Token] {
+    let mut depth = 0;
+    let end = tokens.iter().position(|token| {
+        depth += nesting(&token.text);
+        depth == 0
+    });
+    &tokens[1..end.unwrap_or(tokens.len())]
+}
+
+/// 1 where a token opens a group, -1 where it closes one.
+pub fn nesting(text: &str) -> i32 {
+    match text {
+        "(" | "[" | "{" => 1,
+        ")" | "]" | "}" => -1,
+        _ => 0,
+    }
+}
+
 /// The texts of tokens, parted by blanks.
 pub fn shown(tokens: &[Token]) -> String {
     tokens.iter().map(|token| token.text.as_str()).collect::<Vec<_>>().join(" ")
@@ -38,6 +74,11 @@ pub fn shown(tokens: &[Token]) -> String {
 
 fn in_word(c: char) -> bool {
     c.is_alphanumeric() || c == '_'
+}
+
+/// May `c` stand in a name of antt? `n+n` is one name, and so is `IN-USE`.
+fn in_name(c: char) -> bool {
+    !c.is_whitespace() && !"(){}.;,@\"«»".contains(c)
 }
 
 /// The text with an empty line for each line of a directive, also for those that a backslash joins to it.
@@ -92,7 +133,19 @@ impl Lexer {
             ('\'', '\\') => self.pass(self.escape_length()),
             ('\'', _) if self.peek(2) == '\'' => self.pass(3),
             _ if c.is_whitespace() => self.pass(1),
-            _ => self.take(self.word_length().max(1)),
+            _ => self.take(self.word_length(in_word).max(1)),
+        }
+    }
+
+    /// The same in antt.
+    fn step_antt(&mut self) {
+        let c = self.peek(0);
+        match (c, self.peek(1)) {
+            ('-', '-') => self.pass(self.up_to("\n")),
+            ('{', '-') => self.pass(self.comment_length()),
+            ('"', _) => self.take(self.string_length()),
+            _ if c.is_whitespace() => self.pass(1),
+            _ => self.take(self.word_length(in_name).max(1)),
         }
     }
 
@@ -100,12 +153,28 @@ impl Lexer {
     fn take(&mut self, count: usize) {
         let end = (self.at + count).min(self.chars.len());
         let text = self.chars[self.at..end].iter().collect();
-        self.tokens.push(Token { text, line: self.line });
+        let first = self.at == 0 || self.chars[self.at - 1] == '\n';
+        self.tokens.push(Token { text, line: self.line, first });
         self.pass(count);
     }
 
-    fn word_length(&self) -> usize {
-        self.chars[self.at..].iter().take_while(|c| in_word(**c)).count()
+    fn word_length(&self, within: fn(char) -> bool) -> usize {
+        self.chars[self.at..].iter().take_while(|c| within(**c)).count()
+    }
+
+    /// The length of a comment `{- .. -}`, which may hold others.
+    fn comment_length(&self) -> usize {
+        let (mut depth, mut i) = (1, 2);
+        while depth > 0 && self.at + i < self.chars.len() {
+            let change = match (self.peek(i), self.peek(i + 1)) {
+                ('{', '-') => 1,
+                ('-', '}') => -1,
+                _ => 0,
+            };
+            depth += change;
+            i += if change == 0 { 1 } else { 2 };
+        }
+        i
     }
 
     /// The length of a character in quotes that begins with a backslash, as `'\''` and `'\x0d'`.

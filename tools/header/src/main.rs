@@ -2,17 +2,20 @@
 //!
 //! `header CRATES HEADER [ARCHIVE]` reads the sources below the folder CRATES, and the header. Each exported function and
 //! each struct that it names shall be in the header with the same names, types and order, and nothing else; each struct's
-//! size and offsets shall be asserted there. The symbol index of the archive shall name just the exported functions. Each
-//! difference is a line, and the last line counts. Exit status: 0 without differences, 1 with some or where nothing is
-//! exported, 2 if it cannot tell.
+//! size and offsets shall be asserted there. Each constant of the header's enums shall have the number that it stands for
+//! in sources and definitions, and each refusal and kind there a constant; so long shall be the arrays that the programs
+//! lend. The symbol index of the archive shall name just the exported functions. Each difference is a line, and the last
+//! line counts. Exit status: 0 without differences, 1 with some or where nothing is exported, 2 if it cannot tell.
 
 mod archive;
 mod compare;
+mod constants;
 mod declared;
 mod exports;
 mod header;
 mod lex;
 mod source;
+mod spec;
 
 use declared::Declared;
 use std::fs;
@@ -30,7 +33,7 @@ fn main() -> ExitCode {
         _ => Err("usage: header CRATES HEADER [ARCHIVE]".to_string()),
     };
     match answer {
-        Ok((source, found)) => report(&source, &found),
+        Ok(compared) => report(&compared),
         Err(what) => {
             eprintln!("header: {what}");
             ExitCode::from(2)
@@ -38,23 +41,31 @@ fn main() -> ExitCode {
     }
 }
 
-/// What is exported, and how header and archive differ from it.
-fn compared(crates: &str, header: &str, archive: Option<&String>) -> Result<(Declared, Vec<String>), String> {
+/// What is exported, what the header declares, and how header and archive differ from the sources.
+struct Compared {
+    source: Declared,
+    header: Declared,
+    found: Vec<String>,
+}
+
+fn compared(crates: &str, header: &str, archive: Option<&String>) -> Result<Compared, String> {
     let unreadable = |path: &str, e: String| format!("{path}: cannot be read: {e}");
     let source = exports::exported(Path::new(crates), CRATE)?;
     let text = fs::read_to_string(header).map_err(|e| unreadable(header, e.to_string()))?;
-    let mut found = compare::differences(&source, &header::declared(&text));
+    let header = header::declared(&text);
+    let mut found = compare::differences(&source, &header);
+    found.extend(constants::differences(Path::new(crates), &header)?);
     if let Some(path) = archive {
         let bytes = fs::read(path).map_err(|e| unreadable(path, e.to_string()))?;
         let symbols = archive::symbols(&bytes).map_err(|e| unreadable(path, e))?;
         found.extend(compare::archive_differences(&source, &symbols));
     }
-    Ok((source, found))
+    Ok(Compared { source, header, found })
 }
 
-fn report(source: &Declared, found: &[String]) -> ExitCode {
+fn report(Compared { source, header, found }: &Compared) -> ExitCode {
     found.iter().for_each(|line| println!("{line}"));
-    let (functions, structs) = (source.functions.len(), source.structs.len());
-    println!("header: {functions} functions, {structs} structs, {} differences", found.len());
+    let (functions, structs, constants) = (source.functions.len(), source.structs.len(), header.constants.len());
+    println!("header: {functions} functions, {structs} structs, {constants} constants, {} differences", found.len());
     ExitCode::from(u8::from(!found.is_empty() || functions == 0))
 }

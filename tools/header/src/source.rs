@@ -20,15 +20,68 @@ impl Source {
         Ok(Source { crate_name: crate_name.to_string(), module: module.to_string(), tokens })
     }
 
-    /// The crate and module in which a type that this file names is declared: where a `use` brings it from, or here.
+    /// Reads `ROOT/FILE`, where FILE is `CRATE/src/MODULE.rt`.
+    pub fn at(root: &Path, file: &str) -> Result<Source, String> {
+        let (crate_name, module) = file.split_once("/src/").unwrap_or(("", file));
+        Source::read(root, crate_name, module.trim_end_matches(".rt"))
+    }
+
+    /// The crate and module in which a type or a constant that this file names is declared: where a `use` brings it
+    /// from, or here.
     pub fn home(&self, name: &str) -> (String, String) {
-        let Some(path) = self.used(name) else {
-            return (self.crate_name.clone(), self.module.clone());
-        };
+        match self.used(name) {
+            Some(path) => self.place(&path),
+            None => (self.crate_name.clone(), self.module.clone()),
+        }
+    }
+
+    /// The crate and module that a path leads to.
+    fn place(&self, path: &[String]) -> (String, String) {
         let (first, rest) = path.split_first().expect("a path has a word");
         let crate_name = if first == "crate" { &self.crate_name } else { first };
         let module = if rest.is_empty() { "lib".to_string() } else { rest.join("/") };
         (crate_name.clone(), module)
+    }
+
+    /// The number of `const name: type = ..;`, if it stands here just once.
+    pub fn constant(&self, root: &Path, name: &str) -> Option<u64> {
+        let items = self.tokens.split(|token| token.text == ";");
+        let values = items.filter_map(|item| {
+            let at = item.windows(3).position(|w| w[0].text == "const" && w[1].text == name && w[2].text == ":")?;
+            let equals = item[at..].iter().position(|token| token.text == "=")?;
+            Some(&item[at + equals + 1..])
+        });
+        match values.collect::<Vec<_>>().as_slice() {
+            [value] => self.value(root, value),
+            _ => None,
+        }
+    }
+
+    /// The value of a sum of products of numbers and constants.
+    pub fn value(&self, root: &Path, tokens: &[Token]) -> Option<u64> {
+        let product = |tokens: &[Token]| -> Option<u64> {
+            tokens.split(|token| token.text == "*").map(|factor| self.factor(root, factor)).product()
+        };
+        tokens.split(|token| token.text == "+").map(product).sum()
+    }
+
+    /// The value of a number or a constant, which is named or reached by a path.
+    fn factor(&self, root: &Path, tokens: &[Token]) -> Option<u64> {
+        let words: Vec<String> = tokens.iter().map(|t| t.text.clone()).filter(|text| text != ":").collect();
+        let (name, path) = words.split_last()?;
+        let (crate_name, module) = match path {
+            [] if lex::number(name).is_some() => return lex::number(name),
+            [] => self.home(name),
+            path => self.place(path),
+        };
+        Source::read(root, &crate_name, &module).ok()?.constant(root, name)
+    }
+
+    /// The lengths of the arrays that `let name = [..; length]` makes, none where a length is not read.
+    pub fn lengths(&self, root: &Path, name: &str) -> Vec<Option<u64>> {
+        let plain: Vec<Token> = self.tokens.iter().filter(|token| token.text != "mut").cloned().collect();
+        let made = (1..plain.len()).filter(|i| plain[*i].text == name && plain[i - 1].text == "let");
+        made.map(|i| self.value(root, length(&plain[i..])?)).collect()
     }
 
     /// The path in front of `name` in the `use` that ends with it: `a::b` is `["a", "b"]`.
@@ -41,6 +94,15 @@ impl Source {
             })
             .find(|path| !path.is_empty())
     }
+}
+
+/// The length in `name = [..; length]`, also with a type behind the name.
+fn length(tokens: &[Token]) -> Option<&[Token]> {
+    let equals = tokens.iter().position(|token| token.text == "=")?;
+    let array = &tokens[equals + 1..];
+    let inside = array.first().filter(|token| token.text == "[").map(|_| lex::group(array))?;
+    let end = inside.iter().rposition(|token| token.text == ";")?;
+    Some(&inside[end + 1..])
 }
 
 /// The words of the path of a `use` that ends an item; none of a `ghost use`.

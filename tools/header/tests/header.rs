@@ -6,12 +6,114 @@ use std::sync::atomic::{AtomicUsize, Ordering};
 use std::{env, fs, process};
 
 /// The files of the right pair, each a path and its text.
-const FILES: [(&str, &str); 4] = [
+const FILES: [(&str, &str); 21] = [
     ("crates/host/src/lib.rt", "pub mod calls;\n"),
     ("crates/host/src/calls.rt", CALLS),
     ("crates/desk/src/state.rt", STATE),
     ("rei2.h", HEADER),
+    ("crates/desk/specs/Limits.antt", LIMITS),
+    ("crates/frames/src/request.rt", "pub const REQUEST_LEAD: u8 = 0x11;\npub const REQUEST_SIZE: usize = 24;\n"),
+    ("crates/frames/src/reply.rt", REPLY),
+    ("crates/frames/src/dynamic.rt", "pub const DYNAMIC_LEAD: u8 = 19;\npub const DYNAMIC_SIZE: usize = 46;\n"),
+    ("crates/frames/specs/Request.antt", REQUEST_KIND),
+    ("crates/frames/specs/Reply.antt", REPLY_KIND),
+    ("crates/frames/specs/Dynamic.antt", "dynamic = record { lead = 19; size = 46 }\n\nother = record { size = 7 }\n"),
+    ("crates/frames/specs/Refusals.antt", REFUSALS),
+    ("crates/times/specs/Running.antt", "TIME = 3\n\npub record Worked : Type 0 where\n  pub a : f 1 ≡ 3\n"),
+    ("crates/desk/specs/Calls.antt", "abbrev pub IN-USE : ℕ\nIN-USE = 4\n{- NO-SEAT = 5\nOLD = 6 -}\n"),
+    ("crates/listing/src/lib.rt", LISTING),
+    ("crates/listing/specs/Listing.antt", "abbrev pub mostInput : ℕ\nmostInput = 32768\n"),
+    ("crates/listing/specs/Sizes.antt", "abbrev pub longestList : ℕ\nlongestList = 14170\n"),
+    ("crates/host/specs/Reply.antt", NUMBERS),
+    ("crates/host/specs/Calls.antt", FOUND),
+    ("crates/rei2list/src/main.rt", PROGRAM),
+    ("crates/lists/src/main.rt", PROGRAM_BY_NAMES),
 ];
+
+const LIMITS: &str = "-- Limits.
+abbrev pub seatCount : ℕ
+seatCount = 16
+
+unfoldable pub mostCells : ℕ
+mostCells = 256
+
+abbrev pub cellSize : ℕ
+cellSize = 51 -- bytes
+";
+
+const REPLY: &str = "pub const REPLY_LEAD: u8 = 18;
+pub const REPLY_SIZE: usize = CELL_SIZE;
+const CELL_SIZE: usize = 5_1;
+";
+
+const REQUEST_KIND: &str = "abbrev pub request : Kind R
+request = record {
+  lead = 17;
+  size = 24;
+  of = λ v.
+      record { size = 9; lead = 8 };
+}
+";
+
+const REPLY_KIND: &str = "unfoldable pub reply : Kind R
+reply = record {
+  of = record { lead = 1; size = 2 };
+  lead = 18;
+  size = 51
+}
+";
+
+const REFUSALS: &str = "-- another lead byte
+abbrev pub KIND : ℕ
+KIND = 1
+
+abbrev pub ROOM : ℕ
+ROOM =
+    2
+
+abbrev pub most : ℕ
+most = 9
+";
+
+const LISTING: &str = r#"pub const TEXT: [u8; 3] = *b"a;b";
+// const MOST_INPUT: usize = 1;
+pub const MOST_INPUT: usize = 32768;
+pub const LONGEST_LIST: usize = 14170;
+"#;
+
+const FOUND: &str = "frameAnswer (OnTheWay start) = record { kind = 1; start = start }
+frameAnswer Nothing = record { start = 0; kind = 0 }
+";
+
+const NUMBERS: &str = "abbrev pub numbersOf : Timing → TimingNumbers
+numbersOf (Clock ticks) = record { kind = 1; ticks = ticks; net = pos 0 }
+numbersOf (Net value) =
+    record { ticks = 0; in = record { kind = 9 }; kind = 2; net = value }
+numbersOf Raw = record { kind = 0; ticks = 0; net = pos 0 }
+
+back n = cond (eqb (n .kind) 0) Raw (Net 3)
+";
+
+const PROGRAM: &str = "fn main() {
+    let mut input = [0u8; 32769];
+    let mut cells: [u8; 13056] = [0; 13056];
+    let mut marks = [0; 256];
+    let mut out = [0u8; 14170];
+    let other = [0; 3];
+}
+";
+
+const PROGRAM_BY_NAMES: &str = "use desk::state::CELLS;
+use desk::state::CELL_SIZE;
+use listing::LONGEST_LIST;
+
+fn main() {
+    let mut input = [0u8; listing::MOST_INPUT + 1];
+    let mut cells = [0; CELLS * CELL_SIZE];
+    let marks = [0; desk::state::CELLS];
+    let mut out = [0u8; LONGEST_LIST];
+}
+";
 
 const CALLS: &str = r#"// Calls with `#[no_mangle] pub extern "C" fn rei2_in_a_comment()`.
 use crate::lib::Unused;
@@ -50,7 +152,11 @@ fn helper(out: &mut [u8]) -> u32 {
 }
 "#;
 
-const STATE: &str = r#"#[repr(C)]
+const STATE: &str = r#"pub const SEATS: usize = 16;
+pub const CELLS: usize = 256;
+pub const CELL_SIZE: usize = 51;
+
+#[repr(C)]
 pub struct Desk {
     pub bits: u64,
     pub raw: [u8; 10],
@@ -75,8 +181,21 @@ const HEADER: &str = r#"/* A small header; void rei2_in_a_comment(void); */
     int rei2_in_a_macro(x);
 
 enum rei2_limits {
-    REI2_SEATS = 16 /* seats */
+    REI2_SEATS = 16, /* seats */
+    REI2_CELLS = 256,
+    REI2_CELL_SIZE = 51,
+    REI2_REQUEST_SIZE = 24,
+    REI2_REPLY_SIZE = 51,
+    REI2_DYNAMIC_SIZE = 46,
+    REI2_REQUEST_LEAD = 17,
+    REI2_REPLY_LEAD = 0x12,
+    REI2_DYNAMIC_LEAD = 19,
+    REI2_MOST_INPUT = 32768,
+    REI2_LONGEST_LIST = 14170
 };
+enum rei2_refusal { REI2_DONE = 0, REI2_KIND = 1, REI2_ROOM = 2, REI2_TIME = 3, REI2_IN_USE = 4 };
+enum rei2_timing { REI2_RAW = 0, REI2_CLOCK = 1, REI2_NET = 2, };
+enum rei2_found { REI2_NOTHING = 0, REI2_ON_THE_WAY = 1 };
 
 typedef struct rei2_seat {
     uint32_t requester;
@@ -120,7 +239,7 @@ void rei2_nothing(void);
 #endif
 "#;
 
-const RIGHT: &str = "header: 3 functions, 3 structs, 0 differences\n";
+const RIGHT: &str = "header: 3 functions, 3 structs, 21 constants, 0 differences\n";
 
 /// A folder for one test, which is removed with it.
 struct Folder(PathBuf);
@@ -372,10 +491,10 @@ fn an_assertion_is_missing() {
 
 #[test]
 fn what_is_not_read_is_told() {
-    let wanted = ["header, line 45: not read: extern int rei2_errors ;"];
+    let wanted = ["header, line 58: not read: extern int rei2_errors ;"];
     differs("uint32_t rei2_look", "extern int rei2_errors;\nuint32_t rei2_look", &wanted);
     let wanted = [
-        "header, line 12: not read: typedef struct rei2_seat { uint32_t requester ; uint32_t held , more ;",
+        "header, line 25: not read: typedef struct rei2_seat { uint32_t requester ; uint32_t held , more ;",
         "rei2_seat: the header lacks this struct",
     ];
     differs("uint32_t held;", "uint32_t held, more;", &wanted);
@@ -416,6 +535,189 @@ fn a_struct_of_another_crate_moves_a_field() {
     differs_in("crates/desk/src/state.rt", "bits: u64", "bits: u32", &wanted);
 }
 
+// Constants.
+
+#[test]
+fn a_limit_has_another_number_in_the_header() {
+    let wanted = [
+        "REI2_SEATS: 16 in desk/src/state.rt (SEATS), 17 in the header",
+        "REI2_SEATS: 16 in desk/specs/Limits.antt (seatCount), 17 in the header",
+    ];
+    differs("REI2_SEATS = 16", "REI2_SEATS = 17", &wanted);
+    let wanted = [
+        "REI2_REPLY_LEAD: 18 in frames/src/reply.rt (REPLY_LEAD), 19 in the header",
+        "REI2_REPLY_LEAD: 18 in frames/specs/Reply.antt (reply .lead), 19 in the header",
+    ];
+    differs("REI2_REPLY_LEAD = 0x12", "REI2_REPLY_LEAD = 0x13", &wanted);
+}
+
+#[test]
+fn a_limit_has_another_number_in_a_source() {
+    let wanted = ["REI2_SEATS: 64 in desk/src/state.rt (SEATS), 16 in the header"];
+    differs_in("crates/desk/src/state.rt", "SEATS: usize = 16", "SEATS: usize = 64", &wanted);
+    let wanted = ["REI2_REPLY_SIZE: 52 in frames/src/reply.rt (REPLY_SIZE), 51 in the header"];
+    differs_in("crates/frames/src/reply.rt", "5_1", "5_2", &wanted);
+    differs_in("crates/frames/src/reply.rt", "= CELL_SIZE", "= CELL_SIZE + 1", &wanted);
+}
+
+#[test]
+fn a_limit_has_another_number_in_a_definition() {
+    let wanted = ["REI2_CELLS: 255 in desk/specs/Limits.antt (mostCells), 256 in the header"];
+    differs_in("crates/desk/specs/Limits.antt", "mostCells = 256", "mostCells = 255", &wanted);
+    let wanted = ["REI2_REQUEST_SIZE: 25 in frames/specs/Request.antt (request .size), 24 in the header"];
+    differs_in("crates/frames/specs/Request.antt", "size = 24", "size = 25", &wanted);
+    let wanted = ["REI2_REPLY_SIZE: 50 in frames/specs/Reply.antt (reply .size), 51 in the header"];
+    differs_in("crates/frames/specs/Reply.antt", "size = 51", "size = 50", &wanted);
+    let wanted = ["REI2_LONGEST_LIST: 1417 in listing/specs/Sizes.antt (longestList), 14170 in the header"];
+    differs_in("crates/listing/specs/Sizes.antt", "= 14170", "= 1417", &wanted);
+}
+
+#[test]
+fn a_limit_has_no_number() {
+    let wanted = ["REI2_LONGEST_LIST: no single number in listing/src/lib.rt (LONGEST_LIST)"];
+    let lengths = "lists/src/main.rt: out has a length that is not read, by the header 14170";
+    let both = [wanted[0], lengths];
+    differs_in("crates/listing/src/lib.rt", "const LONGEST_LIST", "const LONGEST", &both);
+    differs_in("crates/listing/src/lib.rt", "const LONGEST_LIST", "// const LONGEST_LIST", &both);
+    let again = "const LONGEST_LIST: usize = 1;\nconst LONGEST_LIST";
+    differs_in("crates/listing/src/lib.rt", "const LONGEST_LIST", again, &both);
+    let wanted = ["REI2_SEATS: no single number in desk/specs/Limits.antt (seatCount)"];
+    for other in
+        ["seatCounts = 16", "-- seatCount = 16", "seatCount = f 16", "  seatCount = 16", "{-\nseatCount = 16\n-}"]
+    {
+        differs_in("crates/desk/specs/Limits.antt", "seatCount = 16", other, &wanted);
+    }
+    differs_in("crates/desk/specs/Limits.antt", "seatCount = 16", "seatCount = 16\nseatCount = 16", &wanted);
+    let wanted = ["REI2_DYNAMIC_SIZE: no single number in frames/specs/Dynamic.antt (dynamic .size)"];
+    differs_in("crates/frames/specs/Dynamic.antt", "; size = 46", "; size = 46 + 0", &wanted);
+    differs_in("crates/frames/specs/Dynamic.antt", "; size = 46", "", &wanted);
+}
+
+#[test]
+fn a_constant_is_missing_in_the_header() {
+    let wanted = ["REI2_REPLY_SIZE: enum rei2_limits of the header lacks this constant"];
+    differs("    REI2_REPLY_SIZE = 51,\n", "", &wanted);
+    differs(", REI2_ROOM = 2", "", &["REI2_ROOM: enum rei2_refusal of the header lacks this constant"]);
+    differs("REI2_CLOCK = 1,", "", &["REI2_CLOCK: enum rei2_timing of the header lacks this constant"]);
+    differs(", REI2_ON_THE_WAY = 1", "", &["REI2_ON_THE_WAY: enum rei2_found of the header lacks this constant"]);
+}
+
+#[test]
+fn a_constant_too_many() {
+    differs(
+        "REI2_SEATS = 16,",
+        "REI2_SEATS = 16, REI2_SEAT_SIZE = 16,",
+        &["REI2_SEAT_SIZE: not compared: no number is known that it stands for"],
+    );
+    differs(
+        "REI2_DONE = 0,",
+        "REI2_DONE = 0, REI2_PAGE = 5,",
+        &["REI2_PAGE: not compared: no number is known that it stands for"],
+    );
+    differs(
+        "REI2_RAW = 0,",
+        "REI2_RAW = 0, REI2_MARK = 3,",
+        &["REI2_MARK: not compared: no number is known that it stands for"],
+    );
+    let more = "enum rei2_more { REI2_ONE = 1, REI2_SEATS = 16 };\nenum rei2_found {";
+    let wanted = [
+        "REI2_SEATS: stands twice",
+        "REI2_ONE: not compared: no number is known that it stands for",
+        "REI2_SEATS: not compared: no number is known that it stands for",
+    ];
+    differs("enum rei2_found {", more, &wanted);
+    let wanted = ["REI2_ONE: not compared: no number is known that it stands for"];
+    differs("enum rei2_found {", "enum { REI2_ONE = 1 };\nenum rei2_found {", &wanted);
+}
+
+#[test]
+fn a_constant_that_is_not_read_is_told() {
+    let lacks = |name: &str| format!("REI2_{name}: enum rei2_found of the header lacks this constant");
+    for other in ["REI2_NOTHING,", "REI2_NOTHING = 1 - 1,", "REI2_NOTHING = ZERO,"] {
+        let (status, printed, _) = Folder::edited("rei2.h", "REI2_NOTHING = 0,", other).run(&["crates", "rei2.h"]);
+        let lines: Vec<&str> = printed.lines().collect();
+        assert!(lines[0].starts_with("header, line 23: not read: enum rei2_found { REI2_NOTHING "), "{}", lines[0]);
+        assert_eq!(lines[1..3], [lacks("ON_THE_WAY"), lacks("NOTHING")]);
+        assert_eq!((status, lines.len()), (1, 4));
+    }
+}
+
+#[test]
+fn a_refusal_has_another_number() {
+    let wanted = ["REI2_IN_USE: 4 in desk/specs/Calls.antt (IN-USE), 5 in the header"];
+    differs("REI2_IN_USE = 4", "REI2_IN_USE = 5", &wanted);
+    let wanted = ["REI2_TIME: 8 in times/specs/Running.antt (TIME), 3 in the header"];
+    differs_in("crates/times/specs/Running.antt", "TIME = 3", "TIME = 8", &wanted);
+    let wanted = ["REI2_DONE: 0 in the answer of a call that was done, 9 in the header"];
+    differs("REI2_DONE = 0", "REI2_DONE = 9", &wanted);
+}
+
+#[test]
+fn a_refusal_is_only_on_one_side() {
+    let wanted = ["REI2_NO_SEAT: enum rei2_refusal of the header lacks this constant"];
+    differs_in("crates/desk/specs/Calls.antt", "IN-USE = 4\n", "IN-USE = 4\nNO-SEAT = 5\n", &wanted);
+    let wanted = ["REI2_ROOM: not compared: no number is known that it stands for"];
+    differs_in("crates/frames/specs/Refusals.antt", "ROOM =\n    2", "ROOM = KIND", &wanted);
+}
+
+#[test]
+fn a_kind_has_another_number() {
+    let wanted = [
+        "REI2_CLOCK: 1 in host/specs/Reply.antt (numbersOf Clock), 0 in the header",
+        "REI2_RAW: 0 in host/specs/Reply.antt (numbersOf Raw), 1 in the header",
+    ];
+    differs("REI2_RAW = 0, REI2_CLOCK = 1", "REI2_RAW = 1, REI2_CLOCK = 0", &wanted);
+    let wanted = ["REI2_NET: 3 in host/specs/Reply.antt (numbersOf Net), 2 in the header"];
+    differs_in("crates/host/specs/Reply.antt", "kind = 2", "kind = 3", &wanted);
+    let wanted = ["REI2_ON_THE_WAY: 2 in host/specs/Calls.antt (frameAnswer OnTheWay), 1 in the header"];
+    differs_in("crates/host/specs/Calls.antt", "kind = 1", "kind = 2", &wanted);
+    let wanted = ["REI2_NET: no single number in host/specs/Reply.antt (numbersOf Net)"];
+    differs_in("crates/host/specs/Reply.antt", "kind = 2", "kind = two", &wanted);
+}
+
+#[test]
+fn a_kind_is_only_on_one_side() {
+    let more = "numbersOf Raw = record { kind = 0; ticks = 0; net = pos 0 }\nnumbersOf Mark = record { kind = 3 }";
+    let wanted = ["REI2_MARK: enum rei2_timing of the header lacks this constant"];
+    differs_in("crates/host/specs/Reply.antt", more.lines().next().expect("a line"), more, &wanted);
+    let wanted = ["REI2_NOTHING: not compared: no number is known that it stands for"];
+    differs_in("crates/host/specs/Calls.antt", "frameAnswer Nothing", "answer Nothing", &wanted);
+}
+
+#[test]
+fn an_array_of_a_program_has_another_length() {
+    for (array, old, new, right) in [
+        ("input", "32769", "32768", "32769"),
+        ("cells", "[0; 13056]", "[0; 13057]", "13056"),
+        ("marks", "[0; 256]", "[0; 25]", "256"),
+        ("out", "[0u8; 14170]", "[0u8; 14169]", "14170"),
+    ] {
+        let length: String = new.split("; ").last().expect("a length").chars().filter(char::is_ascii_digit).collect();
+        let wanted = format!("rei2list/src/main.rt: {array} has {length}, by the header {right}");
+        differs_in("crates/rei2list/src/main.rt", old, new, &[&wanted]);
+    }
+    let wanted = ["lists/src/main.rt: cells has 307, by the header 13056"];
+    differs_in("crates/lists/src/main.rt", "CELLS * CELL_SIZE", "CELLS + CELL_SIZE", &wanted);
+    let wanted = ["lists/src/main.rt: marks has 51, by the header 256"];
+    differs_in("crates/lists/src/main.rt", "desk::state::CELLS]", "desk::state::CELL_SIZE]", &wanted);
+}
+
+#[test]
+fn an_array_of_a_program_is_not_found() {
+    let wanted = ["lists/src/main.rt: makes no array marks"];
+    differs_in("crates/lists/src/main.rt", "let marks", "let places", &wanted);
+    let wanted = ["lists/src/main.rt: out has a length that is not read, by the header 14170"];
+    differs_in("crates/lists/src/main.rt", "; LONGEST_LIST]", "; LONGEST]", &wanted);
+    differs_in("crates/lists/src/main.rt", "[0u8; LONGEST_LIST]", "io::buffer()", &wanted);
+}
+
+#[test]
+fn an_array_is_made_twice() {
+    let two = "let mut marks = [0; 256];\n    let mut marks = [0; 255];";
+    let wanted = ["rei2list/src/main.rt: marks has 255, by the header 256"];
+    differs_in("crates/rei2list/src/main.rt", "let mut marks = [0; 256];", two, &wanted);
+}
+
 // The archive.
 
 #[test]
@@ -447,6 +749,10 @@ fn it_cannot_tell() {
     assert_eq!(told(&["crates"]), "header: usage: header CRATES HEADER [ARCHIVE]\n");
     assert!(told(&["crates", "other.h"]).starts_with("header: other.h: cannot be read"));
     assert!(told(&["nowhere", "rei2.h"]).starts_with("header: nowhere/host/src: cannot be read"));
+    let limits = folder.0.join("crates/desk/specs/Limits.antt");
+    fs::remove_file(&limits).expect("the file is removed");
+    assert!(told(&["crates", "rei2.h"]).starts_with("header: crates/desk/specs/Limits.antt: cannot be read"));
+    fs::write(limits, LIMITS).expect("the file is written");
     let no_archive = "header: rei2.h: cannot be read: it is no archive with a symbol index\n";
     assert_eq!(told(&["crates", "rei2.h", "rei2.h"]), no_archive);
 }
@@ -455,7 +761,8 @@ fn it_cannot_tell() {
 fn nothing_exported_is_no_success() {
     let folder = Folder::right();
     fs::write(folder.0.join("crates/host/src/calls.rt"), "fn helper() {}\n").expect("the file is written");
-    fs::write(folder.0.join("rei2.h"), "").expect("the header is written");
+    let constants = HEADER.find("typedef").expect("the structs come behind the constants");
+    fs::write(folder.0.join("rei2.h"), &HEADER[..constants]).expect("the header is written");
     let (status, printed, _) = folder.run(&["crates", "rei2.h"]);
-    assert_eq!((status, printed.as_str()), (1, "header: 0 functions, 0 structs, 0 differences\n"));
+    assert_eq!((status, printed.as_str()), (1, "header: 0 functions, 0 structs, 21 constants, 0 differences\n"));
 }

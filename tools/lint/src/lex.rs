@@ -24,13 +24,33 @@ pub fn tokens(text: &str) -> Result<Vec<Token>, (usize, String)> {
     }
 }
 
+/// The text of an antt file with a blank for each comment and each quoted text, line by line as it was; or a line and
+/// what is wrong there.
+pub fn uncommented(text: &str) -> Result<String, (usize, String)> {
+    let mut lexer = Lexer { chars: text.chars().collect(), at: 0, line: 1, tokens: Vec::new() };
+    let mut kept = String::new();
+    while lexer.at < lexer.chars.len() {
+        let start = lexer.at;
+        let passed = lexer.pass_comment().map_err(|what| (lexer.line, what))?;
+        if passed {
+            kept.push(' ');
+            kept.extend(lexer.chars[start..lexer.at].iter().filter(|c| **c == '\n'));
+        } else if in_name(lexer.peek(0)) {
+            kept += &lexer.run(in_name);
+        } else {
+            kept.push(lexer.step().map_err(|what| (lexer.line, what))?);
+        }
+    }
+    Ok(kept)
+}
+
 /// May `c` stand in a word of Rattle?
 pub fn in_word(c: char) -> bool {
     c.is_alphanumeric() || c == '_'
 }
 
 /// May `c` stand in a name of antt? `n+n` is one name, and so is `b'`.
-fn in_name(c: char) -> bool {
+pub fn in_name(c: char) -> bool {
     !c.is_whitespace() && !"(){}.;,@\"«»⟦⟧\0".contains(c)
 }
 
@@ -151,19 +171,28 @@ impl Lexer {
         Some(end)
     }
 
+    /// Steps over a comment or a quoted text of antt, if one begins here.
+    fn pass_comment(&mut self) -> Result<bool, String> {
+        if self.sees("--") {
+            self.run(|c| c != '\n');
+        } else if self.sees("{-") {
+            self.comment("{-", "-}")?;
+        } else {
+            return Ok(self.peek(0) == '"' && self.literal()?);
+        }
+        Ok(true)
+    }
+
     /// Reads antt into the last token, up to an `end` outside its braces.
     fn clause(&mut self, end: char) -> Result<(), String> {
         let mut names = Vec::new();
         let mut depth = 0;
         loop {
             let c = self.peek(0);
-            if self.sees("--") {
-                self.run(|c| c != '\n');
-            } else if self.sees("{-") {
-                self.comment("{-", "-}")?;
-            } else if c == '"' {
-                self.literal()?;
-            } else if c == '⟦' {
+            if self.pass_comment()? {
+                continue;
+            }
+            if c == '⟦' {
                 self.run_to('⟧')?; // Rattle, without comments
             } else if in_name(c) {
                 names.push(self.run(in_name));

@@ -1,21 +1,32 @@
 //! Finds the public functions of a repository's Rattle libraries whose contract falls short.
 //!
 //! `lint ROOT` reads each library crate of ROOT/crates. A function that another crate can reach shall ask nothing of its
-//! caller (no `requires`), say what it does (an `ensures`), and say what is at the end in all memory that it is lent by
-//! `&mut` (`out .exit` in an `ensures`). Each fault is a line, and the last line counts; `--list` prints each public
-//! function first. Exit status: 0 if there are public functions and no fault, else 1; 2 if it cannot tell.
+//! caller (no `requires`), say what it does and gives back (an `ensures`), and say what is at the end in all memory that
+//! it is lent by `&mut` (`out .exit` in an `ensures`).
+//!
+//! No second outcome shall meet what it promises. That is plain of an equation: `r ≡ ..`, or `now (out .exit) ≡ ..`. Any
+//! other promise shall be one predicate, `P r ..`, and specs/Unique.antt of the crate shall say so of it: in `pub record
+//! OneOutcome`, a field with the function's name that says `Once` of `P`. Each field shall belong to such a function, and
+//! a file of the crate's proofs shall prove the record (a line `pub NAME : OneOutcome`).
+//!
+//! Each fault is a line, and the last line counts; `--list` prints each public function first. Exit status: 0 if there
+//! are public functions and no fault, else 1; 2 if it cannot tell.
 //!
 //! `--tests NAME,..` names libraries that are for tests alone. No contract can say what they print or read, so their
 //! functions need no `ensures`. No other library may depend on them: ROOT/crates.txt tells what depends on what.
 
+mod contract;
 mod lex;
 mod listed;
 mod parse;
 mod reach;
+mod unique;
 
+use contract::Promise;
 use parse::{Crate, Function, Kind};
 use std::path::{Path, PathBuf};
 use std::process::ExitCode;
+use unique::Unique;
 
 fn main() -> ExitCode {
     let words = std::env::args_os().skip(1).map(|word| word.to_string_lossy().into_owned());
@@ -23,8 +34,8 @@ fn main() -> ExitCode {
         return refuse("usage: lint ROOT [--list] [--tests NAME,..]");
     };
     let listed = listed::faults(&root, &tests);
-    match listed.and_then(|listed| Ok((public_functions(&root, &tests)?, listed))) {
-        Ok((functions, listed)) => report(&functions, &listed, list),
+    match listed.and_then(|listed| Ok((read(&root, &tests)?, listed))) {
+        Ok((read, listed)) => report(&read, &listed, list),
         Err(what) => refuse(&what),
     }
 }
@@ -67,77 +78,78 @@ struct Public {
     faults: Vec<String>,
 }
 
-/// Prints what was found in the functions, and in crates.txt.
-fn report(functions: &[Public], listed: &[String], list: bool) -> ExitCode {
-    let place = |f: &Public| format!("{}:{}: {}", f.file.display(), f.line, f.name);
-    for function in functions.iter().filter(|_| list) {
-        println!("{}", place(function));
-    }
-    for function in functions {
-        function.faults.iter().for_each(|fault| println!("{}: {fault}", place(function)));
-    }
-    listed.iter().for_each(|fault| println!("{fault}"));
-    let short = functions.iter().filter(|f| !f.faults.is_empty()).count();
-    let rest = if listed.is_empty() { String::new() } else { format!("; faults in crates.txt: {}", listed.len()) };
-    println!("lint: {} public functions, {short} fall short{rest}", functions.len());
-    ExitCode::from(u8::from(short > 0 || functions.is_empty() || !listed.is_empty()))
+/// What all library crates have.
+#[derive(Default)]
+struct Read {
+    /// By file and line.
+    functions: Vec<Public>,
+    /// The faults of the files specs/Unique.antt.
+    unique: Vec<String>,
 }
 
-/// The public functions of all library crates, by file and line.
-fn public_functions(root: &Path, tests: &[String]) -> Result<Vec<Public>, String> {
-    let mut found = Vec::new();
-    for source in libraries(root)? {
-        let for_tests = tests.iter().any(|name| source == Path::new("crates").join(name).join("src"));
+/// Prints what was found in the functions, in the statements about them, and in crates.txt.
+fn report(read: &Read, listed: &[String], list: bool) -> ExitCode {
+    let place = |f: &Public| format!("{}:{}: {}", f.file.display(), f.line, f.name);
+    for function in read.functions.iter().filter(|_| list) {
+        println!("{}", place(function));
+    }
+    for function in &read.functions {
+        function.faults.iter().for_each(|fault| println!("{}: {fault}", place(function)));
+    }
+    read.unique.iter().chain(listed).for_each(|fault| println!("{fault}"));
+    let short = read.functions.iter().filter(|f| !f.faults.is_empty()).count();
+    print!("lint: {} public functions, {short} fall short", read.functions.len());
+    for (file, faults) in [("specs/Unique.antt", read.unique.as_slice()), ("crates.txt", listed)] {
+        if !faults.is_empty() {
+            print!("; faults in {file}: {}", faults.len());
+        }
+    }
+    println!();
+    let others = !read.unique.is_empty() || !listed.is_empty();
+    ExitCode::from(u8::from(short > 0 || read.functions.is_empty() || others))
+}
+
+/// Reads all library crates. Those of `tests` are for tests alone.
+fn read(root: &Path, tests: &[String]) -> Result<Read, String> {
+    let mut found = Read::default();
+    for folder in libraries(root)? {
+        let for_tests = tests.iter().any(|name| folder == Path::new("crates").join(name));
+        let mut unique = if for_tests { None } else { Some(Unique::read(root, &folder)?) };
         let mut krate = Crate::default();
-        krate.read(root, &source.join("lib.rt"), &source, None)?;
+        krate.read(root, &folder.join("src/lib.rt"), &folder.join("src"), None)?;
         for (item, reached) in krate.items.iter().zip(reach::reached(&krate)) {
             if let (Kind::Function(function), true) = (&item.kind, reached) {
                 let file = krate.modules[item.module].file.clone();
-                let faults = faults(function, for_tests);
-                found.push(Public { file, line: item.line, name: item.name.clone(), faults });
+                let mut faults = contract::faults(function, for_tests);
+                faults.extend(unique.as_mut().and_then(|unique| second_outcome(unique, &item.name, function)));
+                found.functions.push(Public { file, line: item.line, name: item.name.clone(), faults });
             }
         }
+        found.unique.extend(unique.map(Unique::faults).unwrap_or_default());
     }
-    found.sort();
+    found.functions.sort();
+    found.unique.sort();
     Ok(found)
 }
 
-/// The folder `src`, as seen from `root`, of each crate that has a `src/lib.rt`.
+/// What leaves room for a second outcome of the function.
+fn second_outcome(unique: &mut Unique, name: &str, function: &Function) -> Option<String> {
+    match contract::promise(function)? {
+        Promise::Equation => None,
+        Promise::Predicate(predicate) => unique.asked(name, &predicate),
+        Promise::Neither => Some("its promise is neither an equation nor one predicate".to_string()),
+    }
+}
+
+/// The folder, as seen from `root`, of each crate that has a `src/lib.rt`.
 fn libraries(root: &Path) -> Result<Vec<PathBuf>, String> {
     let unreadable = |e| format!("{}: cannot be read: {e}", root.join("crates").display());
     let mut found = Vec::new();
     for entry in root.join("crates").read_dir().map_err(unreadable)? {
-        let source = Path::new("crates").join(entry.map_err(unreadable)?.file_name()).join("src");
-        if root.join(&source).join("lib.rt").exists() {
-            found.push(source);
+        let folder = Path::new("crates").join(entry.map_err(unreadable)?.file_name());
+        if root.join(&folder).join("src/lib.rt").exists() {
+            found.push(folder);
         }
     }
     Ok(found)
-}
-
-/// What the contract of a public function lacks; of one for tests alone, a `requires` is all that counts.
-fn faults(function: &Function, for_tests: bool) -> Vec<String> {
-    let clauses = |wanted| function.clauses.iter().filter(move |(keyword, _)| keyword == wanted);
-    let mut found = Vec::new();
-    if clauses("requires").next().is_some() {
-        found.push("has a `requires`".to_string());
-    }
-    if for_tests {
-        return found;
-    }
-    if clauses("ensures").next().is_none() {
-        found.push("has no `ensures`".to_string());
-    }
-    for name in &function.lent {
-        if !clauses("ensures").any(|(_, text)| names_exit(text, name)) {
-            found.push(format!("`{name}` is lent by `&mut`, and no `ensures` names `{name} .exit`"));
-        }
-    }
-    found
-}
-
-/// Does the text name `parameter .exit`? After a dot the same name is a field's.
-fn names_exit(text: &[String], parameter: &str) -> bool {
-    let exits = |i: usize| text[i] == parameter && text[i + 1..].starts_with(&[".".to_string(), "exit".to_string()]);
-    (0..text.len()).any(|i| exits(i) && (i == 0 || text[i - 1] != "."))
 }

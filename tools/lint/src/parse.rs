@@ -51,6 +51,8 @@ pub struct Function {
     pub owner: Option<Names>,
     /// The parameters that are `&mut ..`.
     pub lent: Vec<String>,
+    /// Does it give a value back?
+    pub gives: bool,
     /// Its clauses: each one's keyword, and the names and marks of its text.
     pub clauses: Vec<(String, Vec<String>)>,
 }
@@ -201,9 +203,10 @@ impl Parser<'_> {
         let mut mentions = paths(parameters);
         let rest = self.until(&["{", ";"])?;
         mentions.extend(paths(rest));
+        let gives = rest.first().is_some_and(|t| t.text == "-"); // the arrow
         let clauses = rest.iter().filter_map(|t| Some((t.text.clone(), t.clause.clone()?))).collect();
         self.group()?;
-        let function = Function { owner: self.owner.clone(), lent, clauses };
+        let function = Function { owner: self.owner.clone(), lent, gives, clauses };
         self.push(name, line, public, Kind::Function(function), mentions);
         Ok(())
     }

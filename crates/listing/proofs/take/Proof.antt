@@ -31,7 +31,7 @@ returns : tie.Need-returns
 returns c =
     let a = c .before .before .before .before .before .before .before .before .before .before .before .before .before .before .before .before .before .before .args in
     let r = c .before .before .before .before .before .before .before .before .before .before .before .before .before .before .reset .ensures in
-    let k = rw (r .0, r .1) at (c .before .before .before .before .before .before .before .before .before .take-capture .ensures) in
+    let k = rw r at (c .before .before .before .before .before .before .before .before .before .take-capture .ensures) in
     taken-as (now (a .cells)) (now (a .marks)) (now (a .capture)) _ _ (rw (c .before .before .answer .given .1) at k) refl
 
 same-length-3 : tie.Need-same-length-3
@@ -44,7 +44,7 @@ returns-2 : tie.Need-returns-2
 returns-2 c =
     let a = c .before .before .before .before .before .before .before .before .before .before .before .before .before .before .before .before .args in
     let r = c .before .before .before .before .before .before .before .before .before .before .before .before .reset .ensures in
-    let k = rw (r .0, r .1) at (c .before .before .before .before .before .before .before .take-capture .ensures) in
+    let k = rw r at (c .before .before .before .before .before .before .before .take-capture .ensures) in
     never-no-desk (now (a .cells)) (now (a .marks)) (now (a .capture)) _ (rw (c .enum-told .given .1) at k)
 
 pub take-spec : {M : Type 1} → statement M

@@ -1,0 +1,75 @@
+-- The rule of mixed replies, over the frames of one request alone: which of them it keeps, and what each is answered.
+-- No definition of the desk is in it. A frame goes by the record that the reader gives: requester, number and status letter.
+use Prim.Native.Nat.{ℕ}
+use mathlib.Core.List.{List, [], _∷_}
+use mathlib.Core.Bool.{Bool, true, false, cond, _&&_}
+use lib.Dec.{eqb}
+use Rattle.digits.specs.Told.{Told, gives, refuses}
+use Rattle.frames.specs.Kind.{read}
+use Rattle.frames.specs.Reply.{reply}
+use Rattle.frames.specs.declared.reply.StaticReply.{StaticReply}
+use Rattle.desk.specs.declared.call.Key.{Key}
+
+abbrev pub Frame : Type 0
+Frame = List ℕ
+
+-- ---- whose a frame is: well formed, with the request's requester and number
+
+abbrev pub isTo : Key → Told StaticReply → Bool
+isTo k (gives r) = eqb (k .requester) (r .requester) && eqb (k .number) (r .number)
+isTo k (refuses number offset) = false
+
+-- ---- its status: R, E or Z
+
+abbrev pub letterIn : Told StaticReply → ℕ
+letterIn (gives r) = r .status
+letterIn (refuses number offset) = 0
+
+abbrev pub isE : Frame → Bool
+isE f = eqb (letterIn (read reply f)) 69
+
+abbrev pub isZ : Frame → Bool
+isZ f = eqb (letterIn (read reply f)) 90
+
+-- ---- what the request keeps of its frames
+
+abbrev pub withoutZ : List Frame → List Frame
+withoutZ [] = []
+withoutZ (f ∷ fs) = cond (isZ f) (withoutZ fs) (f ∷ withoutZ fs)
+
+abbrev pub upToE : List Frame → List Frame
+upToE [] = []
+upToE (f ∷ fs) = f ∷ cond (isE f) [] (upToE fs)
+
+-- a first Z alone; otherwise all up to the first E, without the Zs
+abbrev pub keptFirst : List Frame → List Frame
+keptFirst [] = []
+keptFirst (f ∷ fs) = cond (isZ f) (f ∷ []) (upToE (withoutZ (f ∷ fs)))
+
+-- `any` says that it holds records already, `ended` that it had its ending one
+abbrev pub kept : Bool → Bool → List Frame → List Frame
+kept any true fs = []
+kept true false fs = upToE (withoutZ fs)
+kept false false fs = keptFirst fs
+
+-- ---- what its frames are answered, where s is its seat
+
+-- after the ending one each is ENDED, which is 14
+abbrev pub saidEnded : List Frame → List (Told ℕ)
+saidEnded [] = []
+saidEnded (f ∷ fs) = refuses 14 0 ∷ saidEnded fs
+
+-- among records a Z is OUT OF PLACE, which is 15; any other is taken
+abbrev pub saidAmong : ℕ → List Frame → List (Told ℕ)
+saidAmong s [] = []
+saidAmong s (f ∷ fs) = cond (isZ f) (refuses 15 0 ∷ saidAmong s fs) (gives s ∷ cond (isE f) (saidEnded fs) (saidAmong s fs))
+
+-- a first Z is taken, and ends
+abbrev pub saidFirst : ℕ → List Frame → List (Told ℕ)
+saidFirst s [] = []
+saidFirst s (f ∷ fs) = cond (isZ f) (gives s ∷ saidEnded fs) (saidAmong s (f ∷ fs))
+
+abbrev pub said : ℕ → Bool → Bool → List Frame → List (Told ℕ)
+said s any true fs = saidEnded fs
+said s true false fs = saidAmong s fs
+said s false false fs = saidFirst s fs

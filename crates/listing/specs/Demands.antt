@@ -1,0 +1,22 @@
+-- What is demanded of a list: it is that of the capture, and a call turned away changes nothing that is lent.
+use Prim.Native.Nat.{ℕ}
+use mathlib.Core.List.{List}
+use mathlib.Core.Path.{_≡_}
+use Rattle.digits.specs.Told.{gives, refuses}
+use Rattle.desk.specs.Capture.{captures}
+use Rattle.listing.specs.declared.ListAnswer.{ListAnswer}
+use Rattle.listing.specs.Listing.{store, after, counts, listTold, Listed}
+
+-- its rows and counts are those of the capture, taken on an emptied desk: what is proved of a capture holds of a list
+abbrev pub ListIsOfCapture : Type 0
+ListIsOfCapture = (cells marks s : List ℕ) → captures (store cells marks) s ≡ record { answer = gives (counts cells marks s); after = after cells marks s }
+
+pub record Untouched (cells marks out cells′ marks′ out′ : List ℕ) : Type 0 where
+  pub same-cells : cells′ ≡ cells
+  pub same-marks : marks′ ≡ marks
+  pub same-out : out′ ≡ out
+
+abbrev pub RefusedKeeps : Type 0
+RefusedKeeps =
+    (cells marks s out : List ℕ) (answer : ListAnswer) (cells′ marks′ out′ : List ℕ) (number offset : ℕ)
+    → Listed cells marks s out answer cells′ marks′ out′ → listTold answer ≡ refuses number offset → Untouched cells marks out cells′ marks′ out′

@@ -1,0 +1,136 @@
+//! Says how the constants of the header's enums differ from the numbers that they stand for in sources and definitions.
+
+use crate::declared::{Constant, Declared};
+use crate::exports;
+use crate::source::Source;
+use crate::spec::Spec;
+use std::path::Path;
+
+/// Each constant of `enum rei2_limits`, and where its number stands below the crates: a constant of a source, and a
+/// definition, or a field of one, of a file of specs.
+const LIMITS: [(&str, [(&str, &str); 2]); 11] = [
+    ("REI2_SEATS", [("desk/src/state.rt", "SEATS"), ("desk/specs/Limits.antt", "seatCount")]),
+    ("REI2_CELLS", [("desk/src/state.rt", "CELLS"), ("desk/specs/Limits.antt", "mostCells")]),
+    ("REI2_CELL_SIZE", [("desk/src/state.rt", "CELL_SIZE"), ("desk/specs/Limits.antt", "cellSize")]),
+    ("REI2_REQUEST_SIZE", [("frames/src/request.rt", "REQUEST_SIZE"), ("frames/specs/Request.antt", "request .size")]),
+    ("REI2_REPLY_SIZE", [("frames/src/reply.rt", "REPLY_SIZE"), ("frames/specs/Reply.antt", "reply .size")]),
+    ("REI2_DYNAMIC_SIZE", [("frames/src/dynamic.rt", "DYNAMIC_SIZE"), ("frames/specs/Dynamic.antt", "dynamic .size")]),
+    ("REI2_REQUEST_LEAD", [("frames/src/request.rt", "REQUEST_LEAD"), ("frames/specs/Request.antt", "request .lead")]),
+    ("REI2_REPLY_LEAD", [("frames/src/reply.rt", "REPLY_LEAD"), ("frames/specs/Reply.antt", "reply .lead")]),
+    ("REI2_DYNAMIC_LEAD", [("frames/src/dynamic.rt", "DYNAMIC_LEAD"), ("frames/specs/Dynamic.antt", "dynamic .lead")]),
+    ("REI2_MOST_INPUT", [("listing/src/lib.rt", "MOST_INPUT"), ("listing/specs/Listing.antt", "mostInput")]),
+    ("REI2_LONGEST_LIST", [("listing/src/lib.rt", "LONGEST_LIST"), ("listing/specs/Sizes.antt", "longestList")]),
+];
+
+/// The files whose definitions in capitals are the refusals, each with its number.
+const REFUSALS: [&str; 3] = ["frames/specs/Refusals.antt", "times/specs/Running.antt", "desk/specs/Calls.antt"];
+
+/// Each enum of kinds, and the function that gives each constructor its number, as the field `kind` of a record.
+const KINDS: [(&str, &str, &str); 2] =
+    [("rei2_timing", "host/specs/Reply.antt", "numbersOf"), ("rei2_found", "host/specs/Calls.antt", "frameAnswer")];
+
+/// The programs that list captures.
+const PROGRAMS: [&str; 2] = ["rei2list/src/main.rt", "lists/src/main.rt"];
+
+/// Each array that they lend: how long it is, as a product of constants and so many more.
+const LENT: [(&str, &[&str], u64); 4] = [
+    // one byte more than is listed, to see that there is more
+    ("input", &["REI2_MOST_INPUT"], 1),
+    ("cells", &["REI2_CELLS", "REI2_CELL_SIZE"], 0),
+    ("marks", &["REI2_CELLS"], 0),
+    ("out", &["REI2_LONGEST_LIST"], 0),
+];
+
+/// A constant that the header shall have.
+struct Wanted {
+    group: &'static str,
+    name: String,
+    /// Where its number stands, and the number, if there is one.
+    places: Vec<(String, Option<u64>)>,
+}
+
+/// Every difference, a line each.
+pub fn differences(root: &Path, header: &Declared) -> Result<Vec<String>, String> {
+    let mut wanted = limits(root)?;
+    wanted.extend(refusals(root)?);
+    wanted.extend(kinds(root)?);
+    let mut found: Vec<String> =
+        wanted.iter().flat_map(|wanted| wanted_differences(wanted, &header.constants)).collect();
+    let known = |had: &Constant| wanted.iter().any(|w| w.group == had.group && w.name == had.name);
+    let unknown = header.constants.iter().filter(|had| !known(had));
+    found.extend(unknown.map(|had| format!("{}: not compared: no number is known that it stands for", had.name)));
+    for program in PROGRAMS {
+        found.extend(lent_differences(root, program, &header.constants)?);
+    }
+    Ok(found)
+}
+
+fn wanted_differences(wanted: &Wanted, constants: &[Constant]) -> Vec<String> {
+    let Wanted { group, name, places } = wanted;
+    let Some(had) = constants.iter().find(|had| had.group == *group && had.name == *name) else {
+        return vec![format!("{name}: enum {group} of the header lacks this constant")];
+    };
+    let line = |(place, value): &(String, Option<u64>)| match value {
+        Some(value) if *value == had.value => None,
+        Some(value) => Some(format!("{name}: {value} in {place}, {} in the header", had.value)),
+        None => Some(format!("{name}: no single number in {place}")),
+    };
+    places.iter().filter_map(line).collect()
+}
+
+fn limits(root: &Path) -> Result<Vec<Wanted>, String> {
+    let mut found = Vec::new();
+    for (name, [(source, constant), (spec, definition)]) in LIMITS {
+        let in_source = Source::at(root, source)?.constant(root, constant);
+        let in_spec = Spec::read(root, spec)?.number(definition);
+        let places = vec![(format!("{source} ({constant})"), in_source), (format!("{spec} ({definition})"), in_spec)];
+        found.push(Wanted { group: "rei2_limits", name: name.to_string(), places });
+    }
+    Ok(found)
+}
+
+fn refusals(root: &Path) -> Result<Vec<Wanted>, String> {
+    let wanted = |name: &str, place: &str, value| {
+        let places = vec![(place.to_string(), Some(value))];
+        Wanted { group: "rei2_refusal", name: format!("REI2_{name}"), places }
+    };
+    let mut found = vec![wanted("DONE", "the answer of a call that was done", 0)];
+    for file in REFUSALS {
+        let capitals = |name: &str| name.chars().all(|c| c.is_ascii_uppercase() || c == '-');
+        let numbers = Spec::read(root, file)?.numbers().into_iter().filter(|(name, _)| capitals(name));
+        found.extend(numbers.map(|(name, value)| wanted(&name.replace('-', "_"), &format!("{file} ({name})"), value)));
+    }
+    Ok(found)
+}
+
+fn kinds(root: &Path) -> Result<Vec<Wanted>, String> {
+    let mut found = Vec::new();
+    for (group, file, function) in KINDS {
+        for (constructor, value) in Spec::read(root, file)?.clauses(function, "kind") {
+            let name = exports::c_name(&constructor).to_uppercase();
+            found.push(Wanted { group, name, places: vec![(format!("{file} ({function} {constructor})"), value)] });
+        }
+    }
+    Ok(found)
+}
+
+/// The differences of the arrays that a program lends.
+fn lent_differences(root: &Path, program: &str, constants: &[Constant]) -> Result<Vec<String>, String> {
+    let source = Source::at(root, program)?;
+    let value = |name: &&str| constants.iter().find(|had| had.name == **name).map(|had| had.value);
+    let mut found = Vec::new();
+    for (array, factors, more) in LENT {
+        // a constant that the header lacks is told already
+        let Some(wanted) = factors.iter().map(value).product::<Option<u64>>() else { continue };
+        let wanted = wanted + more;
+        let lengths = source.lengths(root, array);
+        if lengths.is_empty() {
+            found.push(format!("{program}: makes no array {array}"));
+        }
+        for length in lengths.into_iter().filter(|length| *length != Some(wanted)) {
+            let length = length.map_or("a length that is not read".to_string(), |length| length.to_string());
+            found.push(format!("{program}: {array} has {length}, by the header {wanted}"));
+        }
+    }
+    Ok(found)
+}

@@ -1,0 +1,70 @@
+//! Reads numbers out of the definitions of an antt file.
+
+use crate::lex::{self, Language, Token};
+use std::fs;
+use std::path::Path;
+
+pub struct Spec {
+    tokens: Vec<Token>,
+}
+
+impl Spec {
+    /// Reads `ROOT/FILE`.
+    pub fn read(root: &Path, file: &str) -> Result<Spec, String> {
+        let path = root.join(file);
+        let text = fs::read_to_string(&path).map_err(|e| format!("{}: cannot be read: {e}", path.display()))?;
+        Ok(Spec { tokens: lex::tokens(&text, Language::Antt) })
+    }
+
+    /// What begins at a line's first column, with the lines below it that do not.
+    fn items(&self) -> impl Iterator<Item = Vec<&str>> {
+        let items = self.tokens.chunk_by(|_, next| !next.first);
+        items.map(|item| item.iter().map(|token| token.text.as_str()).collect())
+    }
+
+    /// Each `NAME = NUMBER`.
+    pub fn numbers(&self) -> Vec<(String, u64)> {
+        let number = |item: Vec<&str>| match item.as_slice() {
+            [name, "=", value] => Some((name.to_string(), lex::number(value)?)),
+            _ => None,
+        };
+        self.items().filter_map(number).collect()
+    }
+
+    /// The number of a definition, or with `NAME .FIELD` that of a field of the record that it is; none unless there is
+    /// just one.
+    pub fn number(&self, of: &str) -> Option<u64> {
+        let found: Vec<u64> = match of.split_once(" .") {
+            Some((name, wanted)) => {
+                let records = self.items().filter(|item| item.starts_with(&[name, "=", "record", "{"]));
+                records.filter_map(|item| field(&item, wanted)).collect()
+            }
+            None => self.numbers().into_iter().filter(|(name, _)| name == of).map(|(_, value)| value).collect(),
+        };
+        match found.as_slice() {
+            [value] => Some(*value),
+            _ => None,
+        }
+    }
+
+    /// For each clause `NAME (CONSTRUCTOR ..) = record { .. }`, the constructor and the number of a field.
+    pub fn clauses(&self, name: &str, wanted: &str) -> Vec<(String, Option<u64>)> {
+        let clause = |item: Vec<&str>| {
+            let (first, rest) = item.split_first()?;
+            let constructor = rest.iter().find(|word| **word != "(").filter(|_| *first == name)?;
+            Some((constructor.to_string(), field(&item, wanted)))
+        };
+        self.items().filter_map(clause).collect()
+    }
+}
+
+/// The number of `wanted = NUMBER` in a record, outside the records in it.
+fn field(item: &[&str], wanted: &str) -> Option<u64> {
+    let mut depth = 0;
+    let at = item.iter().enumerate().position(|(i, word)| {
+        depth += i32::from(*word == "{") - i32::from(*word == "}");
+        depth == 1 && item[i..].starts_with(&[wanted, "="])
+    })?;
+    let ends = matches!(item.get(at + 3), None | Some(&";") | Some(&"}"));
+    lex::number(item.get(at + 2)?).filter(|_| ends)
+}

@@ -1,0 +1,133 @@
+//! Reads the statements of a crate that no second outcome meets a promise, and whether they are proved.
+
+use crate::lex;
+use std::fs;
+use std::path::{Path, PathBuf};
+
+/// The record of the statements. It stands in specs/Unique.antt, each field on lines of its own: `pub NAME : ..`, two
+/// blanks in, and what goes on further in.
+const RECORD: &str = "OneOutcome";
+
+/// What a statement says of a predicate.
+const ONCE: &str = "Once";
+
+/// The statements of one crate.
+pub struct Unique {
+    /// The file, as seen from the repository's root.
+    file: PathBuf,
+    fields: Vec<Field>,
+    /// Is there a proof, or nothing to prove since there is no file?
+    proved: bool,
+}
+
+struct Field {
+    line: usize,
+    /// Its name; where a line is not the beginning of a field, that line.
+    name: String,
+    words: Vec<String>,
+    /// Has a function asked for it?
+    asked: bool,
+}
+
+impl Unique {
+    /// Reads them below `root/folder`, which is a crate's. Without a file there are none.
+    pub fn read(root: &Path, folder: &Path) -> Result<Unique, String> {
+        let file = folder.join("specs/Unique.antt");
+        if !root.join(&file).exists() {
+            return Ok(Unique { file, fields: Vec::new(), proved: true });
+        }
+        let fields = fields(&antt(root, &file)?);
+        let proved = is_proved(root, &folder.join("proofs"))?;
+        Ok(Unique { file, fields, proved })
+    }
+
+    /// What the statement about a function lacks, whose promise is this predicate. Two functions of the same name, in two
+    /// modules or of two types, share a statement: it shall say `Once` of the predicates of both.
+    pub fn asked(&mut self, function: &str, predicate: &str) -> Option<String> {
+        let name = function.rsplit("::").next().unwrap_or_default().replace('_', "-");
+        let Some(field) = self.fields.iter_mut().find(|field| field.name == name) else {
+            return Some(format!(
+                "no statement that no second outcome meets its promise ({name} in specs/Unique.antt)"
+            ));
+        };
+        field.asked = true;
+        let says = |wanted: &str| field.words.iter().any(|word| word == wanted);
+        let said = says(ONCE) && says(predicate);
+        (!said).then(|| format!("its statement {name} does not say {ONCE} of {predicate}"))
+    }
+
+    /// A line for each statement that no function asked for, and one where nothing proves them.
+    pub fn faults(self) -> Vec<String> {
+        let file = self.file.display();
+        let stale = self.fields.iter().filter(|field| !field.asked);
+        let line = |field: &Field| {
+            format!("{file}:{}: {}: no public function of this name promises a predicate", field.line, field.name)
+        };
+        let mut found: Vec<String> = stale.map(line).collect();
+        if !self.proved {
+            found.push(format!("{file}: no file of proofs has a line `pub NAME : {RECORD}`"));
+        }
+        found
+    }
+}
+
+/// The text of an antt file, without comments and quoted texts.
+fn antt(root: &Path, file: &Path) -> Result<String, String> {
+    let shown = file.display();
+    let text = fs::read_to_string(root.join(file)).map_err(|e| format!("{shown}: cannot be read: {e}"))?;
+    lex::uncommented(&text).map_err(|(line, what)| format!("{shown}:{line}: {what}"))
+}
+
+/// The fields of the record.
+fn fields(text: &str) -> Vec<Field> {
+    let mut found: Vec<Field> = Vec::new();
+    let lines = text.lines().enumerate().map(|(i, line)| (i + 1, line)).filter(|(_, line)| !line.trim().is_empty());
+    let inside = |line: &str| line.starts_with(' ');
+    let head = |line: &str| words(line).take(3).eq(["pub", "record", RECORD]);
+    for (line, text) in lines.skip_while(|(_, line)| !head(line)).skip(1).take_while(|(_, line)| inside(line)) {
+        if !text.starts_with("   ") {
+            let name = match text.split_whitespace().collect::<Vec<_>>().as_slice() {
+                // a name that is a word of the language stands between these marks
+                ["pub", name, ":", ..] => name.trim_matches(['«', '»']).to_string(),
+                _ => text.trim().to_string(),
+            };
+            found.push(Field { line, name, words: Vec::new(), asked: false });
+        }
+        if let Some(field) = found.last_mut() {
+            field.words.extend(words(text).map(String::from));
+        }
+    }
+    found
+}
+
+/// The names in a text.
+fn words(text: &str) -> impl Iterator<Item = &str> {
+    text.split(|c| !lex::in_name(c)).filter(|word| !word.is_empty())
+}
+
+/// Has a file of the folder `root/folder`, or of a folder in it, a line `pub NAME : OneOutcome`? It is not indented, so
+/// that it stands in no module that assumes something.
+fn is_proved(root: &Path, folder: &Path) -> Result<bool, String> {
+    let unreadable = |e| format!("{}: cannot be read: {e}", folder.display());
+    if !root.join(folder).exists() {
+        return Ok(false);
+    }
+    for entry in root.join(folder).read_dir().map_err(unreadable)? {
+        let path = folder.join(entry.map_err(unreadable)?.file_name());
+        let found = if root.join(&path).is_dir() {
+            is_proved(root, &path)?
+        } else {
+            path.extension().is_some_and(|e| e == "antt") && antt(root, &path)?.lines().any(proves)
+        };
+        if found {
+            return Ok(true);
+        }
+    }
+    Ok(false)
+}
+
+/// Is it the line?
+fn proves(line: &str) -> bool {
+    let words: Vec<&str> = line.split_whitespace().collect();
+    line.starts_with("pub") && matches!(words.as_slice(), ["pub", _, ":", RECORD])
+}
