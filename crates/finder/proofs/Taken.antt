@@ -16,7 +16,7 @@ use Rattle.frames.specs.declared.timing.TimingKind.{TimingKind}
 use Rattle.frames.specs.declared.timing.TimingKind.the-variants.{Clock as clockKind, Net as netKind, Raw as rawKind}
 use Rattle.frames.specs.declared.reply.StaticReply.{StaticReply}
 use Rattle.frames.specs.Rules.{between, isRaw, isRequester, isOutput}
-use Rattle.frames.specs.Layout.{Layout, field, end, recordWrong, write}
+use Rattle.frames.specs.Layout.{Mark, first, further, Layout, piece, end, recordWrong, write}
 use Rattle.frames.specs.Kind.{Kind, CR, letterR, read, wrongIn, frameOf, writeTried}
 use Rattle.frames.specs.Demand2.{Faithful}
 use Rattle.frames.specs.Timing.{raw, isSign, spareAnd, timeAndDate, timed, timingKind}
@@ -73,14 +73,14 @@ requester-raw b e =
 -- ---- a layout all of whose fields are written in such bytes
 
 data Printed : Layout → Type 0 where
-  printed : {at : ℕ} {form : Form} {rule : ℕ → Bool} {next : ℕ → Layout}
-      → T (ltb 0 at) → ((v : ℕ) → rule v ≡ true → every isRaw (form .put v) ≡ true) → ((v : ℕ) → rule v ≡ true → Printed (next v)) → Printed (field at form rule next)
+  printed : {mark : Mark} {at : ℕ} {form : Form} {rule : ℕ → Bool} {next : ℕ → Layout}
+      → T (ltb 0 at) → ((v : ℕ) → rule v ≡ true → every isRaw (form .put v) ≡ true) → ((v : ℕ) → rule v ≡ true → Printed (next v)) → Printed (piece mark at form rule next)
   printed-end : {cr unused : ℕ} → Printed (end cr unused)
 
 write-raw : {L : Layout} → Printed L → (vs : List ℕ) → recordWrong L vs ≡ 0 → every isRaw (write L vs) ≡ true
 unfolding recordWrong write
-write-raw (printed {at} {form} {rule} {next} some shows rest) [] e = refl
-write-raw (printed {at} {form} {rule} {next} some shows rest) (v ∷ vs) e =
+write-raw (printed {mark} {at} {form} {rule} {next} some shows rest) [] e = refl
+write-raw (printed {mark} {at} {form} {rule} {next} some shows rest) (v ∷ vs) e =
     let u = unless-none (rule v) at (recordWrong (next v) vs) (ltb→lt 0 at some) e in
     every-both isRaw (form .put v) (write (next v) vs) (shows v (u .0)) (write-raw (rest v (u .0)) vs (u .1))
 write-raw printed-end vs e = refl
@@ -116,12 +116,12 @@ dynamic-printed =
     printed tt (λ v q. and-true (listed-raw _ refl v q) refl) λ _ _.
     printed-end
 
-raw-printed : (at n : ℕ) {L : Layout} → T (ltb 0 at) → Printed L → Printed (raw at n L)
-raw-printed at zero h l = l
-raw-printed at (suc n) h l = printed h (λ v q. and-true q refl) (λ _ _. raw-printed at n h l)
+raw-printed : (mark : Mark) (at n : ℕ) {L : Layout} → T (ltb 0 at) → Printed L → Printed (raw mark at n L)
+raw-printed mark at zero h l = l
+raw-printed mark at (suc n) h l = printed h (λ v q. and-true q refl) (λ _ _. raw-printed further at n h l)
 
 spare-printed : (unused : ℕ) → Printed (spareAnd unused)
-spare-printed unused = raw-printed 48 2 tt printed-end
+spare-printed unused = raw-printed first 48 2 tt printed-end
 
 time-printed : (kind : TimingKind) → Printed (timeAndDate kind)
 unfolding timeAndDate isSign isRaw between
@@ -136,7 +136,7 @@ time-printed netKind =
     printed tt (λ v q. and-true (listed-raw _ refl v q) refl) λ _ _.
     printed tt (λ v _. digits-raw 7 v) λ _ _.
     spare-printed 18
-time-printed rawKind = raw-printed 30 10 tt (raw-printed 40 8 tt (spare-printed 0))
+time-printed rawKind = raw-printed further 30 10 tt (raw-printed first 40 8 tt (spare-printed 0))
 
 timed-printed : (kind : TimingKind) → Printed (timed kind)
 unfolding timed

@@ -1,19 +1,22 @@
 -- The worked cases, each by computation. Assumes nothing.
 use mathlib.Core.Path.{refl}
-use Rattle.digits.specs.Digits.{numberAt, numberFrom}
+use Rattle.digits.specs.Digits.{digits, numberAt, numberFrom}
 use Rattle.digits.specs.Text.{oneOf}
-use Rattle.times.specs.Clock.{ticksOf}
+use Rattle.times.specs.Clock.{ticksOf, clockNumber}
 use Rattle.times.specs.Day.{leap, monthLength, realDay}
 use Rattle.times.specs.Net.{isNet}
 use Rattle.times.specs.Running.{inRange, runningTime}
 use Rattle.frames.specs.Rules.{between, upTo, isRaw, isRequester, isOutput}
-use Rattle.frames.specs.Layout.{firstWrong, values, recordWrong}
-use Rattle.frames.specs.Kind.{headTold, read, wrongIn, writeTried}
+use Rattle.frames.specs.Layout.{firstWrong, values, recordWrong, write}
+use Rattle.frames.specs.Kind.{headTold, read, wrongIn, frameOf, writeTried}
 use Rattle.frames.specs.Request as Q
 use Rattle.frames.specs.Timing.{timingKind, isSign, timeAndDate, timed}
 use Rattle.frames.specs.Reply as P
 use Rattle.frames.specs.Dynamic as D
 use Rattle.frames.specs.Cases.{Worked}
+use Rattle.frames.specs.RequestCases.{RequestWorked}
+use Rattle.frames.specs.ReplyCases.{ReplyWorked}
+use Rattle.frames.specs.DynamicCases.{DynamicWorked}
 
 pub worked : Worked
 unfolding numberAt numberFrom oneOf ticksOf leap monthLength realDay isNet inRange runningTime between upTo isRaw isRequester isOutput firstWrong values recordWrong headTold read wrongIn writeTried timingKind isSign timeAndDate timed Q.isInformation Q.isChannel Q.requestFields P.isStatus P.isLetter P.isChannel P.leastRun P.replyFields D.isOrder D.isChannel D.leastPeriod D.dynamicFields
@@ -52,4 +55,152 @@ worked = record {
   record-251 = refl;
   room-23 = refl;
   room-24 = refl;
+  time-of-none = refl;
+}
+
+pub request-worked : RequestWorked
+unfolding digits numberAt numberFrom oneOf between upTo isRequester isOutput firstWrong values recordWrong write headTold read wrongIn frameOf Q.isInformation Q.isChannel Q.requestFields
+request-worked = record {
+  spelled = refl;
+  written = refl;
+  offsets = refl;
+  requester-0 = (_, refl);
+  requester-9 = (_, refl);
+  requester-A = (_, refl);
+  requester-Z = (_, refl);
+  requester-a = (_, refl);
+  requester-z = (_, refl);
+  before-0 = refl;
+  after-9 = refl;
+  before-A = refl;
+  after-Z = refl;
+  before-a = refl;
+  after-z = refl;
+  bib-59999 = (_, refl);
+  bib-60000 = refl;
+  letter-q = (_, refl);
+  letter-e = refl;
+  channel-240 = (_, refl);
+  channel-241 = refl;
+  channel-251 = (_, refl);
+  run-250 = (_, refl);
+  run-251 = refl;
+  group-199 = (_, refl);
+  group-200 = refl;
+  output-T = (_, refl);
+  output-C = refl;
+  wrong-requester = refl;
+  wrong-number = refl;
+  wrong-bib = refl;
+  wrong-information = refl;
+  wrong-channel = refl;
+  wrong-run = refl;
+  wrong-group = refl;
+  wrong-output = refl;
+}
+
+pub reply-worked : ReplyWorked
+unfolding digits numberAt numberFrom oneOf between upTo isRequester isOutput firstWrong values recordWrong write headTold read wrongIn frameOf ticksOf clockNumber leap monthLength realDay isNet isRaw timingKind isSign timeAndDate timed P.isStatus P.isLetter P.isChannel P.leastRun P.replyFields
+reply-worked = record {
+  net = refl;
+  clock = refl;
+  raw = refl;
+  net-written = refl;
+  clock-written = refl;
+  raw-written = refl;
+  net-offsets = refl;
+  clock-offsets = refl;
+  raw-offsets = refl;
+  status-R = (_, refl);
+  status-A = refl;
+  requester-a = (_, refl);
+  after-Z = refl;
+  bib-59999 = (_, refl);
+  bib-60000 = refl;
+  group-199 = (_, refl);
+  group-200 = refl;
+  run-0 = refl;
+  run-1 = (_, refl);
+  run-250 = (_, refl);
+  run-251 = refl;
+  channel-240 = (_, refl);
+  channel-241 = refl;
+  channel-245 = (_, refl);
+  channel-251 = refl;
+  letter-3 = (_, refl);
+  letter-q = refl;
+  minus-none = refl;
+  minus-one = (_, refl);
+  plus-none = (_, refl);
+  wrong-program = refl;
+  wrong-mode = refl;
+  wrong-status = refl;
+  wrong-requester = refl;
+  wrong-number = refl;
+  wrong-bib = refl;
+  wrong-group = refl;
+  wrong-run = refl;
+  wrong-physical = refl;
+  wrong-channel = refl;
+  wrong-letter = refl;
+  net-for-clock = refl;
+  net-for-raw = refl;
+  raw-for-net = refl;
+  clock-time = refl;
+  clock-date = refl;
+  net-date = refl;
+  raw-time = refl;
+  raw-date = refl;
+  net-spare = refl;
+  raw-spare = refl;
+  net-left-over = refl;
+  clock-left-over = refl;
+}
+
+pub dynamic-worked : DynamicWorked
+unfolding digits numberAt numberFrom oneOf between upTo isRequester isOutput firstWrong values recordWrong write headTold read wrongIn frameOf ticksOf clockNumber D.isOrder D.isChannel D.leastPeriod D.dynamicFields
+dynamic-worked = record {
+  spelled = refl;
+  written = refl;
+  minus-zero = refl;
+  minus-zero-written = refl;
+  offsets = refl;
+  requester-a = (_, refl);
+  after-Z = refl;
+  order-t = (_, refl);
+  order-c = refl;
+  bib-60000 = (_, refl);
+  bib-60001 = refl;
+  channel-250 = (_, refl);
+  channel-251 = refl;
+  run-250 = (_, refl);
+  run-251 = refl;
+  stop-bib-0 = refl;
+  stop-bib-1 = (_, refl);
+  stop-bib-60000 = (_, refl);
+  stop-bib-60001 = refl;
+  stop-channel-240 = (_, refl);
+  stop-channel-241 = refl;
+  stop-run-250 = (_, refl);
+  stop-run-251 = refl;
+  sign-0 = (_, refl);
+  sign-2 = refl;
+  hour-23 = (_, refl);
+  hour-24 = refl;
+  output-S = (_, refl);
+  output-C = refl;
+  wrong-requester = refl;
+  wrong-order = refl;
+  wrong-bib = refl;
+  wrong-channel = refl;
+  wrong-run = refl;
+  wrong-stop-bib = refl;
+  wrong-stop-channel = refl;
+  wrong-stop-run = refl;
+  wrong-sign = refl;
+  wrong-time = refl;
+  wrong-days = refl;
+  wrong-period = refl;
+  no-period = refl;
+  wrong-output = refl;
 }

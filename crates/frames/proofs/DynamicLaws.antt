@@ -1,6 +1,6 @@
 -- The dynamic request: its layout is sound, and so what is demanded of it holds. Assumes nothing.
 use Prim.Native.Nat.{ℕ, _≤_}
-use mathlib.Core.List.{List, [], _∷_, append-assoc}
+use mathlib.Core.List.{List, [], _∷_, _++_, append-assoc}
 use mathlib.Core.Bool.{true}
 use mathlib.Core.Path.{_≡_, refl}
 use native.Mathlib.Omega.{arith}
@@ -10,10 +10,8 @@ use Rattle.digits.specs.Text.{oneOf}
 use Rattle.digits.specs.Digits.{digits}
 use Rattle.digits.proofs.Writing.{sets-append, length-digits}
 use Rattle.times.specs.Clock.{clock}
-use Rattle.frames.specs.declared.dynamic.DynamicRequest.{DynamicRequest}
 use Rattle.frames.specs.Rules.{between, upTo, isRequester, isOutput}
 use Rattle.frames.specs.Layout.{Sound, end-sound, values, write}
-use Rattle.frames.specs.Kind.{frameOf}
 use Rattle.frames.specs.Demand2.{Faithful}
 use Rattle.frames.specs.Inside.{held}
 use Rattle.frames.specs.Dynamic.{isOrder, isChannel, leastPeriod, dynamicFields, dynamic}
@@ -23,22 +21,22 @@ use Rattle.frames.proofs.KindLaws.{Plain, plain-faithful}
 
 channel-bound : (v : ℕ) → isChannel v ≡ true → v ≤ 255
 unfolding isChannel
-channel-bound v = or-one v 255 255 tt (or-one v 250 255 tt (to-240 v))
+channel-bound v = or-one v _ 255 tt (or-one v _ 255 tt (to-240 v))
 
 sound : Sound dynamicFields 42
 unfolding dynamicFields
 sound =
     byte-sound tt λ _ _.
     byte-sound tt λ order _.
-    number-sound 5 60000 tt (up-to 60000) λ _ _.
+    number-sound 5 _ tt (up-to _) λ _ _.
     number-sound 3 255 tt channel-bound λ _ _.
-    number-sound 3 250 tt (up-to 250) λ _ _.
+    number-sound 3 _ tt (up-to _) λ _ _.
     number-sound 5 60000 tt (in-range 1 60000) λ _ _.
     number-sound 3 255 tt channel-bound λ _ _.
-    number-sound 3 250 tt (up-to 250) λ _ _.
-    number-sound 1 1 tt (up-to 1) λ _ _.
+    number-sound 3 _ tt (up-to _) λ _ _.
+    number-sound 1 _ tt (up-to _) λ _ _.
     clock-sound tt λ _ _.
-    number-sound 1 9 tt (up-to 9) λ _ _.
+    number-sound 1 _ tt (up-to _) λ _ _.
     number-sound 5 99999 tt (in-range (leastPeriod order) 99999) λ _ _.
     byte-sound tt λ _ _.
     end-sound (omega arith)
@@ -78,10 +76,10 @@ dynamic-plain = record {
 pub dynamic-faithful : Faithful dynamic (λ _. Unit {0})
 dynamic-faithful = plain-faithful dynamic-plain
 
--- the stores of a frame, one after the other, are one run
-pub stores-frame : (r : DynamicRequest) (l : List ℕ) →
-    set (set (sets (sets (sets (sets (sets (sets (sets (sets (sets (sets (set (set (sets l 0 (19 ∷ 82 ∷ 32 ∷ [])) 3 (r .requester)) 4 (r .order)) 5 (digits 5 (r .bib))) 10 (digits 3 (r .channel))) 13 (digits 3 (r .run)))
-    16 (digits 5 (r .«stop_bib»))) 21 (digits 3 (r .«stop_channel»))) 24 (digits 3 (r .«stop_run»))) 27 (digits 1 (r .sign))) 28 (clock .put (r .time))) 38 (digits 1 (r .days))) 39 (digits 5 (r .period))) 44 (r .output)) 45 13
-    ≡ sets l 0 (frameOf dynamic r)
-unfolding frameOf dynamicFields write
-stores-frame r l = simp (append-assoc, sets-append, length-digits)
+-- the stores of thirteen values, one after the other, are one run
+pub stores-frame : (a b c d e f g h i j k m n : ℕ) (l : List ℕ) →
+    set (set (sets (sets (sets (sets (sets (sets (sets (sets (sets (sets (set (set (sets l 0 (19 ∷ 82 ∷ 32 ∷ [])) 3 a) 4 b) 5 (digits 5 c)) 10 (digits 3 d)) 13 (digits 3 e))
+    16 (digits 5 f)) 21 (digits 3 g)) 24 (digits 3 h)) 27 (digits 1 i)) 28 (clock .put j)) 38 (digits 1 k)) 39 (digits 5 m)) 44 n) 45 13
+    ≡ sets l 0 (19 ∷ 82 ∷ 32 ∷ (write dynamicFields (a ∷ b ∷ c ∷ d ∷ e ∷ f ∷ g ∷ h ∷ i ∷ j ∷ k ∷ m ∷ n ∷ []) ++ (13 ∷ [])))
+unfolding dynamicFields write
+stores-frame a b c d e f g h i j k m n l = simp (append-assoc, sets-append, length-digits)

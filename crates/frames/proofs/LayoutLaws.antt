@@ -14,7 +14,7 @@ use Rattle.digits.specs.Form.{Form, byte, number}
 use Rattle.digits.proofs.Forms.{byte-lawful, number-lawful, number-back}
 use Rattle.times.specs.Clock.{clock, isTime}
 use Rattle.times.proofs.ClockLaws.{clock-inverse}
-use Rattle.frames.specs.Layout.{Layout, field, end, holds, valueOf, unless, firstWrong, values, zeros, recordWrong, write, Sound, field-sound, end-sound}
+use Rattle.frames.specs.Layout.{Mark, Layout, piece, end, holds, valueOf, unless, firstWrong, values, zeros, recordWrong, write, Sound, field-sound, end-sound}
 use Rattle.frames.specs.Inside.{held}
 
 -- ---- tests that came out well
@@ -58,7 +58,7 @@ pub record Reads (L : Layout) (p : ℕ) (s : List ℕ) (vs : List ℕ) : Type 0 
 pub written-reads : {L : Layout} {n : ℕ} → Sound L n → (vs pre post s : List ℕ) (p : ℕ) → recordWrong L vs ≡ 0 → s ≡ pre ++ write L vs ++ post → p ≡ length pre → Reads L p s vs
 unfolding firstWrong values write recordWrong
 written-reads (field-sound some fits inverse rest) [] pre post s p e is here = absurd (omega arith)
-written-reads (field-sound {at} {n} {form} {rule} {next} some fits inverse rest) (v ∷ vs) pre post s p e is here =
+written-reads (field-sound {mark} {at} {n} {form} {rule} {next} some fits inverse rest) (v ∷ vs) pre post s p e is here =
     let q = unless-none (rule v) at (recordWrong (next v) vs) some e in
     let is′ : s ≡ pre ++ form .put v ++ (write (next v) vs ++ post) = is ∙ simp append-assoc in
     let got : form .got s p ≡ Is v = rw (is′, here) (inverse .lawful .local pre (form .put v) (write (next v) vs ++ post) (inverse .lawful .long v) ∙ inverse .back v (q .0)) in
@@ -71,7 +71,7 @@ written-reads (end-sound {cr} {unused} some) vs pre post s p e is here =
 pub length-write : {L : Layout} {n : ℕ} → Sound L n → (vs : List ℕ) → recordWrong L vs ≡ 0 → length (write L vs) ≡ n
 unfolding write recordWrong
 length-write (field-sound some fits inverse rest) [] e = absurd (omega arith)
-length-write (field-sound {at} {n} {form} {rule} {next} some fits inverse rest) (v ∷ vs) e =
+length-write (field-sound {mark} {at} {n} {form} {rule} {next} some fits inverse rest) (v ∷ vs) e =
     let q = unless-none (rule v) at (recordWrong (next v) vs) some e in
     let l = length-write (rest v (q .0)) vs (q .1) in
     length-append (form .put v) (write (next v) vs) ∙ omega (arith, inverse .lawful .long v)
@@ -90,7 +90,7 @@ join n a p s x y h e q =
 
 pub reads-write : {L : Layout} {n : ℕ} → Sound L n → (p : ℕ) (s : List ℕ) → p + n ≤ length s → firstWrong L p s ≡ 0 → Writes L p s n
 unfolding firstWrong values write recordWrong
-reads-write (field-sound {at} {n} {form} {rule} {next} some fits inverse rest) p s h e =
+reads-write (field-sound {mark} {at} {n} {form} {rule} {next} some fits inverse rest) p s h e =
     let q = unless-none (holds rule (form .got s p)) at (firstWrong (next (valueOf (form .got s p))) (p + form .width) s) some e in
     let g = kept rule (form .got s p) (q .0) in
     let v = valueOf (form .got s p) in
@@ -104,7 +104,7 @@ reads-write (end-sound {cr} {unused} some) p s h e = record { fine = rw (zeros-r
 -- the values of a good frame are a good record's
 pub values-fine : {L : Layout} {n : ℕ} → Sound L n → (p : ℕ) (s : List ℕ) → firstWrong L p s ≡ 0 → recordWrong L (values L p s) ≡ 0
 unfolding firstWrong values recordWrong
-values-fine (field-sound {at} {n} {form} {rule} {next} some fits inverse rest) p s e =
+values-fine (field-sound {mark} {at} {n} {form} {rule} {next} some fits inverse rest) p s e =
     let q = unless-none (holds rule (form .got s p)) at (firstWrong (next (valueOf (form .got s p))) (p + form .width) s) some e in
     let g = kept rule (form .got s p) (q .0) in
     rw (g .good) (values-fine (rest (valueOf (form .got s p)) (g .good)) (p + form .width) s (q .1))
@@ -114,8 +114,8 @@ values-fine (end-sound {cr} {unused} some) p s e = rw (zeros-replicate unused)
 
 -- no rule takes what stands for no number
 pub data NoneRefused : Layout → Type 0 where
-  none-field : {at : ℕ} {form : Form} {rule : ℕ → Bool} {next : ℕ → Layout}
-      → rule 4294967295 ≡ false → ((v : ℕ) → rule v ≡ true → NoneRefused (next v)) → NoneRefused (field at form rule next)
+  none-field : {mark : Mark} {at : ℕ} {form : Form} {rule : ℕ → Bool} {next : ℕ → Layout}
+      → rule 4294967295 ≡ false → ((v : ℕ) → rule v ≡ true → NoneRefused (next v)) → NoneRefused (piece mark at form rule next)
   none-end : {cr unused : ℕ} → NoneRefused (end cr unused)
 
 pub record AsHeld (L : Layout) (p : ℕ) (s : List ℕ) : Type 0 where
@@ -124,30 +124,30 @@ pub record AsHeld (L : Layout) (p : ℕ) (s : List ℕ) : Type 0 where
 
 pub as-held : {L : Layout} {n : ℕ} → Sound L n → (p : ℕ) (s : List ℕ) → NoneRefused L → AsHeld L p s
 unfolding firstWrong values recordWrong held
-as-held (field-sound {at} {n} {form} {rule} {next} some fits inverse rest) p s (none-field none later) =
+as-held (field-sound {mark} {at} {n} {form} {rule} {next} some fits inverse rest) p s (none-field none later) =
     by-number (λ v q. as-held (rest v q) (p + form .width) s (later v q)) (form .got s p) refl
   where
-    by-rule : ((v : ℕ) → rule v ≡ true → AsHeld (next v) (p + form .width) s) → (v : ℕ) (t : Bool) → form .got s p ≡ Is v → rule v ≡ t → AsHeld (field at form rule next) p s
+    by-rule : ((v : ℕ) → rule v ≡ true → AsHeld (next v) (p + form .width) s) → (v : ℕ) (t : Bool) → form .got s p ≡ Is v → rule v ≡ t → AsHeld (piece mark at form rule next) p s
     by-rule more v true e q =
         let a = more v q in
         record { wrong = rw (e, q) (a .wrong); same = λ z. rw e (ap (λ (l : List ℕ). v ∷ l) (a .same (rw (e, q) at z))) }
     by-rule more v false e q = record { wrong = rw (e, q); same = λ z. absurd (let y : at ≡ 0 = rw (e, q) at z in omega arith) }
 
-    by-number : ((v : ℕ) → rule v ≡ true → AsHeld (next v) (p + form .width) s) → (x : Number) → form .got s p ≡ x → AsHeld (field at form rule next) p s
+    by-number : ((v : ℕ) → rule v ≡ true → AsHeld (next v) (p + form .width) s) → (x : Number) → form .got s p ≡ x → AsHeld (piece mark at form rule next) p s
     by-number more (Is v) e = by-rule more v (rule v) e refl
     by-number more Wrong e = record { wrong = rw (e, none); same = λ z. absurd (let y : at ≡ 0 = rw e at z in omega arith) }
 as-held (end-sound {cr} {unused} some) p s none-end = record { wrong = rw (zeros-replicate unused); same = λ z. refl }
 
 -- ---- sound fields, and at a field of digits the rule's highest value
 
-module _ {at n : ℕ} {rule : ℕ → Bool} {next : ℕ → Layout} where
-  pub byte-sound : T (ltb 0 at && leb 1 n) → ((v : ℕ) → rule v ≡ true → Sound (next v) (n - 1)) → Sound (field at byte rule next) n
+module _ {mark : Mark} {at n : ℕ} {rule : ℕ → Bool} {next : ℕ → Layout} where
+  pub byte-sound : T (ltb 0 at && leb 1 n) → ((v : ℕ) → rule v ≡ true → Sound (next v) (n - 1)) → Sound (piece mark at byte rule next) n
   byte-sound t rest =
       let q = both (ltb 0 at) (leb 1 n) t in
       field-sound (ltb→lt 0 at (q .0)) (leb→le 1 n (q .1)) (record { lawful = byte-lawful; back = λ v h. refl }) rest
 
   pub number-sound : (w hi : ℕ) → T (ltb 0 at && leb w n && (leb 1 w && leb w 10) && ltb hi (10 ^ w)) → ((v : ℕ) → rule v ≡ true → v ≤ hi)
-      → ((v : ℕ) → rule v ≡ true → Sound (next v) (n - w)) → Sound (field at (number w) rule next) n
+      → ((v : ℕ) → rule v ≡ true → Sound (next v) (n - w)) → Sound (piece mark at (number w) rule next) n
   number-sound w hi t below rest =
       let a = both (ltb 0 at && leb w n && (leb 1 w && leb w 10)) (ltb hi (10 ^ w)) t in
       let b = both (ltb 0 at && leb w n) (leb 1 w && leb w 10) (a .0) in
@@ -162,8 +162,8 @@ module _ {at n : ℕ} {rule : ℕ → Bool} {next : ℕ → Layout} where
       })
       rest
 
-module _ {at n : ℕ} {next : ℕ → Layout} where
-  pub clock-sound : T (ltb 0 at && leb 10 n) → ((v : ℕ) → isTime v ≡ true → Sound (next v) (n - 10)) → Sound (field at clock isTime next) n
+module _ {mark : Mark} {at n : ℕ} {next : ℕ → Layout} where
+  pub clock-sound : T (ltb 0 at && leb 10 n) → ((v : ℕ) → isTime v ≡ true → Sound (next v) (n - 10)) → Sound (piece mark at clock isTime next) n
   clock-sound t rest =
       let q = both (ltb 0 at) (leb 10 n) t in
       field-sound (ltb→lt 0 at (q .0)) (leb→le 10 n (q .1)) clock-inverse rest

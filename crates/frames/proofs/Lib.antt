@@ -8,4 +8,6 @@ pub mod RequestLaws
 pub mod ReplyLaws
 pub mod DynamicLaws
 pub mod Unique
+pub mod KeepsLaws
+pub mod Places
 pub mod Cases

@@ -6,7 +6,7 @@ use mathlib.Core.Path.{_≡_, refl, sym, ap, _∙_}
 use native.Mathlib.Omega.{arith}
 use native.Mathlib.Nat.{zero-add}
 use borrow.Author.Tests.{eqb-true, eq-eqb, ne-eqb}
-use lib.Dec.{eqb}
+use lib.Dec.{T, eqb, ltb, ltb→lt}
 use lib.ListN.{length, getD, drop, set, length-append}
 use lib.Seq.{sets, getD-at}
 use Rattle.digits.specs.declared.Number.the-variants.{Is}
@@ -34,7 +34,7 @@ use Rattle.frames.specs.declared.reply.ReplyRead.{ReplyRead}
 use Rattle.frames.specs.declared.reply.Head.{Head}
 use Rattle.frames.specs.Refusals.{FIELD, readRefused, verdictTold}
 use Rattle.frames.specs.Rules.{between, upTo, isRaw, isRequester}
-use Rattle.frames.specs.Layout.{Layout, field, unless, valueOf, Sound, field-sound, end-sound, firstWrong, values, recordWrong, write}
+use Rattle.frames.specs.Layout.{Mark, first, further, Layout, unless, valueOf, Sound, field-sound, end-sound, firstWrong, values, recordWrong, write}
 use Rattle.frames.specs.Kind.{headTold, read, wrongIn, frameOf}
 use Rattle.frames.specs.Demand2.{Faithful}
 use Rattle.frames.specs.Timing.{timingKind, raw, isSign, netOf, spareAnd, timeAndDate, codeOf, kindOf, timingIs, timed, bytesOf, Tail, signOf, timedValues, ofTimed}
@@ -51,23 +51,23 @@ use Rattle.frames.proofs.TimingLaws.{timing-wrong-is, seen-wrong-is, se
 
 channel-bound : (v : ℕ) → isChannel v ≡ true → v ≤ 255
 unfolding isChannel
-channel-bound v = or-one v 255 255 tt (or-one v 250 255 tt (or-one v 249 255 tt (or-one v 248 255 tt (or-one v 245 255 tt (to-240 v)))))
+channel-bound v = or-one v _ 255 tt (or-one v _ 255 tt (or-one v _ 255 tt (or-one v _ 255 tt (or-one v _ 255 tt (to-240 v)))))
 
-raw-sound : {at m : ℕ} {L : Layout} → 0 < at → (n : ℕ) → Sound L m → Sound (raw at n L) (n + m)
-raw-sound {at} {m} {L} h zero s = rw (zero-add m) s
-raw-sound {at} {m} {L} h (suc n) s =
+raw-sound : (mark : Mark) {at m : ℕ} {L : Layout} → 0 < at → (n : ℕ) → Sound L m → Sound (raw mark at n L) (n + m)
+raw-sound mark {at} {m} {L} h zero s = rw (zero-add m) s
+raw-sound mark {at} {m} {L} h (suc n) s =
     let e : suc n + m - 1 ≡ n + m = omega arith in
-    field-sound {n = suc n + m} {form = byte} {rule = isRaw} {next = λ _. raw at n L} h (omega arith) (record { lawful = byte-lawful; back = λ v q. refl }) (λ v q. rw e (raw-sound h n s))
+    field-sound {mark = mark} {n = suc n + m} {form = byte} {rule = isRaw} {next = λ _. raw further at n L} h (omega arith) (record { lawful = byte-lawful; back = λ v q. refl }) (λ v q. rw e (raw-sound further h n s))
 
 spare-sound : (unused : ℕ) → Sound (spareAnd unused) 2
-spare-sound unused = raw-sound (omega arith) 2 (end-sound (omega arith))
+spare-sound unused = raw-sound first (omega arith) 2 (end-sound (omega arith))
 
 time-sound : (kind : TimingKind) → Sound (timeAndDate kind) 20
 unfolding timeAndDate
 time-sound clockKind =
     clock-sound tt λ _ _.
-    number-sound 2 99 tt (up-to 99) λ day _.
-    number-sound 2 99 tt (up-to 99) λ month _.
+    number-sound 2 _ tt (up-to _) λ day _.
+    number-sound 2 _ tt (up-to _) λ month _.
     number-sound 4 2099 tt (day-year day month) λ _ _.
     spare-sound 18
 time-sound netKind =
@@ -75,7 +75,7 @@ time-sound netKind =
     byte-sound tt λ sign _.
     number-sound 7 9999999 tt (λ days. net-days (netOf time sign days)) λ _ _.
     spare-sound 18
-time-sound rawKind = raw-sound (omega arith) 10 (raw-sound (omega arith) 8 (spare-sound 0))
+time-sound rawKind = raw-sound further (omega arith) 10 (raw-sound first (omega arith) 8 (spare-sound 0))
 
 timing-inverse : (kind : TimingKind) → Inverse (timingIs kind) (eqb (codeOf kind))
 timing-inverse kind = record {
@@ -94,21 +94,21 @@ sound =
     byte-sound tt λ _ _.
     byte-sound tt λ status _.
     byte-sound tt λ _ _.
-    number-sound 5 99999 tt (up-to 99999) λ _ _.
-    number-sound 5 59999 tt (up-to 59999) λ _ _.
-    number-sound 3 199 tt (up-to 199) λ _ _.
+    number-sound 5 _ tt (up-to _) λ _ _.
+    number-sound 5 _ tt (up-to _) λ _ _.
+    number-sound 3 _ tt (up-to _) λ _ _.
     number-sound 3 250 tt (in-range (leastRun status) 250) λ _ _.
-    number-sound 3 999 tt (up-to 999) λ _ _.
+    number-sound 3 _ tt (up-to _) λ _ _.
     number-sound 3 255 tt channel-bound λ _ _.
     byte-sound tt λ letter _.
     timed-sound (timingKind status letter)
 
 -- ---- no rule takes what stands for no number
 
-raw-none : (at n : ℕ) {L : Layout} → NoneRefused L → NoneRefused (raw at n L)
+raw-none : (mark : Mark) (at n : ℕ) {L : Layout} → NoneRefused L → NoneRefused (raw mark at n L)
 unfolding isRaw between
-raw-none at zero l = l
-raw-none at (suc n) l = none-field refl (λ v h. raw-none at n l)
+raw-none mark at zero l = l
+raw-none mark at (suc n) l = none-field refl (λ v h. raw-none further at n l)
 
 time-none : (kind : TimingKind) → NoneRefused (timeAndDate kind)
 unfolding timeAndDate upTo realDay isNet isSign oneOf
@@ -117,13 +117,13 @@ time-none clockKind =
     none-field refl λ _ _.
     none-field refl λ _ _.
     none-field refl λ _ _.
-    raw-none 48 2 none-end
+    raw-none first 48 2 none-end
 time-none netKind =
     none-field refl λ _ _.
     none-field refl λ _ _.
     none-field refl λ _ _.
-    raw-none 48 2 none-end
-time-none rawKind = raw-none 30 10 (raw-none 40 8 (raw-none 48 2 none-end))
+    raw-none first 48 2 none-end
+time-none rawKind = raw-none further 30 10 (raw-none first 40 8 (raw-none first 48 2 none-end))
 
 timed-none : (kind : TimingKind) → NoneRefused (timed kind)
 unfolding timed
@@ -149,23 +149,23 @@ none-refused =
 
 -- ---- the parts before time and date
 
-last-none : (t : Bool) (at rest : ℕ) → 0 < at → unless t at rest ≡ 0 → rest ≡ 0
-last-none t at rest h e = unless-none t at rest h e .1
+last-none : (t : Bool) (at rest : ℕ) → unless t at rest ≡ 0 → T (ltb 0 at) → rest ≡ 0
+last-none t at rest e h = unless-none t at rest (ltb→lt 0 at h) e .1
 
 head-none : (h : Head) (rest : ℕ) → headWrong h rest ≡ 0 → rest ≡ 0
 unfolding headWrong
 head-none h rest e =
-    last-none (isLetter (h .information)) 29 rest (omega arith)
-    (last-none (isChannel (h .channel)) 26 _ (omega arith)
-    (last-none (upTo 999 (h .physical)) 23 _ (omega arith)
-    (last-none (between (leastRun (h .status)) 250 (h .run)) 20 _ (omega arith)
-    (last-none (upTo 199 (h .group)) 17 _ (omega arith)
-    (last-none (upTo 59999 (h .bib)) 12 _ (omega arith)
-    (last-none (upTo 99999 (h .number)) 7 _ (omega arith)
-    (last-none (isRequester (h .requester)) 6 _ (omega arith)
-    (last-none (isStatus (h .status)) 5 _ (omega arith)
-    (last-none (isRaw (h .mode)) 4 _ (omega arith)
-    (last-none (isRaw (h .program)) 3 _ (omega arith) e))))))))))
+    last-none (isLetter (h .information)) _ _
+    (last-none (isChannel (h .channel)) _ _
+    (last-none (upTo 999 (h .physical)) _ _
+    (last-none (between (leastRun (h .status)) 250 (h .run)) _ _
+    (last-none (upTo 199 (h .group)) _ _
+    (last-none (upTo 59999 (h .bib)) _ _
+    (last-none (upTo 99999 (h .number)) _ _
+    (last-none (isRequester (h .requester)) _ _
+    (last-none (isStatus (h .status)) _ _
+    (last-none (isRaw (h .mode)) _ _
+    (last-none (isRaw (h .program)) _ _ e tt) tt) tt) tt) tt) tt) tt) tt) tt) tt) tt
 
 -- the values of the parts before time and date
 abbrev headValues : Head → List ℕ → List ℕ

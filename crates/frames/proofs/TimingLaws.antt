@@ -19,7 +19,7 @@ use Rattle.frames.specs.declared.timing.Timing.{Timing}
 use Rattle.frames.specs.declared.timing.Timing.the-variants.{Clock, Net, Raw}
 use Rattle.frames.specs.declared.timing.Seen.{Seen}
 use Rattle.frames.specs.Rules.{isRaw}
-use Rattle.frames.specs.Layout.{Layout, end, unless, zeros, recordWrong}
+use Rattle.frames.specs.Layout.{Mark, first, further, Layout, end, unless, zeros, recordWrong}
 use Rattle.frames.specs.Timing.{raw, isSign, netOf, spareAnd, timeAndDate, timed, Tail, timedValues, ofTimed, bytesOf, signOf}
 use Rattle.frames.specs.Inside.{orNone, held, allFrom, rawFrom, zeroFrom, spareWrong, unusedWrong, clockWrong, netWrong, rawWrong, netValueWrong, timingWrong, seenClock, netTiming, seenNet, seenRaw, seenOf, clockText, netText}
 use Rattle.frames.proofs.LayoutLaws.{unless-none, zeros-replicate}
@@ -68,11 +68,11 @@ unless-and : (a b : Bool) (at rest : ℕ) → unless (a && b) at rest ≡ unless
 unless-and true b at rest = refl
 unless-and false b at rest = refl
 
-pub raw-record : (at n : ℕ) (L : Layout) (l : List ℕ) (i : ℕ) (vs : List ℕ) → recordWrong (raw at n L) (bytesOf l i n ++ vs) ≡ unless (rawFrom l i n) at (recordWrong L vs)
+pub raw-record : (mark : Mark) (at n : ℕ) (L : Layout) (l : List ℕ) (i : ℕ) (vs : List ℕ) → recordWrong (raw mark at n L) (bytesOf l i n ++ vs) ≡ unless (rawFrom l i n) at (recordWrong L vs)
 unfolding recordWrong allFrom
-raw-record at zero L l i vs = refl
-raw-record at (suc n) L l i vs =
-    ap (λ (w : ℕ). unless (isRaw (getD l i 0)) at w) (raw-record at n L l (suc i) vs)
+raw-record mark at zero L l i vs = refl
+raw-record mark at (suc n) L l i vs =
+    ap (λ (w : ℕ). unless (isRaw (getD l i 0)) at w) (raw-record further at n L l (suc i) vs)
     ∙ sym (unless-and (isRaw (getD l i 0)) (rawFrom l (suc i) n) at (recordWrong L vs))
 
 and-assoc : (a b c : Bool) → (a && (b && c)) ≡ ((a && b) && c)
@@ -96,18 +96,18 @@ module _ (sp : List ℕ) where
   spare-unused : (rt rd : List ℕ) → spareWrong sp (unusedWrong rt rd) ≡ recordWrong (spareAnd 18) (bytesOf sp 0 2 ++ (bytesOf rt 0 10 ++ bytesOf rd 0 8))
   unfolding recordWrong
   spare-unused rt rd =
-      sym (raw-record 48 2 (end 50 18) sp 0 (bytesOf rt 0 10 ++ bytesOf rd 0 8)
+      sym (raw-record first 48 2 (end 50 18) sp 0 (bytesOf rt 0 10 ++ bytesOf rd 0 8)
       ∙ ap (λ (b : Bool). unless (rawFrom sp 0 2) 48 (unless b 50 0)) (zeros-run 10 8 rt 0 (bytesOf rd 0 8) ∙ ap (λ (b : Bool). zeroFrom rt 0 10 && b) (zeros-last 8 rd 0)))
 
   spare-alone : spareWrong sp 0 ≡ recordWrong (spareAnd 0) (bytesOf sp 0 2)
   unfolding recordWrong
-  spare-alone = sym (raw-record 48 2 (end 50 0) sp 0 [])
+  spare-alone = sym (raw-record first 48 2 (end 50 0) sp 0 [])
 
   raw-parts : (rt rd : List ℕ) → rawWrong rt rd (spareWrong sp 0) ≡ recordWrong (timeAndDate rawKind) (bytesOf rt 0 10 ++ (bytesOf rd 0 8 ++ bytesOf sp 0 2))
   unfolding timeAndDate
   raw-parts rt rd =
-      sym (raw-record 30 10 (raw 40 8 (spareAnd 0)) rt 0 (bytesOf rd 0 8 ++ bytesOf sp 0 2)
-      ∙ ap (λ (w : ℕ). unless (rawFrom rt 0 10) 30 w) (raw-record 40 8 (spareAnd 0) rd 0 (bytesOf sp 0 2) ∙ ap (λ (w : ℕ). unless (rawFrom rd 0 8) 40 w) (sym spare-alone)))
+      sym (raw-record further 30 10 (raw first 40 8 (spareAnd 0)) rt 0 (bytesOf rd 0 8 ++ bytesOf sp 0 2)
+      ∙ ap (λ (w : ℕ). unless (rawFrom rt 0 10) 30 w) (raw-record first 40 8 (spareAnd 0) rd 0 (bytesOf sp 0 2) ∙ ap (λ (w : ℕ). unless (rawFrom rd 0 8) 40 w) (sym spare-alone)))
 
 -- ---- `timing_wrong` is the first wrong part of time and date
 
@@ -129,7 +129,7 @@ timing-wrong-is rawKind Raw rt rd sp = raw-parts sp rt rd
 spare-seen : (s : List ℕ) (unused : ℕ) → spareWrong (bytesOf s 48 2) 0 ≡ recordWrong (spareAnd unused) (getD s 48 0 ∷ getD s 49 0 ∷ replicate unused 0)
 unfolding recordWrong
 spare-seen s unused =
-    sym (raw-record 48 2 (end 50 unused) (bytesOf s 48 2) 0 (replicate unused 0)
+    sym (raw-record first 48 2 (end 50 unused) (bytesOf s 48 2) 0 (replicate unused 0)
     ∙ rw (zeros-replicate unused))
 
 pub seen-wrong-is : (kind : TimingKind) (s : List ℕ) → seenOf kind s .wrong ≡ recordWrong (timed kind) (held (timed kind) 30 s)

@@ -5,6 +5,8 @@ use mathlib.Core.Bool.{cond}
 use mathlib.Core.Path.{_≡_, refl, sym, ap, ap₂, _∙_}
 use native.Mathlib.Omega.{arith}
 use lib.Dec.{eqb}
+use lib.ListN.{replicate}
+use Rattle.digits.specs.Once.{Once}
 use Rattle.digits.specs.Told.{Told, gives, refuses}
 use Rattle.frames.specs.declared.refusals.ReadRefusal.{ReadRefusal}
 use Rattle.frames.specs.declared.refusals.ReadRefusal.the-variants.{Kind as kind}
@@ -20,15 +22,16 @@ use Rattle.frames.specs.declared.dynamic.DynamicRequest.{DynamicRequest}
 use Rattle.frames.specs.declared.dynamic.DynamicRead.{DynamicRead}
 use Rattle.frames.specs.declared.dynamic.DynamicRead.the-variants.{Request as Running, Refused as not-running}
 use Rattle.frames.specs.declared.reply.StaticReply.{StaticReply}
-use Rattle.frames.specs.declared.reply.ReplyRead.{ReplyRead}
+use Rattle.frames.specs.declared.reply.ReplyFrame.{ReplyFrame}
 use Rattle.frames.specs.declared.reply.ReplyLabel.{ReplyLabel}
 use Rattle.frames.specs.declared.reply.ReplyCheck.{ReplyCheck}
 use Rattle.frames.specs.declared.reply.ReplyCheck.the-variants.{Good, Refused as rejected}
 use Rattle.frames.specs.Refusals.{RECORD, readRefused, writeTold}
-use Rattle.frames.specs.Kind.{Kind, read, Wrote}
+use Rattle.frames.specs.Kind.{Kind, Wrote}
 use Rattle.frames.specs.Request.{request, requestTold}
 use Rattle.frames.specs.Dynamic.{dynamic, dynamicTold}
-use Rattle.frames.specs.Reply.{reply, toldBy, ReadAs, labelled, checkTold}
+use Rattle.frames.specs.Reply.{reply, toldBy, ReadAs, checkTold}
+use Rattle.frames.specs.Unique.{OneOutcome}
 use Rattle.frames.proofs.RefusalLaws.{numberOf, offsetOf, read-refuses, readBack, read-back}
 
 -- ---- what was told leads back to the refusal
@@ -56,17 +59,11 @@ same-request (Request r) (not-request g) e = absurd (not-given StaticRequest r g
 same-request (not-request f) (Request q) e = absurd (not-given StaticRequest q f (sym e))
 same-request (not-request f) (not-request g) e = ap not-request (same-refusal StaticRequest f g e)
 
-pub one-request : (s : List ℕ) (a b : RequestRead) → requestTold a ≡ read request s → requestTold b ≡ read request s → a ≡ b
-one-request s a b p q = same-request a b (p ∙ sym q)
-
 same-dynamic : (a b : DynamicRead) → dynamicTold a ≡ dynamicTold b → a ≡ b
 same-dynamic (Running r) (Running q) e = cc
 same-dynamic (Running r) (not-running g) e = absurd (not-given DynamicRequest r g e)
 same-dynamic (not-running f) (Running q) e = absurd (not-given DynamicRequest q f (sym e))
 same-dynamic (not-running f) (not-running g) e = ap not-running (same-refusal DynamicRequest f g e)
-
-pub one-dynamic : (s : List ℕ) (a b : DynamicRead) → dynamicTold a ≡ read dynamic s → dynamicTold b ≡ read dynamic s → a ≡ b
-one-dynamic s a b p q = same-dynamic a b (p ∙ sym q)
 
 same-verdict : (v w : ReadVerdict) (r q : StaticReply) → toldBy v r ≡ toldBy w q → v ≡ w
 same-verdict Read Read r q e = refl
@@ -80,11 +77,8 @@ same-check (Good k) (rejected g) e = absurd (not-given ReplyLabel k g e)
 same-check (rejected f) (Good l) e = absurd (not-given ReplyLabel l f (sym e))
 same-check (rejected f) (rejected g) e = ap rejected (same-refusal ReplyLabel f g e)
 
-pub one-check : (s : List ℕ) (a b : ReplyCheck) → checkTold a ≡ labelled (read reply s) → checkTold b ≡ labelled (read reply s) → a ≡ b
-one-check s a b p q = same-check a b (p ∙ sym q)
-
 -- the verdict, and the record beside a refusal too
-pub one-reply : (s : List ℕ) (a b : ReplyRead) → ReadAs s a → ReadAs s b → a ≡ b
+one-reply : (s : List ℕ) → Once (ReadAs s)
 one-reply s a b p q =
     ap₂ (λ (v : ReadVerdict) (r : StaticReply). record { verdict = v; reply = r })
     (same-verdict (a .verdict) (b .verdict) (a .reply) (b .reply) (p .told ∙ sym (q .told)))
@@ -101,7 +95,26 @@ write-of Written = refl
 write-of (Refused (Record at)) = refl
 write-of (Refused Room) = refl
 
-pub one-writing : {R : Type 0} (k : Kind R) (r : R) (out : List ℕ) (a b : WriteAnswer) (x y : List ℕ)
-    → Wrote k r out a x → Wrote k r out b y → (a ≡ b) × (x ≡ y)
-one-writing k r out a b x y p q =
-    (sym (write-of a) ∙ ap writeOf (p .told ∙ sym (q .told)) ∙ write-of b, p .bytes ∙ sym (q .bytes))
+wrote-once : {R : Type 0} (k : Kind R) (r : R) (out : List ℕ) → Once (λ (o : WriteAnswer × List ℕ). Wrote k r out (o .0) (o .1))
+wrote-once k r out a b p q =
+    ap₂ (λ (x : WriteAnswer) (o : List ℕ). (x, o))
+    (sym (write-of (a .0)) ∙ ap writeOf (p .told ∙ sym (q .told)) ∙ write-of (b .0))
+    (p .bytes ∙ sym (q .bytes))
+
+frame-once : (r : StaticReply) (out : List ℕ) → Once (λ (a : ReplyFrame). Wrote reply r out (a .answer) (a .frame))
+frame-once r out a b p q =
+    let e = wrote-once reply r out (a .answer, a .frame) (b .answer, b .frame) p q in
+    ap (λ (o : WriteAnswer × List ℕ). record { answer = o .0; frame = o .1 }) e
+
+pub one-outcome : OneOutcome
+one-outcome = record {
+  read-request = λ s a b p q. same-request a b (p ∙ sym q);
+  write-request = wrote-once request;
+  read-reply = one-reply;
+  check-reply = λ s a b p q. same-check a b (p ∙ sym q);
+  write-reply = wrote-once reply;
+  read-reply-value = one-reply;
+  write-reply-value = λ r. frame-once r (replicate 51 0);
+  read-dynamic = λ s a b p q. same-dynamic a b (p ∙ sym q);
+  write-dynamic = wrote-once dynamic;
+}

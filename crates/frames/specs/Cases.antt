@@ -1,12 +1,13 @@
--- Twelve worked cases, with both sides of each line, and each refusal of reading and writing by its number, as one statement over the definitions.
-use Prim.Native.Nat.{ℕ}
+-- Twelve worked cases, with both sides of each line, and each refusal of reading, writing and running time by its number, as one statement over the definitions.
+use Prim.Native.Nat.{ℕ, zero, suc}
 use Prim.Native.String.{String}
 use mathlib.Core.List.{List, [], _∷_, _++_}
 use mathlib.Core.Path.{_≡_}
 use lib.IntN.{pos, negsuc}
+use lib.ListN.{set}
 use Rattle.digits.specs.declared.Number.the-variants.{Is}
 use Rattle.digits.specs.Text.{codes}
-use Rattle.digits.specs.Told.{gives, refuses}
+use Rattle.digits.specs.Told.{Told, gives, refuses}
 use Rattle.times.specs.Clock.{clock}
 use Rattle.times.specs.Running.{runningTime}
 use Rattle.frames.specs.declared.timing.Timing.{Timing}
@@ -25,6 +26,16 @@ Good {R} k s = (r : R) × (read k s ≡ gives r)
 -- a frame is turned away by FIELD, which is 5, with this offset
 abbrev pub FieldAt : {R : Type 0} → Kind R → List ℕ → ℕ → Type 0
 FieldAt k s at = read k s ≡ refuses 5 at
+
+-- the answers to a frame with n bytes in turn, from a place on, each made 7Fh, which no field takes
+abbrev pub damaged : {R : Type 0} → Kind R → List ℕ → ℕ → ℕ → List (Told R)
+damaged k s at zero = []
+damaged k s at (suc n) = read k (set s at 127) ∷ damaged k s (suc at) n
+
+-- FIELD with each of these offsets
+abbrev pub fieldsAt : {R : Type 0} → List ℕ → List (Told R)
+fieldsAt [] = []
+fieldsAt (at ∷ more) = refuses 5 at ∷ fieldsAt more
 
 -- a request with this requester, letter, channel and run
 abbrev pub asking : String → String → String → String → List ℕ
@@ -97,10 +108,11 @@ pub record Worked : Type 0 where
   pub bib-59999 : Good reply (replying "59999" "255" "1" "0001125400" "+0000000")
   pub bib-60000 : FieldAt reply (replying "60000" "255" "1" "0001125400" "+0000000") 12
   pub running-60000 : Good dynamic (running "A" "60000" "00001")
-  -- the refusals that no numbered case has: END, ADDRESS, RECORD with its offset, ROOM
+  -- the refusals that no numbered case has: END, ADDRESS, RECORD with its offset, ROOM, TIME
   pub line-feed : read request (17 ∷ (codes "R A012000411255001000S" ++ (10 ∷ []))) ≡ refuses 3 0
   pub address-1 : read request (17 ∷ (codes "R1A012000411255001000S" ++ (13 ∷ []))) ≡ refuses 4 0
   pub address-S : read reply (18 ∷ (codes "S SOEA000120004100000101525510001125400+0000000  " ++ (13 ∷ []))) ≡ refuses 4 0
   pub record-251 : writeTried (wrongIn request (asked 251)) 24 24 ≡ refuses 6 16
   pub room-23 : writeTried (wrongIn request (asked 250)) 24 23 ≡ refuses 7 0
   pub room-24 : writeTried (wrongIn request (asked 250)) 24 24 ≡ gives tt
+  pub time-of-none : runningTime (record { bib = 0; tnow = 0; tev = 1; sign = 0; days = 0; time = 0 }) ≡ refuses 8 0

@@ -1,7 +1,8 @@
 -- The dynamic request: 46 bytes, lead byte DC3.
 use Prim.Native.Nat.{ℕ}
-use mathlib.Core.List.{[], _∷_}
+use mathlib.Core.List.{List, [], _∷_}
 use mathlib.Core.Bool.{Bool, cond, _||_}
+use mathlib.Core.Path.{_≡_}
 use lib.ListN.{getD}
 use lib.Dec.{leb, eqb}
 use Rattle.digits.specs.Text.{codes, oneOf}
@@ -14,7 +15,7 @@ use Rattle.frames.specs.declared.dynamic.DynamicRead.the-variants.{Reque
 use Rattle.frames.specs.Refusals.{readRefused}
 use Rattle.frames.specs.Rules.{between, upTo, isRequester, isOutput}
 use Rattle.frames.specs.Layout.{Layout, field, end}
-use Rattle.frames.specs.Kind.{Kind}
+use Rattle.frames.specs.Kind.{Kind, read}
 
 unfoldable pub isOrder : ℕ → Bool
 isOrder = oneOf (codes "ABabTt")
@@ -64,3 +65,7 @@ dynamic = record {
 abbrev pub dynamicTold : DynamicRead → Told DynamicRequest
 dynamicTold (Request r) = gives r
 dynamicTold (Refused f) = readRefused f
+
+-- what is promised of reading s
+abbrev pub DynamicAs : List ℕ → DynamicRead → Type 0
+DynamicAs s a = dynamicTold a ≡ read dynamic s

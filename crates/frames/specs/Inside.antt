@@ -29,7 +29,7 @@ use Rattle.frames.specs.declared.timing.Timing.the-variants.{Clock, Net,
 use Rattle.frames.specs.declared.timing.Seen.{Seen}
 use Rattle.frames.specs.Refusals.{FIELD}
 use Rattle.frames.specs.Rules.{between, upTo, isRaw, isRequester}
-use Rattle.frames.specs.Layout.{Layout, field, end, unless}
+use Rattle.frames.specs.Layout.{Layout, piece, end, unless}
 use Rattle.frames.specs.Timing.{timingKind, isSign, netOf, signOf, bytesOf}
 use Rattle.frames.specs.Reply.{isStatus, isLetter, isChannel, leastRun, zeroReply, labelOf}
 
@@ -40,7 +40,7 @@ orNone number-wrong = 4294967295
 
 -- the values of a frame's fields, so held
 unfoldable pub held : Layout → ℕ → List ℕ → List ℕ
-held (field at form rule next) p s = orNone (form .got s p) ∷ held (next (orNone (form .got s p))) (p + form .width) s
+held (piece mark at form rule next) p s = orNone (form .got s p) ∷ held (next (orNone (form .got s p))) (p + form .width) s
 held (end cr unused) p s = replicate unused 0
 
 -- ---- the checks of a reply's time and date, n bytes from i on

@@ -8,4 +8,10 @@ pub mod Request
 pub mod Timing
 pub mod Reply
 pub mod Dynamic
+pub mod Unique
+pub mod Keeps
+pub mod Places
 pub mod Cases
+pub mod RequestCases
+pub mod ReplyCases
+pub mod DynamicCases

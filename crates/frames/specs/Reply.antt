@@ -122,3 +122,7 @@ labelled (refuses number offset) = refuses number offset
 abbrev pub checkTold : ReplyCheck → Told ReplyLabel
 checkTold (Good l) = gives l
 checkTold (Rejected f) = readRefused f
+
+-- what is promised of checking s
+abbrev pub CheckedAs : List ℕ → ReplyCheck → Type 0
+CheckedAs s a = checkTold a ≡ labelled (read reply s)

@@ -1,7 +1,8 @@
 -- The static request: 24 bytes, lead byte DC1.
 use Prim.Native.Nat.{ℕ}
-use mathlib.Core.List.{[], _∷_}
+use mathlib.Core.List.{List, [], _∷_}
 use mathlib.Core.Bool.{Bool, _||_}
+use mathlib.Core.Path.{_≡_}
 use lib.ListN.{getD}
 use lib.Dec.{leb, eqb}
 use Rattle.digits.specs.Text.{codes, oneOf}
@@ -13,7 +14,7 @@ use Rattle.frames.specs.declared.request.RequestRead.the-variants.{Reque
 use Rattle.frames.specs.Refusals.{readRefused}
 use Rattle.frames.specs.Rules.{upTo, isRequester, isOutput}
 use Rattle.frames.specs.Layout.{Layout, field, end}
-use Rattle.frames.specs.Kind.{Kind}
+use Rattle.frames.specs.Kind.{Kind, read}
 
 -- 41 letters
 unfoldable pub isInformation : ℕ → Bool
@@ -54,3 +55,7 @@ request = record {
 abbrev pub requestTold : RequestRead → Told StaticRequest
 requestTold (Request r) = gives r
 requestTold (Refused f) = readRefused f
+
+-- what is promised of reading s
+abbrev pub RequestAs : List ℕ → RequestRead → Type 0
+RequestAs s a = requestTold a ≡ read request s

@@ -16,7 +16,7 @@ use Rattle.frames.specs.declared.timing.TimingKind.the-variants.{Clock a
 use Rattle.frames.specs.declared.timing.Timing.{Timing}
 use Rattle.frames.specs.declared.timing.Timing.the-variants.{Clock, Net, Raw}
 use Rattle.frames.specs.Rules.{upTo, isRaw}
-use Rattle.frames.specs.Layout.{Layout, field, end}
+use Rattle.frames.specs.Layout.{Mark, first, further, Layout, piece, field, part, end}
 
 -- "not available"
 abbrev pub isZ : ℕ → Bool
@@ -31,10 +31,10 @@ timingKind status letter =
 
 -- ---- the fields
 
--- n raw bytes that are one field
-abbrev pub raw : ℕ → ℕ → Layout → Layout
-raw at zero rest = rest
-raw at (suc n) rest = field at byte isRaw λ _. raw at n rest
+-- n raw bytes of one field, from its first on or from a further one
+abbrev pub raw : Mark → ℕ → ℕ → Layout → Layout
+raw mark at zero rest = rest
+raw mark at (suc n) rest = piece mark at byte isRaw λ _. raw further at n rest
 
 -- + and -
 unfoldable pub isSign : ℕ → Bool
@@ -45,26 +45,27 @@ netOf time sign days = record { minus = eqb sign 45; days = days; time = time }
 
 -- the two last bytes, and the parts of the record that the kind does not use
 abbrev pub spareAnd : ℕ → Layout
-spareAnd unused = raw 48 2 (end 50 unused)
+spareAnd unused = raw first 48 2 (end 50 unused)
 
+-- the field at 30 has begun, without bytes, where the timing's kind was tried: see `timed`
 unfoldable pub timeAndDate : TimingKind → Layout
 timeAndDate clockKind =
-    field 30 clock isTime λ _.
+    part 30 clock isTime λ _.
     -- DDMMYYYY, a real day
     field 40 (number 2) (upTo 99) λ day.
-    field 40 (number 2) (upTo 99) λ month.
-    field 40 (number 4) (realDay day month) λ _.
+    part 40 (number 2) (upTo 99) λ month.
+    part 40 (number 4) (realDay day month) λ _.
     spareAnd 18
 timeAndDate netKind =
-    field 30 clock isTime λ time.
+    part 30 clock isTime λ time.
     -- a sign and seven digits of days
     field 40 byte isSign λ sign.
-    field 40 (number 7) (λ days. isNet (netOf time sign days)) λ _.
+    part 40 (number 7) (λ days. isNet (netOf time sign days)) λ _.
     spareAnd 18
 timeAndDate rawKind =
-    raw 30 10 (raw 40 8 (spareAnd 0))
+    raw further 30 10 (raw first 40 8 (spareAnd 0))
 
--- ---- a record's timing is of the kind that status and letter ask for: a field of no bytes, at the time's offset
+-- ---- a record's timing is of the kind that status and letter ask for: so the time's field begins, with no bytes
 
 abbrev pub codeOf : TimingKind → ℕ
 codeOf clockKind = 0

@@ -21,9 +21,9 @@ ghost use lib.Seq.{sets};
 ghost use lib.Dec.{eqb};
 ghost use Rattle.digits.specs.Told.{gives, tried};
 ghost use Rattle.frames.specs.Refusals.{FIELD};
-ghost use Rattle.frames.specs.Kind.{read, wrongIn, frameOf, Wrote};
+ghost use Rattle.frames.specs.Kind.{wrongIn, frameOf, Wrote};
 ghost use Rattle.frames.specs.Inside.{held};
-ghost use Rattle.frames.specs.Dynamic.{isOrder, isChannel, leastPeriod, dynamic, dynamicFields, dynamicTold};
+ghost use Rattle.frames.specs.Dynamic.{isOrder, isChannel, leastPeriod, dynamic, dynamicFields, dynamicTold, DynamicAs};
 
 pub const DYNAMIC_LEAD: u8 = 19;
 
@@ -53,7 +53,7 @@ pub enum DynamicRead {
 }
 
 pub fn read_dynamic(s: &[u8]) -> DynamicRead
-    ensures { λ r. ⌜ dynamicTold r ≡ read dynamic (now (s .entry)) ⌝ }
+    ensures { λ r. ⌜ DynamicAs (now (s .entry)) r ⌝ }
 {
     match head_of(s, DYNAMIC_LEAD, DYNAMIC_SIZE) {
         ReadVerdict::Read => judged(dynamic_at(s)),

@@ -27,9 +27,9 @@ use digits::put_number;
 ghost use mathlib.Core.Path.{_≡_};
 ghost use lib.Seq.{sets};
 ghost use lib.ListN.{replicate};
-ghost use Rattle.frames.specs.Kind.{read, wrongIn, Wrote};
+ghost use Rattle.frames.specs.Kind.{wrongIn, Wrote};
 ghost use Rattle.frames.specs.Inside as I;
-ghost use Rattle.frames.specs.Reply.{isStatus, isLetter, isChannel, leastRun, reply, zeroReply, ReadAs, checkTold, labelled};
+ghost use Rattle.frames.specs.Reply.{isStatus, isLetter, isChannel, leastRun, reply, zeroReply, ReadAs, checkTold, CheckedAs};
 
 pub const REPLY_LEAD: u8 = 18;
 
@@ -94,7 +94,7 @@ pub fn read_reply(s: &[u8]) -> ReplyRead
 
 // As read_reply, for a caller who needs no more than where a reply belongs: no record is made.
 pub fn check_reply(s: &[u8]) -> ReplyCheck
-    ensures { λ r. ⌜ checkTold r ≡ labelled (read reply (now (s .entry))) ⌝ }
+    ensures { λ r. ⌜ CheckedAs (now (s .entry)) r ⌝ }
 {
     match head_of(s, REPLY_LEAD, REPLY_SIZE) {
         ReadVerdict::Read => fields_checked(s),

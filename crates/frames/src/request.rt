@@ -19,9 +19,9 @@ ghost use lib.Seq.{sets};
 ghost use lib.Dec.{eqb};
 ghost use Rattle.digits.specs.Told.{gives, tried};
 ghost use Rattle.frames.specs.Refusals.{FIELD};
-ghost use Rattle.frames.specs.Kind.{read, wrongIn, frameOf, Wrote};
+ghost use Rattle.frames.specs.Kind.{wrongIn, frameOf, Wrote};
 ghost use Rattle.frames.specs.Inside.{held};
-ghost use Rattle.frames.specs.Request.{isInformation, isChannel, request, requestFields, requestTold};
+ghost use Rattle.frames.specs.Request.{isInformation, isChannel, request, requestFields, requestTold, RequestAs};
 
 pub const REQUEST_LEAD: u8 = 17;
 
@@ -51,7 +51,7 @@ pub enum RequestRead {
 }
 
 pub fn read_request(s: &[u8]) -> RequestRead
-    ensures { λ r. ⌜ requestTold r ≡ read request (now (s .entry)) ⌝ }
+    ensures { λ r. ⌜ RequestAs (now (s .entry)) r ⌝ }
 {
     match head_of(s, REQUEST_LEAD, REQUEST_SIZE) {
         ReadVerdict::Read => judged(request_at(s)),

@@ -4,7 +4,6 @@ use mathlib.Core.List.{List, _++_}
 use mathlib.Core.Bool.{Bool, true, false, cond, _&&_, and-eq-true-iff}
 use mathlib.Core.Path.{_≡_, refl, sym, ap, _∙_}
 use native.Mathlib.Omega.{arith}
-use lib.Dec.{leb}
 use lib.ListN.{length}
 use lib.Seq.{sets}
 use borrow.Author.Tests.{leb-true, le-leb}
@@ -17,7 +16,7 @@ use Rattle.digits.proofs.Writing.{length-digits, sets-append}
 use Rattle.digits.proofs.Laws.{read-was-written}
 use Rattle.digits.proofs.Parts.{joined, read-in-parts, written-in-parts}
 use Rattle.digits.proofs.Forms.{number-lawful, number-back, renamed-lawful}
-use Rattle.times.specs.Clock.{aDay, lastTick, isTime, hours, minutes, seconds, fraction, ticksOf, clockNumber, clock}
+use Rattle.times.specs.Clock.{aDay, lastTick, isTime, isHour, isSixtieth, hours, minutes, seconds, fraction, ticksOf, clockNumber, clock}
 use Rattle.times.specs.Inside.{partOf, ticksFrom}
 
 -- what the ticks of HHMMSSdddd say of it
@@ -31,13 +30,14 @@ time-is : (n v : ℕ) → ticksOf n ≡ Is v → Time n v
 unfolding ticksOf
 time-is n v e = go _ refl e
   where
-    go : (t : Bool) → (leb (hours n) 23 && leb (minutes n) 59 && leb (seconds n) 59) ≡ t → cond t (Is (((hours n * 60 + minutes n) * 60 + seconds n) * 10000 + fraction n)) Wrong ≡ Is v → Time n v
+    go : (t : Bool) → (isHour (hours n) && isSixtieth (minutes n) && isSixtieth (seconds n)) ≡ t → cond t (Is (((hours n * 60 + minutes n) * 60 + seconds n) * 10000 + fraction n)) Wrong ≡ Is v → Time n v
     go false q r = absurd (let z : _≡_ {A = ℕ} 0 1 = cc in omega arith)
     go true q r =
         let s : ((hours n * 60 + minutes n) * 60 + seconds n) * 10000 + fraction n ≡ v = cc in
-        let a = and-eq-true-iff (leb (hours n) 23 && leb (minutes n) 59) (leb (seconds n) 59) .0 q in
-        let b = and-eq-true-iff (leb (hours n) 23) (leb (minutes n) 59) .0 (a .0) in
-        record { hour = leb-true _ _ (b .0); minute = leb-true _ _ (b .1); second = leb-true _ _ (a .1); sum = sym s }
+        let a = and-eq-true-iff (isHour (hours n) && isSixtieth (minutes n)) (isSixtieth (seconds n)) .0 q in
+        let b = and-eq-true-iff (isHour (hours n)) (isSixtieth (minutes n)) .0 (a .0) in
+        let most = leb-true (hours n) _ (b .0) in
+        record { hour = omega (arith, most); minute = leb-true _ _ (b .1); second = leb-true _ _ (a .1); sum = sym s }
 
 -- ---- the four parts of a sum with these bases
 
@@ -70,7 +70,11 @@ clock-lawful = renamed-lawful (number 10) ticksOf clockNumber number-again (numb
 time-of : (n h m s d : ℕ) → hours n ≡ h → minutes n ≡ m → seconds n ≡ s → fraction n ≡ d → h ≤ 23 → m ≤ 59 → s ≤ 59
     → ticksOf n ≡ Is (((h * 60 + m) * 60 + s) * 10000 + d)
 unfolding ticksOf
-time-of n h m s d eh em es ed a b c = rw (eh, em, es, ed, le-leb h 23 a, le-leb m 59 b, le-leb s 59 c)
+time-of n h m s d eh em es ed a b c =
+    let i : isHour h ≡ true = le-leb h _ (omega arith) in
+    let j : isSixtieth m ≡ true = le-leb m _ (omega arith) in
+    let k : isSixtieth s ≡ true = le-leb s _ (omega arith) in
+    rw (eh, em, es, ed, i, j, k)
 
 ticks-again : (v : ℕ) → v < aDay → ticksOf (clockNumber v) ≡ Is v
 unfolding clockNumber
@@ -112,15 +116,15 @@ in-order : (h m s f : ℕ) → m < 100 → s < 100 → f < 10000 → (n : ℕ) �
 unfolding ticksOf ticksFrom
 in-order h m s f a b c n e =
     let q = split-digits h m s f (omega arith) (omega arith) (omega arith) n e in
-    rw (q .0, q .1, q .2, q .3, le-leb f 9999 (omega arith)) (test-by-test (leb h 23) (leb m 59) (leb s 59) _)
+    rw (q .0, q .1, q .2, q .3, le-leb f 9999 (omega arith)) (test-by-test (isHour h) (isSixtieth m) (isSixtieth s) _)
 
 by-parts : (x y z w : Number) → ((v : ℕ) → y ≡ Is v → v < 100) → ((v : ℕ) → z ≡ Is v → v < 100) → ((v : ℕ) → w ≡ Is v → v < 10000)
     → named ticksOf (joined 8 x (joined 6 y (joined 4 z w))) ≡ ticksFrom (partOf x) (partOf y) (partOf z) (partOf w)
 unfolding ticksFrom
 by-parts (Is h) (Is m) (Is s) (Is f) a b c = in-order h m s f (a m refl) (b s refl) (c f refl) _ (omega arith)
-by-parts (Is h) (Is m) (Is s) Wrong a b c = sym (rw (both-wrong (leb s 59), both-wrong (leb m 59)) (both-wrong (leb h 23)))
-by-parts (Is h) (Is m) Wrong w a b c = sym (rw (both-wrong (leb m 59)) (both-wrong (leb h 23)))
-by-parts (Is h) Wrong z w a b c = sym (both-wrong (leb h 23))
+by-parts (Is h) (Is m) (Is s) Wrong a b c = sym (rw (both-wrong (isSixtieth s), both-wrong (isSixtieth m)) (both-wrong (isHour h)))
+by-parts (Is h) (Is m) Wrong w a b c = sym (rw (both-wrong (isSixtieth m)) (both-wrong (isHour h)))
+by-parts (Is h) Wrong z w a b c = sym (both-wrong (isHour h))
 by-parts Wrong y z w a b c = refl
 
 ten-in-parts : (s : List ℕ) (at : ℕ) → numberAt s at 10 ≡ joined 8 (numberAt s at 2) (joined 6 (numberAt s (at + 2) 2) (joined 4 (numberAt s (at + 4) 2) (numberAt s (at + 6) 4)))

@@ -1,9 +1,9 @@
 -- Net times: the sum and the parts are inverse, both ways. Assumes nothing.
 use mathlib.Core.Path.{_≡_, refl, sym, ap, ap₂, _∙_, subst}
-use mathlib.Core.Bool.{Bool, true, false, not, _&&_, and-eq-true-iff}
-use Prim.Native.Nat.{ℕ, _+_, _-_, _*_, _/_, _%_, _≤_, _<_}
+use mathlib.Core.Bool.{Bool, true, false, _&&_, and-eq-true-iff}
+use Prim.Native.Nat.{ℕ, _+_, _-_, _*_, _≤_, _<_}
 use native.Mathlib.Omega.{arith}
-use lib.Dec.{T, eqb, leb}
+use lib.Dec.{T, leb}
 use lib.IntN.{ℤ, pos, negsuc, subℕ, _+ℤ_, _*ℤ_}
 use borrow.Author.Tests.{leb-true, eqb-false, not-true}
 use Rattle.times.specs.declared.signed.SignAndRest.{SignAndRest}
@@ -26,7 +26,8 @@ sum-plus d t = sym (sub-none (d * aDay + t))
 sum-of-parts : (z : ℤ) → netSum (netParts z) ≡ z
 sum-of-parts (pos n) = ap pos (omega arith)
 sum-of-parts (negsuc n) =
-    sum-minus (n / aDay + 1) (lastTick - n % aDay) ∙ sub-neg (lastTick - n % aDay) ((n / aDay + 1) * aDay) n (omega arith)
+    let p = netParts (negsuc n) in
+    sum-minus (p .days) (p .time) ∙ sub-neg (p .time) (p .days * aDay) n (omega arith)
 
 -- ---- and parts are those of their sum, where a minus has a day at least
 
@@ -59,19 +60,19 @@ module _ (p : NetParts) where
 
 -- ---- `net_parts`
 
-parts-below : (v : ℤ) → apartOf v .negative ≡ true → parts true (apartOf v .rest / aDay + 1) (lastTick - apartOf v .rest % aDay) ≡ netParts v
+parts-below : (v : ℤ) → apartOf v .negative ≡ true → netParts (negsuc (apartOf v .rest)) ≡ netParts v
 parts-below (pos n) t = absurd (subst T (sym t) tt)
 parts-below (negsuc n) t = refl
 
-parts-above : (v : ℤ) → apartOf v .negative ≡ false → parts false (apartOf v .rest / aDay) (apartOf v .rest % aDay) ≡ netParts v
+parts-above : (v : ℤ) → apartOf v .negative ≡ false → netParts (pos (apartOf v .rest)) ≡ netParts v
 parts-above (pos n) t = refl
 parts-above (negsuc n) t = absurd (subst T t tt)
 
 module _ (v : ℤ) (x : SignAndRest) (e : x ≡ apartOf v) where
-  pub from-below : x .negative ≡ true → parts true (x .rest / aDay + 1) (lastTick - x .rest % aDay) ≡ netParts v
+  pub from-below : x .negative ≡ true → netParts (negsuc (x .rest)) ≡ netParts v
   from-below t = rw e (parts-below v (ap (λ (y : SignAndRest). y .negative) (sym e) ∙ t))
 
-  pub from-above : x .negative ≡ false → parts false (x .rest / aDay) (x .rest % aDay) ≡ netParts v
+  pub from-above : x .negative ≡ false → netParts (pos (x .rest)) ≡ netParts v
   from-above t = rw e (parts-above v (ap (λ (y : SignAndRest). y .negative) (sym e) ∙ t))
 
 -- ---- both ways
@@ -79,13 +80,9 @@ module _ (v : ℤ) (x : SignAndRest) (e : x ≡ apartOf v) where
 pub parts-are : (p : NetParts) → isNet p ≡ true → (p .time < aDay) × (p .minus ≡ true → 0 < p .days)
 unfolding isNet
 parts-are p e =
-    let a = and-eq-true-iff (leb (p .days) 9999999 && leb (p .time) lastTick) (not (p .minus && eqb (p .days) 0)) .0 e in
+    let a = and-eq-true-iff (leb (p .days) 9999999 && leb (p .time) lastTick) _ .0 e in
     let b = and-eq-true-iff (leb (p .days) 9999999) (leb (p .time) lastTick) .0 (a .0) in
-    (omega (arith, leb-true (p .time) lastTick (b .1)), λ m. some-days (p .minus) (p .days) m (a .1))
-  where
-    some-days : (m : Bool) (d : ℕ) → m ≡ true → not (m && eqb d 0) ≡ true → 0 < d
-    some-days true d m n = let z = eqb-false d 0 (not-true (eqb d 0) n) in omega (arith, z)
-    some-days false d m n = absurd (let z : _≡_ {A = ℕ} 0 1 = cc in omega arith)
+    (omega (arith, leb-true (p .time) lastTick (b .1)), λ m. let z = eqb-false (p .days) _ (not-true _ (rw m at (a .1))) in omega (arith, z))
 
 pub parts-of-net : (p : NetParts) → isNet p ≡ true → netParts (netSum p) ≡ p
 parts-of-net p e = let a = parts-are p e in parts-of-sum (p .minus) (p .days) (p .time) (a .0) (a .1)

@@ -4,10 +4,11 @@ use mathlib.Core.Bool.{true, false}
 use Prim.Native.Nat.{ℕ, _+_, _*_}
 use lib.IntN.{ℤ, pos, negℤ, subℕ, _+ℤ_, _-ℤ_, negℤ-+ℤ, negℤ-negℤ, +ℤ-assoc, +ℤ-comm}
 use borrow.Author.Tests.{eq-eqb, ne-eqb}
-use Rattle.digits.specs.Told.{gives, refuses}
+use Rattle.digits.specs.Told.{gives}
+use Rattle.times.specs.declared.running.Running.the-variants.{Time}
 use Rattle.times.specs.declared.running.RunningOf.{RunningOf}
 use Rattle.times.specs.Clock.{aDay}
-use Rattle.times.specs.Running.{TIME, inRange, runningTime, RunningWorked}
+use Rattle.times.specs.Running.{inRange, runningTime, runningTold, RunningWorked}
 use Rattle.times.proofs.SignedLaws.{pos-pos}
 
 take-plus : (n e m : ℕ) → (pos n -ℤ pos e) -ℤ pos m ≡ subℕ n (e + m)
@@ -21,7 +22,7 @@ take-minus n e m =
     ∙ sym (+ℤ-assoc (pos n) (pos m) (negℤ (pos e))) ∙ pos-pos (n + m) e
 
 module _ (o : RunningOf) where
-  pub out-of-range : inRange o ≡ false → refuses TIME 0 ≡ runningTime o
+  pub out-of-range : inRange o ≡ false → runningTold Time ≡ runningTime o
   unfolding runningTime
   out-of-range e = rw e
 

@@ -27,10 +27,16 @@ seconds n = n / 10000 % 100
 abbrev pub fraction : ℕ → ℕ
 fraction n = n % 10000
 
--- hours 00 to 23, minutes and seconds 00 to 59
+-- hours are 00 to 23, minutes and seconds 00 to 59
+abbrev pub isHour : ℕ → Bool
+isHour h = leb h 23
+
+abbrev pub isSixtieth : ℕ → Bool
+isSixtieth m = leb m 59
+
 unfoldable pub ticksOf : ℕ → Number
 ticksOf n =
-    cond (leb (hours n) 23 && leb (minutes n) 59 && leb (seconds n) 59)
+    cond (isHour (hours n) && isSixtieth (minutes n) && isSixtieth (seconds n))
     (Is (((hours n * 60 + minutes n) * 60 + seconds n) * 10000 + fraction n))
     Wrong
 

@@ -4,6 +4,7 @@ use mathlib.Core.Bool.{cond}
 use lib.Dec.{leb}
 use Rattle.digits.specs.declared.Number.{Number}
 use Rattle.digits.specs.declared.Number.the-variants.{Is, Wrong}
+use Rattle.times.specs.Clock.{isHour, isSixtieth}
 
 -- the code holds 10,000 where a part of a time is none: a value that no part takes
 abbrev pub partOf : Number → ℕ
@@ -13,4 +14,4 @@ partOf Wrong = 10000
 -- the ticks of hours, minutes, seconds and fraction
 unfoldable pub ticksFrom : ℕ → ℕ → ℕ → ℕ → Number
 ticksFrom h m s f =
-    cond (leb h 23) (cond (leb m 59) (cond (leb s 59) (cond (leb f 9999) (Is (((h * 60 + m) * 60 + s) * 10000 + f)) Wrong) Wrong) Wrong) Wrong
+    cond (isHour h) (cond (isSixtieth m) (cond (isSixtieth s) (cond (leb f 9999) (Is (((h * 60 + m) * 60 + s) * 10000 + f)) Wrong) Wrong) Wrong) Wrong

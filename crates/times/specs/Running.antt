@@ -32,6 +32,10 @@ abbrev pub runningTold : Running → Told ℤ
 runningTold (Ticks v) = gives v
 runningTold Time = refuses TIME 0
 
+-- what is promised of the answer
+abbrev pub RunningAs : RunningOf → Running → Type 0
+RunningAs of r = runningTold r ≡ runningTime of
+
 -- worked cases: a minus covers days and time, and each number out of range is refused by 8
 pub record RunningWorked : Type 0 where
   pub minus : runningTime (record { bib = 1; tnow = 20; tev = 5; sign = 1; days = 1; time = 3 }) ≡ gives (pos 864000018)

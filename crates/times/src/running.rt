@@ -1,7 +1,7 @@
 // Running time: Tnow - Tev - Taux in ticks.
 use crate::signed::diff;
 ghost use mathlib.Core.Path.{_≡_};
-ghost use Rattle.times.specs.Running.{inRange, runningTime, runningTold};
+ghost use Rattle.times.specs.Running.{inRange, RunningAs};
 
 pub enum Running {
     Ticks(i64),
@@ -20,7 +20,7 @@ pub struct RunningOf {
 }
 
 pub fn running_time(of: RunningOf) -> Running
-    ensures { λ r. ⌜ runningTold r ≡ runningTime of ⌝ }
+    ensures { λ r. ⌜ RunningAs of r ⌝ }
 {
     if !in_range(of) {
         return Running::Time;

@@ -37,7 +37,7 @@ impl Spec {
         let found: Vec<u64> = match of.split_once(" .") {
             Some((name, wanted)) => {
                 let records = self.items().filter(|item| item.starts_with(&[name, "=", "record", "{"]));
-                records.filter_map(|item| field(&item, wanted)).collect()
+                records.filter_map(|item| lex::number(field(&item, wanted)?)).collect()
             }
             None => self.numbers().into_iter().filter(|(name, _)| name == of).map(|(_, value)| value).collect(),
         };
@@ -47,24 +47,29 @@ impl Spec {
         }
     }
 
+    /// A number, or that of the definition of this name.
+    fn value(&self, word: &str) -> Option<u64> {
+        lex::number(word).or_else(|| self.number(word))
+    }
+
     /// For each clause `NAME (CONSTRUCTOR ..) = record { .. }`, the constructor and the number of a field.
     pub fn clauses(&self, name: &str, wanted: &str) -> Vec<(String, Option<u64>)> {
         let clause = |item: Vec<&str>| {
             let (first, rest) = item.split_first()?;
             let constructor = rest.iter().find(|word| **word != "(").filter(|_| *first == name)?;
-            Some((constructor.to_string(), field(&item, wanted)))
+            Some((constructor.to_string(), field(&item, wanted).and_then(|word| self.value(word))))
         };
         self.items().filter_map(clause).collect()
     }
 }
 
-/// The number of `wanted = NUMBER` in a record, outside the records in it.
-fn field(item: &[&str], wanted: &str) -> Option<u64> {
+/// The word of `wanted = WORD` in a record, outside the records in it.
+fn field<'a>(item: &[&'a str], wanted: &str) -> Option<&'a str> {
     let mut depth = 0;
     let at = item.iter().enumerate().position(|(i, word)| {
         depth += i32::from(*word == "{") - i32::from(*word == "}");
         depth == 1 && item[i..].starts_with(&[wanted, "="])
     })?;
     let ends = matches!(item.get(at + 3), None | Some(&";") | Some(&"}"));
-    lex::number(item.get(at + 2)?).filter(|_| ends)
+    item.get(at + 2).copied().filter(|_| ends)
 }

@@ -303,7 +303,7 @@ fn differs_in(path: &str, old: &str, new: &str, wanted: &[&str]) {
     let (last, differences) = lines.split_last().expect("the tool prints a line");
     assert_eq!((differences, errors.as_str()), (wanted, ""));
     assert!(last.ends_with(&format!(" {} differences", wanted.len())), "{last}");
-    assert_eq!(status, 1);
+    assert_eq!(status, i32::from(!wanted.is_empty()));
 }
 
 /// The same with an edit of the header.
@@ -673,6 +673,15 @@ fn a_kind_has_another_number() {
     differs_in("crates/host/specs/Calls.antt", "kind = 1", "kind = 2", &wanted);
     let wanted = ["REI2_NET: no single number in host/specs/Reply.antt (numbersOf Net)"];
     differs_in("crates/host/specs/Reply.antt", "kind = 2", "kind = two", &wanted);
+}
+
+#[test]
+fn a_kind_by_name_has_its_definitions_number() {
+    let named = |number: &str| format!("abbrev pub TWO : ℕ\nTWO = {number}\n\nabbrev pub numbersOf :");
+    let text = |number: &str| NUMBERS.replace("abbrev pub numbersOf :", &named(number)).replace("kind = 2", "kind = TWO");
+    differs_in("crates/host/specs/Reply.antt", NUMBERS, &text("2"), &[]);
+    let wanted = ["REI2_NET: 3 in host/specs/Reply.antt (numbersOf Net), 2 in the header"];
+    differs_in("crates/host/specs/Reply.antt", NUMBERS, &text("3"), &wanted);
 }
 
 #[test]

@@ -4,6 +4,7 @@ use borrow.Author.Needs.{needs}
 use Rattle.frames.proofs.dynamic.put_dynamic.Statement.{statement}
 use Rattle.frames.proofs.dynamic.put_dynamic.Tie as tie
 use denote.Ref.{now}
+use Rattle.frames.specs.Kind.{frameOf}
 use Rattle.frames.proofs.DynamicLaws.{stores-frame}
 
 put-head-requires : tie.Need-put-head-requires
@@ -97,6 +98,7 @@ same-length c =
     ∙ c .before .before .before .before .before .before .before .before .before .before .before .before .before .before .before .before .before .before .before .before .before .before .before .before .before .before .before .before .before .before .before .before .before .before .before .before .before .before .before .before .before .before .before .before .before .before .before .before .before .before .before .before .before .before .before .before .before .before .before .before .before .before .before .before .before .before .before .put-head .kept .0
 
 returns : tie.Need-returns
+unfolding frameOf
 returns c =
     let a = c .before .before .before .before .before .before .before .before .before .before .before .before .before .before .before .before .before .before .before .before .before .before .before .before .before .before .before .before .before .before .before .before .before .before .before .before .before .before .before .before .before .before .before .before .before .before .before .before .before .before .before .before .before .before .before .before .before .before .before .before .before .before .before .before .before .before .before .before .before .before .args in
     rw (
@@ -115,7 +117,7 @@ returns c =
       c .before .before .before .before .before .before .before .before .before .before .before .before .before .before .before .before .before .before .before .before .before .before .before .before .before .before .before .before .before .before .before .before .before .before .before .before .before .before .before .before .before .before .before .before .before .before .before .before .before .before .before .before .before .before .before .before .before .before .before .put-byte2 .ensures,
       c .before .before .before .before .before .before .before .before .before .before .before .before .before .before .before .before .before .before .before .before .before .before .before .before .before .before .before .before .before .before .before .before .before .before .before .before .before .before .before .before .before .before .before .before .before .before .before .before .before .before .before .before .before .before .before .before .before .before .before .before .before .before .before .put-byte .ensures,
       c .before .before .before .before .before .before .before .before .before .before .before .before .before .before .before .before .before .before .before .before .before .before .before .before .before .before .before .before .before .before .before .before .before .before .before .before .before .before .before .before .before .before .before .before .before .before .before .before .before .before .before .before .before .before .before .before .before .before .before .before .before .before .before .before .before .before .before .put-head .ensures,
-    ) (stores-frame (a .r) (now (a .out)))
+    ) (stores-frame _ _ _ _ _ _ _ _ _ _ _ _ _ (now (a .out)))
 
 pub put-dynamic-spec : {M : Type 1} → statement M
 put-dynamic-spec =

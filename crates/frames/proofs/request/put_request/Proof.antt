@@ -4,6 +4,7 @@ use borrow.Author.Needs.{needs}
 use Rattle.frames.proofs.request.put_request.Statement.{statement}
 use Rattle.frames.proofs.request.put_request.Tie as tie
 use denote.Ref.{now}
+use Rattle.frames.specs.Kind.{frameOf}
 use Rattle.frames.proofs.RequestLaws.{stores-frame}
 
 put-head-requires : tie.Need-put-head-requires
@@ -65,6 +66,7 @@ same-length c =
     ∙ c .before .before .before .before .before .before .before .before .before .before .before .before .before .before .before .before .before .before .before .before .before .before .before .before .before .before .before .before .before .before .before .before .before .before .before .before .before .before .before .before .before .before .before .put-head .kept .0
 
 returns : tie.Need-returns
+unfolding frameOf
 returns c =
     let a = c .before .before .before .before .before .before .before .before .before .before .before .before .before .before .before .before .before .before .before .before .before .before .before .before .before .before .before .before .before .before .before .before .before .before .before .before .before .before .before .before .before .before .before .before .before .before .args in
     rw (
@@ -78,7 +80,7 @@ returns c =
       c .before .before .before .before .before .before .before .before .before .before .before .before .before .before .before .before .before .before .before .before .before .before .before .before .before .before .before .before .before .before .before .before .before .before .put-number .ensures,
       c .before .before .before .before .before .before .before .before .before .before .before .before .before .before .before .before .before .before .before .before .before .before .before .before .before .before .before .before .before .before .before .before .before .before .before .before .before .before .before .put-byte .ensures,
       c .before .before .before .before .before .before .before .before .before .before .before .before .before .before .before .before .before .before .before .before .before .before .before .before .before .before .before .before .before .before .before .before .before .before .before .before .before .before .before .before .before .before .before .put-head .ensures,
-    ) (stores-frame (a .r) (now (a .out)))
+    ) (stores-frame _ _ _ _ _ _ _ _ (now (a .out)))
 
 pub put-request-spec : {M : Type 1} → statement M
 put-request-spec =
