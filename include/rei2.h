@@ -17,8 +17,7 @@
 
    ANSWERS. A number of 0 (REI2_DONE) says that the call was done; any other is a refusal. Then the state that comes
    back is the one that went in, no lent byte has changed, the offset is 0 with all but REI2_FIELD and REI2_RECORD, and
-   the rest of the answer is 0, except that the record beside a refused reply has the timing REI2_RAW. Structs have
-   padding, so compare them field by field; a seat has none. */
+   the rest of the answer is 0. Structs have padding, so compare them field by field; a seat has none. */
 #ifndef REI2_H
 #define REI2_H
 
@@ -64,9 +63,9 @@ enum rei2_refusal {
 
 /* What time and date of a reply are. */
 enum rei2_timing {
-    REI2_CLOCK = 0, /* a time of day and a day */
-    REI2_NET = 1,   /* one signed number of ticks */
-    REI2_RAW = 2    /* bytes that are not interpreted */
+    REI2_RAW = 0,   /* bytes that are not interpreted */
+    REI2_CLOCK = 1, /* a time of day and a day */
+    REI2_NET = 2    /* one signed number of ticks */
 };
 
 /* What was found in a capture. */
@@ -447,12 +446,13 @@ rei2_reply_answer rei2_read_reply(const uint8_t *frame, size_t frame_len);
    0 K S s a, REI2_NET with one of 1 2 3, and REI2_RAW with any other letter. Parts of the record that its timing does
    not use must be 0. Behind the parts that stand before the time in the frame, RECORD has these offsets, the first that
    applies:
-   30 timing.kind is above 2 or is not the timing asked for; a number of timing is not 0 that this kind does not use;
-      ticks is above 863999999; a byte of raw_time is not one of 20h to 7Eh
+   30 timing.kind is above 2 or is not the timing asked for; ticks is above 863999999; a byte of raw_time is not one of
+      20h to 7Eh
    40 day, month and year are no day of 2000 to 2099; net has more days than seven digits show; a byte of raw_date is
       not one of 20h to 7Eh
    48 a byte of spare is not one of 20h to 7Eh
-   50 a byte of raw_time or raw_date is not 0 with REI2_CLOCK or REI2_NET */
+   50 a part that the timing does not use is not 0: ticks, day, month or year with REI2_NET or REI2_RAW, net with
+      REI2_CLOCK or REI2_RAW, a byte of raw_time or raw_date with REI2_CLOCK or REI2_NET */
 rei2_written_answer rei2_write_reply(rei2_reply_record record, uint8_t *out, size_t out_len);
 
 rei2_dynamic_answer rei2_read_dynamic(const uint8_t *frame, size_t frame_len);

@@ -6,9 +6,9 @@ pub const SEATS: usize = 16;
 pub const CELLS: usize = 256;
 pub const CELL_SIZE: usize = 51;
 
-pub const CLOCK: u32 = 0;
-pub const NET: u32 = 1;
-pub const RAW: u32 = 2;
+pub const RAW: u32 = 0;
+pub const CLOCK: u32 = 1;
+pub const NET: u32 = 2;
 
 /// Declares structs as C lays them out.
 macro_rules! structs {

@@ -45,7 +45,7 @@ pub fn reply(random: &mut Random, kind: u32) -> ReplyRecord {
         run: random.between(1, 250),
         physical: random.between(0, 999),
         channel: random.between(0, 240),
-        information: random.one_of([CLOCK_LETTERS, NET_LETTERS, RAW_LETTERS][kind as usize]),
+        information: random.one_of([RAW_LETTERS, CLOCK_LETTERS, NET_LETTERS][kind as usize]),
         timing: TimingNumbers { kind, ..TimingNumbers::default() },
         spare: random.raw(),
         ..ReplyRecord::default()
@@ -133,7 +133,7 @@ pub fn request_with(random: &mut Random, (requester, number): Key) -> Vec<u8> {
 
 /// A reply of any timing with this key and status R.
 pub fn reply_with(random: &mut Random, (requester, number): Key) -> Vec<u8> {
-    let kind = random.between(CLOCK, RAW);
+    let kind = random.between(RAW, NET);
     reply_frame(&ReplyRecord { requester, number, ..reply(random, kind) })
 }
 

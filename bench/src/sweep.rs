@@ -100,7 +100,7 @@ fn spoiled_records(random: &mut Random) -> usize {
     const TIMES: usize = 20_000;
     for _ in 0..TIMES {
         let (value, byte) = (random.one_of(&LIMITS), random.between(0, 255) as u8);
-        let kind = random.between(CLOCK, RAW);
+        let kind = random.between(RAW, NET);
         let (mut a, mut b, mut c) = (request(random), reply(random, kind), dynamic(random));
         spoil_request(&mut a, random.below(9), value, byte);
         spoil_reply(&mut b, random.below(24), value, byte);

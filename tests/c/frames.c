@@ -19,7 +19,7 @@ static int zero_request(rei2_static_request r) {
 }
 
 static int zero_timing(rei2_timing_numbers t) {
-    return t.kind == REI2_RAW && t.ticks == 0 && t.day == 0 && t.month == 0 && t.year == 0 && t.net == 0;
+    return t.kind == 0 && t.ticks == 0 && t.day == 0 && t.month == 0 && t.year == 0 && t.net == 0;
 }
 
 static int zero_reply(rei2_reply_record r) {
@@ -284,16 +284,15 @@ static void reply_refused(rei2_reply_record r, uint32_t offset) {
     wrote_not(rei2_write_reply(r, out, OUT), REI2_RECORD, offset);
 }
 
-/* The parts before the time, from the last to the first. */
-static void reply_parts(void) {
-    rei2_reply_record r = reply_in(clock_frame);
+/* The parts before the time wrong, from the last to the first, whatever is wrong behind them. */
+static void spoil_head(rei2_reply_record r) {
     r.information = 'L';
     reply_refused(r, 29);
     r.channel = 251;
     reply_refused(r, 26);
     r.physical = 1000;
     reply_refused(r, 23);
-    r.run = 0;
+    r.run = r.status == 'Z' ? 251 : 0;
     reply_refused(r, 20);
     r.group = 200;
     reply_refused(r, 17);
@@ -309,6 +308,10 @@ static void reply_parts(void) {
     reply_refused(r, 4);
     r.program = 31;
     reply_refused(r, 3);
+}
+
+static void reply_parts(void) {
+    spoil_head(reply_in(clock_frame));
 }
 
 /* Time and date that are none, and left-over raw bytes, from the last to the first. */
@@ -354,47 +357,97 @@ static void reply_raw(void) {
     reply_refused(r, 30);
 }
 
-/* A timing of another kind, a code above 2, and numbers that the kind does not use. */
+/* A timing of another kind, and a code above 2, whatever numbers stand beside it. */
 static void reply_timing(void) {
-    const uint8_t *const frames[] = {clock_frame, net_frame, raw_frame};
-    for (uint32_t i = 0; i < 3; i++) {
-        rei2_reply_record good = reply_in(frames[i]), r = good;
+    const struct {
+        const uint8_t *frame;
+        uint32_t kind;
+    } good[] = {{raw_frame, REI2_RAW}, {clock_frame, REI2_CLOCK}, {net_frame, REI2_NET}};
+    for (size_t i = 0; i < 3; i++) {
+        rei2_reply_record r = reply_in(good[i].frame);
         for (uint32_t kind = 0; kind < 5; kind++) {
-            r.timing = (rei2_timing_numbers){kind, 0, 0, 0, 0, 0};
-            if (kind != i) {
+            r.timing.kind = kind;
+            if (kind != good[i].kind) {
                 reply_refused(r, 30);
             }
         }
-        r = good;
         r.timing.kind = UINT32_MAX;
+        reply_refused(r, 30);
+        r.timing = (rei2_timing_numbers){3, 0, 0, 0, 0, 0};
+        reply_refused(r, 30);
+        r.timing = (rei2_timing_numbers){UINT32_MAX, 1, 1, 1, 2024, 1};
         reply_refused(r, 30);
         r.bib = 60000;
         reply_refused(r, 12);
     }
 }
 
-static void reply_left_over(void) {
-    rei2_reply_record r = reply_in(clock_frame);
-    r.timing.net = 1;
-    reply_refused(r, 30);
-    for (int i = 0; i < 2; i++) {
-        const uint8_t *frame = i == 0 ? net_frame : raw_frame;
-        r = reply_in(frame);
+/* A record with one number beside its timing, put where the timing does not use it. */
+enum number { TICKS, DAY, MONTH, YEAR, NET, NUMBERS };
+
+static rei2_reply_record with_number(rei2_reply_record r, int number) {
+    switch (number) {
+    case TICKS:
         r.timing.ticks = 1;
-        reply_refused(r, 30);
-        r = reply_in(frame);
-        r.timing.day = 1;
-        reply_refused(r, 30);
-        r = reply_in(frame);
-        r.timing.month = 1;
-        reply_refused(r, 30);
-        r = reply_in(frame);
+        break;
+    case DAY:
+        r.timing.day = UINT32_MAX;
+        break;
+    case MONTH:
+        r.timing.month = 2;
+        break;
+    case YEAR:
         r.timing.year = 2024;
-        reply_refused(r, 30);
+        break;
+    default:
+        r.timing.net = -1;
     }
-    r = reply_in(raw_frame);
-    r.timing.net = -1;
+    return r;
+}
+
+/* The other parts wrong one after the other, from the last to the first: each is told, and not the number that is left over. */
+static void parts_first(rei2_reply_record r) {
+    r.spare[0] = 0;
+    reply_refused(r, 48);
+    if (r.timing.kind == REI2_CLOCK) {
+        r.timing.day = 32;
+    } else if (r.timing.kind == REI2_NET) {
+        r.timing.net = INT64_MIN;
+    } else {
+        r.raw_date[7] = 0;
+    }
+    reply_refused(r, 40);
+    if (r.timing.kind == REI2_CLOCK) {
+        r.timing.ticks = 864000000;
+    } else if (r.timing.kind == REI2_NET) {
+        r.timing.kind = REI2_CLOCK;
+    } else {
+        r.raw_time[0] = 0;
+    }
     reply_refused(r, 30);
+    spoil_head(r);
+}
+
+/* A number that the timing does not use: wrong at the CR, after every other part, and with any output. */
+static void reply_left_over(void) {
+    const uint8_t *const frames[] = {clock_frame, net_frame, raw_frame};
+    for (size_t i = 0; i < 3; i++) {
+        rei2_reply_record good = reply_in(frames[i]);
+        for (int number = 0; number < NUMBERS; number++) {
+            int used = good.timing.kind == REI2_CLOCK ? number != NET : good.timing.kind == REI2_NET && number == NET;
+            if (!used) {
+                rei2_reply_record r = with_number(good, number);
+                reply_refused(r, 50);
+                wrote_not(rei2_write_reply(r, NULL, 0), REI2_RECORD, 50);
+                parts_first(r);
+                r.raw_time[3] = r.timing.kind == REI2_RAW ? ' ' : 1;
+                reply_refused(r, 50);
+            }
+        }
+    }
+    rei2_reply_record r = reply_in(clock_frame);
+    r.timing.net = INT64_MIN;
+    reply_refused(r, 50);
 }
 
 /* ---- the dynamic request */

@@ -145,10 +145,7 @@ pub unsafe extern "C" fn write_request(record: StaticRequest, out: *mut u8, len:
 pub unsafe extern "C" fn read_reply(place: *mut ReplyAnswer, frame: *const u8, len: usize) -> *mut ReplyAnswer {
     let answer = match reply::read(from_raw_parts(frame, len)) {
         Ok(reply) => ReplyAnswer { number: 0, offset: 0, reply },
-        Err(Refusal { number, offset }) => {
-            let timing = TimingNumbers { kind: RAW, ..TimingNumbers::default() };
-            ReplyAnswer { number, offset, reply: ReplyRecord { timing, ..ReplyRecord::default() } }
-        }
+        Err(Refusal { number, offset }) => ReplyAnswer { number, offset, reply: ReplyRecord::default() },
     };
     store(place, answer)
 }

@@ -138,24 +138,23 @@ fn head_must_be_good(record: &ReplyRecord) -> Result<(), Refusal> {
 fn timing_must_be_good(record: &ReplyRecord) -> Result<(), Refusal> {
     let timing = &record.timing;
     part(timing.kind == kind_of(record.status, record.information), 30)?;
-    let dateless = timing.ticks == 0 && timing.day == 0 && timing.month == 0 && timing.year == 0;
     match timing.kind {
         CLOCK => {
-            part(timing.net == 0 && is_clock(timing.ticks), 30)?;
+            part(is_clock(timing.ticks), 30)?;
             part(is_day(timing.day, timing.month, timing.year), 40)?;
         }
-        NET => {
-            part(dateless, 30)?;
-            part(net_parts(timing.net).is_some(), 40)?;
-        }
+        NET => part(net_parts(timing.net).is_some(), 40)?,
         _ => {
-            part(timing.net == 0 && dateless && all_raw(&record.raw_time), 30)?;
+            part(all_raw(&record.raw_time), 30)?;
             part(all_raw(&record.raw_date), 40)?;
         }
     }
     part(all_raw(&record.spare), 48)?;
-    let unused = record.raw_time == [0; 10] && record.raw_date == [0; 8];
-    part(timing.kind == RAW || unused, 50)
+    let dateless = timing.ticks == 0 && timing.day == 0 && timing.month == 0 && timing.year == 0;
+    let rawless = record.raw_time == [0; 10] && record.raw_date == [0; 8];
+    part(timing.kind == CLOCK || dateless, 50)?;
+    part(timing.kind == NET || timing.net == 0, 50)?;
+    part(timing.kind == RAW || rawless, 50)
 }
 
 /// The timing that a reply has.

@@ -7,3 +7,6 @@ pub mod NumberLaws
 pub mod TimingLaws
 pub mod Tells
 pub mod Unique
+pub mod KeepsLaws
+pub mod ChainLaws
+pub mod Cases

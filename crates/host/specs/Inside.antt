@@ -1,7 +1,10 @@
--- What the calls by value give that the lent calls are made of.
+-- What the calls by value give that the lent calls are made of, and what a record with a number left over is answered.
 use mathlib.Core.List.{List, []}
+use mathlib.Core.Bool.{Bool, cond, _&&_}
 use mathlib.Core.Path.{_≡_}
 use Prim.Native.Nat.{ℕ}
+use lib.Dec.{eqb}
+use Rattle.frames.specs.Refusals.{RECORD, ROOM}
 use Rattle.desk.specs.declared.state.Seat.{Seat}
 use Rattle.desk.specs.declared.state.Desk.{Desk}
 use Rattle.desk.specs.Memory.{memory}
@@ -9,10 +12,12 @@ use Rattle.desk.specs.Calls.{Outcome, resets, opens, replies}
 use Rattle.desk.specs.Capture.{captures}
 use Rattle.host.specs.declared.lent.Out.{Out}
 use Rattle.host.specs.declared.lent.Captured.{Captured}
-use Rattle.host.specs.Lent.{stateIn, deskAnswer, captureAnswer}
+use Rattle.host.specs.declared.request.WrittenAnswer.{WrittenAnswer}
+use Rattle.host.specs.Lent.{answerOf, capturedOf}
+use Rattle.host.specs.Reply.{leftAt}
 
 abbrev pub outOf : Outcome → Out
-outOf o = record { row = o .after .row; answer = deskAnswer (stateIn (o .after)) (o .answer) }
+outOf o = record { row = o .after .row; answer = answerOf o }
 
 module _ (row : List Seat) (desk : Desk) where
   -- no cells and no marks are looked at
@@ -31,4 +36,14 @@ module _ (row : List Seat) (desk : Desk) where
     abbrev pub CoreCapture : Captured → List ℕ → List ℕ → Type 0
     CoreCapture r cells′ marks′ =
         let o = captures (memory desk row cells marks) frame in
-        (r ≡ record { row = o .after .row; answer = captureAnswer (stateIn (o .after)) (o .answer) }) × ((cells′ ≡ o .after .cells) × (marks′ ≡ o .after .marks))
+        (r ≡ record { row = o .after .row; answer = capturedOf o }) × ((cells′ ≡ o .after .cells) × (marks′ ≡ o .after .marks))
+
+-- ---- a reply's record in which a number is left over
+
+-- it is given no room
+abbrev pub roomIn : Bool → ℕ → ℕ
+roomIn left size = cond left 0 size
+
+-- and where that is all that is wrong, the number is told
+abbrev pub orLeft : Bool → WrittenAnswer → WrittenAnswer
+orLeft left a = cond (left && eqb (a .number) ROOM) (record { number = RECORD; offset = leftAt; size = 0 }) a

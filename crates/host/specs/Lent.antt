@@ -9,7 +9,7 @@ use Rattle.desk.specs.declared.state.Desk.{Desk}
 use Rattle.desk.specs.declared.capture.Counts.{Counts}
 use Rattle.desk.specs.Memory.{Memory, memory}
 use Rattle.desk.specs.Calls.{Outcome, opens, replies, resets}
-use Rattle.desk.specs.Capture.{captures}
+use Rattle.desk.specs.Capture.{Captured, captures}
 use Rattle.host.specs.declared.lent.DeskAnswer.{DeskAnswer}
 use Rattle.host.specs.declared.lent.CapturedAnswer.{CapturedAnswer}
 use Rattle.host.specs.Numbers.{numberIn, offsetIn, valueIn}
@@ -22,11 +22,18 @@ stateIn m = record { bits = m .bits; count = m .count }
 abbrev pub deskAnswer : Desk → Told ℕ → DeskAnswer
 deskAnswer d t = record { desk = d; number = numberIn t; offset = offsetIn t; seat = valueIn 0 t }
 
+-- what an outcome says, with the state that it leaves
+abbrev pub answerOf : Outcome → DeskAnswer
+answerOf o = deskAnswer (stateIn (o .after)) (o .answer)
+
 abbrev pub noCounts : Counts
 noCounts = record { opened = 0; collected = 0; dynamic = 0; refused = 0 }
 
 abbrev pub captureAnswer : Desk → Told Counts → CapturedAnswer
 captureAnswer d t = record { desk = d; number = numberIn t; counts = valueIn noCounts t }
+
+abbrev pub capturedOf : Captured → CapturedAnswer
+capturedOf o = captureAnswer (stateIn (o .after)) (o .answer)
 
 -- ---- what is promised: the answer, and everything that is lent, is as after the call by value
 
@@ -37,7 +44,7 @@ pub record Lent {A : Type 0} (says : A) (after : Memory) (r : A) (seats′ : Lis
   pub marks : marks′ ≡ after .marks
 
 abbrev pub LentCall : Outcome → DeskAnswer → List Seat → List ℕ → List ℕ → Type 0
-LentCall o = Lent (deskAnswer (stateIn (o .after)) (o .answer)) (o .after)
+LentCall o = Lent (answerOf o) (o .after)
 
 module _ (seats : List Seat) (desk : Desk) where
   -- cells and marks are not lent to a reset: whatever they are, they stay
@@ -55,4 +62,4 @@ module _ (seats : List Seat) (desk : Desk) where
     abbrev pub CaptureLent : List ℕ → CapturedAnswer → List Seat → List ℕ → List ℕ → Type 0
     CaptureLent capture =
         let o = captures (memory desk seats cells marks) capture in
-        Lent (captureAnswer (stateIn (o .after)) (o .answer)) (o .after)
+        Lent (capturedOf o) (o .after)

@@ -5,3 +5,7 @@ pub mod Reply
 pub mod Calls
 pub mod Tells
 pub mod Inside
+pub mod Unique
+pub mod Keeps
+pub mod Chain
+pub mod Cases

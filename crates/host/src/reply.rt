@@ -11,10 +11,17 @@ use frames::timing::Timing;
 ghost use mathlib.Core.Path.{_≡_};
 ghost use Rattle.frames.specs.Kind.{read};
 ghost use Rattle.frames.specs.Reply.{reply, zeroReply};
-ghost use Rattle.host.specs.Frames.{WroteLent};
-ghost use Rattle.host.specs.Reply.{isNothing, noDate, numbersOf, timingOf, shown, recordOf, replyAnswer};
+ghost use Rattle.host.specs.Reply.{numbersOf, timingOf, isNothing, noDate, leftOver, shown, recordOf, replyAnswer, WroteReplyLent};
+ghost use Rattle.host.specs.Inside.{roomIn, orLeft};
 
-// A timing in numbers: 0 of the clock with ticks, day, month and year; 1 net with its value in ticks; 2 raw. What a kind does not use is 0.
+// The codes of a timing.
+const RAW: u32 = 0;
+
+const CLOCK: u32 = 1;
+
+const NET: u32 = 2;
+
+// A timing in numbers: its code; ticks, day, month and year of a clock; the value of a net one in ticks. What a kind does not use is 0.
 #[repr(C)]
 pub struct TimingNumbers {
     pub kind: u32,
@@ -44,7 +51,7 @@ pub struct ReplyRecord {
     pub spare: [u8; 2],
 }
 
-// Where the frame was refused the record is all zero, its timing raw.
+// The record is all zero where the frame was refused.
 #[repr(C)]
 pub struct ReplyAnswer {
     pub number: u32,
@@ -78,10 +85,36 @@ pub extern "C" fn rei2_read_reply(frame: &[u8]) -> ReplyAnswer
 
 #[no_mangle]
 pub extern "C" fn rei2_write_reply(record: ReplyRecord, out: &mut [u8]) -> WrittenAnswer
-    ensures { λ r. ⌜ WroteLent reply (recordOf «record») (now (out .entry)) r (now (out .exit)) ⌝ }
+    ensures { λ r. ⌜ WroteReplyLent «record» (now (out .entry)) r (now (out .exit)) ⌝ }
 {
-    let answer = write_reply(record_of(record), out);
-    written(answer, REPLY_SIZE)
+    let timing = record.timing;
+    let left = left_over(timing);
+    let room = room_in(left, out.len());
+    let answer = write_reply(record_of(record), &mut out[0..room]);
+    or_left(left, written(answer, REPLY_SIZE))
+}
+
+// With a number left over nothing is to be written: the record is given no room, and ROOM then says that nothing else is wrong in it.
+fn room_in(left: bool, size: usize) -> usize
+    ensures { λ r. ⌜ r ≡ roomIn left size ⌝ }
+{
+    if left {
+        return 0;
+    }
+    size
+}
+
+fn or_left(left: bool, answer: WrittenAnswer) -> WrittenAnswer
+    ensures { λ r. ⌜ r ≡ orLeft left answer ⌝ }
+{
+    if left & (answer.number == 7) {
+        return WrittenAnswer {
+            number: 6,
+            offset: 50,
+            size: 0,
+        };
+    }
+    answer
 }
 
 // What stands beside a refusal.
@@ -101,7 +134,7 @@ fn no_reply() -> ReplyRecord
         channel: 0,
         information: 0,
         timing: TimingNumbers {
-            kind: 2,
+            kind: RAW,
             ticks: 0,
             day: 0,
             month: 0,
@@ -126,7 +159,7 @@ fn numbers_of(timing: Timing) -> TimingNumbers
             month,
             year,
         } => TimingNumbers {
-            kind: 0,
+            kind: CLOCK,
             ticks,
             day,
             month,
@@ -134,7 +167,7 @@ fn numbers_of(timing: Timing) -> TimingNumbers
             net: 0,
         },
         Timing::Net(net) => TimingNumbers {
-            kind: 1,
+            kind: NET,
             ticks: 0,
             day: 0,
             month: 0,
@@ -142,7 +175,7 @@ fn numbers_of(timing: Timing) -> TimingNumbers
             net,
         },
         Timing::Raw => TimingNumbers {
-            kind: 2,
+            kind: RAW,
             ticks: 0,
             day: 0,
             month: 0,
@@ -152,13 +185,14 @@ fn numbers_of(timing: Timing) -> TimingNumbers
     }
 }
 
-// Numbers that are no timing become a time that is none, which every kind turns away at the time's offset.
+// A code that is none becomes a time that is none, which every kind turns away at the time's offset.
 fn timing_of(n: TimingNumbers) -> Timing
     ensures { λ r. ⌜ r ≡ timingOf n ⌝ }
 {
-    let nothing = is_nothing(n.net);
-    let dateless = no_date(n);
-    if (n.kind == 0) & nothing {
+    if n.kind == RAW {
+        return Timing::Raw;
+    }
+    if n.kind == CLOCK {
         return Timing::Clock {
             ticks: n.ticks,
             day: n.day,
@@ -166,11 +200,8 @@ fn timing_of(n: TimingNumbers) -> Timing
             year: n.year,
         };
     }
-    if (n.kind == 1) & dateless {
+    if n.kind == NET {
         return Timing::Net(n.net);
-    }
-    if (n.kind == 2) & nothing & dateless {
-        return Timing::Raw;
     }
     Timing::Clock {
         ticks: u32::MAX,
@@ -178,6 +209,21 @@ fn timing_of(n: TimingNumbers) -> Timing
         month: 0,
         year: 0,
     }
+}
+
+// A number that the code's timing does not use is not 0.
+fn left_over(n: TimingNumbers) -> bool
+    ensures { λ r. ⌜ r ≡ leftOver n ⌝ }
+{
+    let nothing = is_nothing(n.net);
+    let dateless = no_date(n);
+    if n.kind == CLOCK {
+        return !nothing;
+    }
+    if n.kind == NET {
+        return !dateless;
+    }
+    !(nothing & dateless)
 }
 
 fn is_nothing(v: i64) -> bool

@@ -2,6 +2,7 @@
 use mir.Syntax.{w64}
 use mir.Val.{toZ, ofZ}
 use mathlib.Core.Path.{_≡_, refl}
+use Rattle.host.specs.Reply.{NET}
 use borrow.Author.Needs.{needs}
 use Rattle.host.proofs.reply.numbers_of.Statement.{statement}
 use Rattle.host.proofs.reply.numbers_of.Tie as tie
@@ -19,7 +20,7 @@ returns : tie.Need-returns
 returns c = rw (c .before .timing .given .1) refl
 
 returns-2 : tie.Need-returns-2
-returns-2 c = let v = c .before .timing2 .given .0 .0 in let r : toZ w64 (ofZ w64 v) ≡ v = search needs in rw (c .before .timing2 .given .1) (λ i. record { kind = 1; ticks = 0; day = 0; month = 0; year = 0; net = r i })
+returns-2 c = let v = c .before .timing2 .given .0 .0 in let r : toZ w64 (ofZ w64 v) ≡ v = search needs in rw (c .before .timing2 .given .1) (λ i. record { kind = NET; ticks = 0; day = 0; month = 0; year = 0; net = r i })
 
 returns-3 : tie.Need-returns-3
 returns-3 c = rw (c .enum-told .given .1) refl
