@@ -19,7 +19,7 @@ use Rattle.desk.specs.Memory.{Memory, heldBy}
 use Rattle.desk.specs.Desk.{isDesk}
 use Rattle.desk.specs.Calls.{opens, replies, emptied}
 use Rattle.desk.specs.Mix.{Event, toOpen, toReply, run, openings}
-use Rattle.desk.specs.Capture.{fateBy, dynamicFate, meets, meetsPiece, fates, afterAll, isDynamic, howMany, countsOf, captures}
+use Rattle.desk.specs.Capture.{fateBy, dynamicFate, openLead, replyLead, meets, meetsPiece, fates, afterAll, isDynamic, howMany, countsOf, captures}
 use Rattle.desk.specs.CaptureDemands.{events, CaptureIsRun, CaptureSorts, isGiven, dynamicIn, CountsAreRight}
 use Rattle.desk.proofs.MixLaws.{stays-desk, sorts-opened-requests}
 use Rattle.desk.proofs.CaptureLaws.{counts-add-up}
@@ -82,10 +82,10 @@ other-lead f lead e n h = n (sym (eqb-true (getD f 0 0) lead e) ∙ h)
 meets-dynamic : (m : Memory) (f : List ℕ) → isDynamic (meets m f .fate) ≡ isGiven (read dynamic f)
 unfolding meets
 meets-dynamic m f =
-    by-test (eqb (getD f 0 0) 17)
-    (λ e. rw e (no-opening (opens m f .answer) ∙ sym (not-dynamic f (other-lead f 17 e (λ h. omega (arith, h))))))
-    (λ e. by-test (eqb (getD f 0 0) 18)
-    (λ g. rw (e, g) (no-reply (replies m f .answer) ∙ sym (not-dynamic f (other-lead f 18 g (λ h. omega (arith, h))))))
+    by-test (eqb (getD f 0 0) openLead)
+    (λ e. rw e (no-opening (opens m f .answer) ∙ sym (not-dynamic f (other-lead f openLead e (λ h. omega (arith, h))))))
+    (λ e. by-test (eqb (getD f 0 0) replyLead)
+    (λ g. rw (e, g) (no-reply (replies m f .answer) ∙ sym (not-dynamic f (other-lead f replyLead g (λ h. omega (arith, h))))))
     (λ g. rw (e, g) (given-fate (read dynamic f))))
 
 all-dynamic : (m : Memory) (ps : List Piece) → howMany isDynamic (fates m ps) ≡ dynamicIn ps

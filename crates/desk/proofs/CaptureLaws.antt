@@ -30,7 +30,7 @@ use Rattle.desk.specs.Limits.{seatCount}
 use Rattle.desk.specs.Memory.{Memory, memory}
 use Rattle.desk.specs.Desk.{isDesk}
 use Rattle.desk.specs.Calls.{openRefused, replyRefused, opens, replies, Did}
-use Rattle.desk.specs.Capture.{fateBy, dynamicFate, meets, meetsPiece, fates, afterAll, isOpened, isCollected, isDynamic, isRefused, howMany, countsOf, TookCapture, CountsAddUp}
+use Rattle.desk.specs.Capture.{fateBy, dynamicFate, Step, openLead, replyLead, openStep, replyStep, otherStep, meets, meetsPiece, fates, afterAll, isOpened, isCollected, isDynamic, isRefused, howMany, countsOf, TookCapture, CountsAddUp}
 use Rattle.desk.specs.Inside.{Meets, oneMore}
 use Rattle.digits.proofs.Tests.{by-test}
 use Rattle.desk.proofs.MixLaws.{stays-desk}
@@ -65,27 +65,31 @@ module _ (m : Memory) (f : List ℕ) (r : Met) (cells marks : List ℕ) where
   abbrev left : Memory
   left = memory (r .desk) (set (m .row) (r .at) (r .seat)) cells marks
 
-  pub meets-request : getD f 0 0 ≡ 17 → (told : Told ℕ) → r .fate ≡ fateBy Opened told → r .at < seatCount → Did told left (opens m f) → Meets (m .row) (meets m f) r cells marks
+  pub meets-request : getD f 0 0 ≡ openLead → (told : Told ℕ) → r .fate ≡ fateBy Opened told → r .at < seatCount → Did told left (opens m f) → Meets (m .row) (meets m f) r cells marks
   unfolding meets
   meets-request l told e b d =
-      rw (eq-eqb (getD f 0 0) 17 l) (record { at = b; fate = e ∙ ap (fateBy Opened) (d .answer); after = d .memory })
+      rw (eq-eqb (getD f 0 0) openLead l) (record { at = b; fate = e ∙ ap (fateBy Opened) (d .answer); after = d .memory })
 
-  pub meets-reply : (getD f 0 0 ≡ 17 → ⊥) → getD f 0 0 ≡ 18 → (told : Told ℕ) → r .fate ≡ fateBy Collected told → r .at < seatCount → Did told left (replies m f) → Meets (m .row) (meets m f) r cells marks
+  pub meets-reply : (getD f 0 0 ≡ openLead → ⊥) → getD f 0 0 ≡ replyLead → (told : Told ℕ) → r .fate ≡ fateBy Collected told → r .at < seatCount → Did told left (replies m f) → Meets (m .row) (meets m f) r cells marks
   unfolding meets
   meets-reply n l told e b d =
-      rw (ne-eqb (getD f 0 0) 17 n, eq-eqb (getD f 0 0) 18 l) (record { at = b; fate = e ∙ ap (fateBy Collected) (d .answer); after = d .memory })
+      rw (ne-eqb (getD f 0 0) openLead n, eq-eqb (getD f 0 0) replyLead l) (record { at = b; fate = e ∙ ap (fateBy Collected) (d .answer); after = d .memory })
 
-  pub meets-other : (getD f 0 0 ≡ 17 → ⊥) → (getD f 0 0 ≡ 18 → ⊥) → r .fate ≡ dynamicFate (read dynamic f) → r .at < seatCount → left ≡ m → Meets (m .row) (meets m f) r cells marks
+  pub meets-other : (getD f 0 0 ≡ openLead → ⊥) → (getD f 0 0 ≡ replyLead → ⊥) → r .fate ≡ dynamicFate (read dynamic f) → r .at < seatCount → left ≡ m → Meets (m .row) (meets m f) r cells marks
   unfolding meets
-  meets-other n k e b d = rw (ne-eqb (getD f 0 0) 17 n, ne-eqb (getD f 0 0) 18 k) (record { at = b; fate = e; after = d })
+  meets-other n k e b d = rw (ne-eqb (getD f 0 0) openLead n, ne-eqb (getD f 0 0) replyLead k) (record { at = b; fate = e; after = d })
+
+-- what holds of each of the three steps holds of the one that is met
+pub by-lead : (P : Step → Type 0) (m : Memory) (f : List ℕ) → P (openStep m f) → P (replyStep m f) → P (otherStep m f) → P (meets m f)
+unfolding meets
+by-lead P m f a b c =
+    by-test (eqb (getD f 0 0) openLead)
+    (λ e. rw e a)
+    (λ e. by-test (eqb (getD f 0 0) replyLead) (λ g. rw (e, g) b) (λ g. rw (e, g) c))
 
 -- a desk stays a desk
 pub meets-desk : (m : Memory) (f : List ℕ) → isDesk m ≡ true → isDesk (meets m f .after) ≡ true
-unfolding meets
-meets-desk m f d =
-    by-test (eqb (getD f 0 0) 17)
-    (λ e. rw e (stays-desk .opening m f d))
-    (λ e. by-test (eqb (getD f 0 0) 18) (λ g. rw (e, g) (stays-desk .reply m f d)) (λ g. rw (e, g) d))
+meets-desk m f d = by-lead (λ (x : Step). isDesk (x .after) ≡ true) m f (stays-desk .opening m f d) (stays-desk .reply m f d) d
 
 -- ---- the loop
 

@@ -4,8 +4,6 @@ use mathlib.Core.List.{List, [], _∷_}
 use mathlib.Core.Bool.{Bool, true, false, cond}
 use mathlib.Core.Path.{_≡_, refl, _∙_}
 use native.Mathlib.Omega.{arith}
-use lib.ListN.{getD}
-use lib.Dec.{eqb}
 use Rattle.digits.specs.Told.{Told, gives, refuses}
 use Rattle.frames.specs.Kind.{read}
 use Rattle.frames.specs.Dynamic.{dynamic}
@@ -18,11 +16,11 @@ use Rattle.desk.specs.declared.capture.Fate.the-variants.{Opened, Collec
 use Rattle.desk.specs.Seats.{usedBit}
 use Rattle.desk.specs.Memory.{Memory}
 use Rattle.desk.specs.Calls.{openTried, openOutcome, opens, opened, replyTried, replyOutcome, replies, seatsInUse}
-use Rattle.desk.specs.Capture.{fateBy, dynamicFate, meets, meetsPiece, fates, afterAll, isOpened, isCollected, howMany}
+use Rattle.desk.specs.Capture.{fateBy, dynamicFate, Step, meets, meetsPiece, fates, afterAll, isOpened, isCollected, howMany}
 use Rattle.desk.proofs.Below.{count-turned}
+use Rattle.desk.proofs.CaptureLaws.{by-lead}
 use Rattle.desk.proofs.StepLaws.{Opens, opens-taken}
 use Rattle.desk.proofs.DeskLaws.{opened-bit, other-bit}
-use Rattle.digits.proofs.Tests.{by-test}
 
 -- ---- what grows by one with each frame of a fate
 
@@ -58,11 +56,10 @@ dynamic-cells m (gives r) = omega arith
 dynamic-cells m (refuses number offset) = omega arith
 
 meets-cells : (m : Memory) (f : List ℕ) → meets m f .after .count ≡ m .count + cond (isCollected (meets m f .fate)) 1 0
-unfolding meets opens replies
+unfolding opens replies
 meets-cells m f =
-    by-test (eqb (getD f 0 0) 17)
-    (λ e. rw e (open-cells m (openTried m f)))
-    (λ e. by-test (eqb (getD f 0 0) 18) (λ g. rw (e, g) (reply-cells m f (replyTried m f))) (λ g. rw (e, g) (dynamic-cells m (read dynamic f))))
+    by-lead (λ (x : Step). x .after .count ≡ m .count + cond (isCollected (x .fate)) 1 0) m f
+    (open-cells m (openTried m f)) (reply-cells m f (replyTried m f)) (dynamic-cells m (read dynamic f))
 
 piece-cells : (m : Memory) (p : Piece) → meetsPiece m p .after .count ≡ m .count + cond (isCollected (meetsPiece m p .fate)) 1 0
 piece-cells m (whole a f) = meets-cells m f
@@ -93,11 +90,10 @@ dynamic-seats m (gives r) = omega arith
 dynamic-seats m (refuses number offset) = omega arith
 
 meets-seats : (m : Memory) (f : List ℕ) → seatsInUse (meets m f .after .bits) ≡ seatsInUse (m .bits) + cond (isOpened (meets m f .fate)) 1 0
-unfolding meets opens replies
+unfolding opens replies
 meets-seats m f =
-    by-test (eqb (getD f 0 0) 17)
-    (λ e. rw e (open-seats m f (openTried m f) refl))
-    (λ e. by-test (eqb (getD f 0 0) 18) (λ g. rw (e, g) (reply-seats m f (replyTried m f))) (λ g. rw (e, g) (dynamic-seats m (read dynamic f))))
+    by-lead (λ (x : Step). seatsInUse (x .after .bits) ≡ seatsInUse (m .bits) + cond (isOpened (x .fate)) 1 0) m f
+    (open-seats m f (openTried m f) refl) (reply-seats m f (replyTried m f)) (dynamic-seats m (read dynamic f))
 
 piece-seats : (m : Memory) (p : Piece) → seatsInUse (meetsPiece m p .after .bits) ≡ seatsInUse (m .bits) + cond (isOpened (meetsPiece m p .fate)) 1 0
 piece-seats m (whole a f) = meets-seats m f

@@ -6,19 +6,17 @@ use mathlib.Core.Path.{_≡_, refl, sym, ap, _∙_}
 use native.Mathlib.Omega.{arith}
 use lib.ListN.{length, getD, take, drop, set, length-append}
 use lib.Seq.{drop-drop, drop-at, length-take-le}
-use lib.Dec.{eqb}
 use Rattle.digits.specs.Told.{Told, gives, refuses}
 use Rattle.finder.specs.Pieces.{Piece, whole, cut}
 use Rattle.desk.specs.declared.reply.Taking.{Taking}
 use Rattle.desk.specs.Memory.{Memory}
 use Rattle.desk.specs.Desk.{isDesk}
 use Rattle.desk.specs.Calls.{opens, withCell, replyTried, replies}
-use Rattle.desk.specs.Capture.{meets, meetsPiece, afterAll}
-use Rattle.digits.proofs.Tests.{by-test}
+use Rattle.desk.specs.Capture.{Step, meets, meetsPiece, afterAll}
 use Rattle.desk.proofs.StepLaws.{took, took-room}
 use Rattle.desk.proofs.MixLaws.{after-taken, after-refused}
 use Rattle.desk.proofs.KeepsLaws.{keeps-memory}
-use Rattle.desk.proofs.CaptureLaws.{meets-desk}
+use Rattle.desk.proofs.CaptureLaws.{by-lead, meets-desk}
 
 -- its length, and all behind 256 cells and 256 marks
 pub record Leaves (m x : Memory) : Type 0 where
@@ -66,11 +64,7 @@ open-leaves m f =
     record { cells = ap length c; marks = ap length k; cells-behind = ap (drop 13056) c; marks-behind = ap (drop 256) k }
 
 meets-leaves : (m : Memory) (f : List ℕ) → Leaves m (meets m f .after)
-unfolding meets
-meets-leaves m f =
-    by-test (eqb (getD f 0 0) 17)
-    (λ e. rw e (open-leaves m f))
-    (λ e. by-test (eqb (getD f 0 0) 18) (λ g. rw (e, g) (leaves-by m f (replyTried m f) refl)) (λ g. rw (e, g) (same m)))
+meets-leaves m f = by-lead (λ (x : Step). Leaves m (x .after)) m f (open-leaves m f) (leaves-by m f (replyTried m f) refl) (same m)
 
 piece-leaves : (m : Memory) (p : Piece) → Leaves m (meetsPiece m p .after)
 piece-leaves m (whole a f) = meets-leaves m f

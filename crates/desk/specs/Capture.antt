@@ -37,12 +37,25 @@ pub record Step : Type 0 where
   pub fate : Fate
   pub after : Memory
 
--- a whole frame goes, by its lead byte, to the opening, to the reply call or to the reader of dynamic requests
+-- the lead bytes of what goes to the opening, and to the reply call
+abbrev pub openLead : ℕ
+openLead = request .lead
+
+abbrev pub replyLead : ℕ
+replyLead = reply .lead
+
+abbrev pub openStep : Memory → List ℕ → Step
+openStep m f = record { fate = fateBy Opened (opens m f .answer); after = opens m f .after }
+
+abbrev pub replyStep : Memory → List ℕ → Step
+replyStep m f = record { fate = fateBy Collected (replies m f .answer); after = replies m f .after }
+
+-- any other frame goes to the reader of dynamic requests
+abbrev pub otherStep : Memory → List ℕ → Step
+otherStep m f = record { fate = dynamicFate (read dynamic f); after = m }
+
 unfoldable pub meets : Memory → List ℕ → Step
-meets m f =
-    cond (eqb (getD f 0 0) (request .lead)) (record { fate = fateBy Opened (opens m f .answer); after = opens m f .after })
-    (cond (eqb (getD f 0 0) (reply .lead)) (record { fate = fateBy Collected (replies m f .answer); after = replies m f .after })
-    (record { fate = dynamicFate (read dynamic f); after = m }))
+meets m f = cond (eqb (getD f 0 0) openLead) (openStep m f) (cond (eqb (getD f 0 0) replyLead) (replyStep m f) (otherStep m f))
 
 -- a cut frame counts as refused
 abbrev pub meetsPiece : Memory → Piece → Step
