@@ -405,7 +405,7 @@ static rei2_reply_record with_number(rei2_reply_record r, int number) {
     return r;
 }
 
-/* The other parts wrong one after the other, from the last to the first: each is told, and not the number that is left over. */
+/* The other parts wrong, from the last to the first: each is told, and not the number that is left over. */
 static void parts_first(rei2_reply_record r) {
     r.spare[0] = 0;
     reply_refused(r, 48);
