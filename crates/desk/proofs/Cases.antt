@@ -14,12 +14,12 @@ use Rattle.desk.specs.Call.{heard, ends, inPlace}
 use Rattle.desk.specs.Seats.{keyed, seatWith, lowestClear}
 use Rattle.desk.specs.Memory.{capacityOf, recordsOf}
 use Rattle.desk.specs.Desk.{isZero, markNames, lastEnds, isDesk}
-use Rattle.desk.specs.Calls.{keyTried, requestTried, openTried, opens, seatTried, callTried, replyTried, replies}
+use Rattle.desk.specs.Calls.{keyTried, requestTried, openTried, opens, seatTried, callTried, replyTried, replies, seatsInUse}
 use Rattle.desk.specs.Mix.{run, repliesTo}
 use Rattle.desk.specs.Cases.{Worked, MixWorked}
 
 pub worked : Worked
-unfolding numberAt numberFrom oneOf between upTo isRaw isRequester isOutput firstWrong values headTold read timingKind timeAndDate timed Q.isInformation Q.isChannel Q.requestFields P.isStatus P.isLetter P.isChannel P.leastRun P.replyFields allBelow countBelow first sameKey isKey heard ends inPlace keyed seatWith lowestClear capacityOf isZero markNames lastEnds isDesk keyTried requestTried openTried opens seatTried callTried replyTried replies run
+unfolding numberAt numberFrom oneOf between upTo isRaw isRequester isOutput firstWrong values headTold read timingKind timeAndDate timed Q.isInformation Q.isChannel Q.requestFields P.isStatus P.isLetter P.isChannel P.leastRun P.replyFields allBelow countBelow first sameKey isKey heard ends inPlace keyed seatWith lowestClear capacityOf isZero markNames lastEnds isDesk keyTried requestTried openTried opens seatTried callTried replyTried replies run seatsInUse
 worked = record {
   no-desk-opens = refl;
   no-desk-replies = refl;
@@ -34,6 +34,12 @@ worked = record {
   ended-by-Z = refl;
   out-of-place = refl;
   full = refl;
+  cells-256 = refl;
+  no-more-cells = refl;
+  a-byte-less = refl;
+  a-mark-less = refl;
+  two-seats = refl;
+  all-seats = refl;
 }
 
 pub mix-worked : MixWorked

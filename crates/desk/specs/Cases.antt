@@ -6,8 +6,8 @@ use mathlib.Core.Path.{_≡_}
 use lib.ListN.{replicate}
 use Rattle.digits.specs.Text.{codes}
 use Rattle.digits.specs.Told.{Told, gives, refuses}
-use Rattle.desk.specs.Memory.{Memory, heldBy}
-use Rattle.desk.specs.Calls.{opens, replies, emptied}
+use Rattle.desk.specs.Memory.{Memory, capacityOf, heldBy}
+use Rattle.desk.specs.Calls.{opens, replies, emptied, seatsInUse}
 use Rattle.desk.specs.Mix.{Event, toReply, happens, run, openings, repliesTo}
 
 -- no seats, and room for this many cells
@@ -54,6 +54,14 @@ pub record Worked : Type 0 where
   pub ended-by-Z : replies (replies asked (replying "Z") .after) (replying "R") .answer ≡ refuses 14 0
   pub out-of-place : replies (replies asked (replying "R") .after) (replying "Z") .answer ≡ refuses 15 0
   pub full : replies (replies (replies asked (replying "R") .after) (replying "R") .after) (replying "R") .answer ≡ refuses 16 0
+  -- how many cells a desk has: 51 bytes and a mark each, 256 at most
+  pub cells-256 : capacityOf 13056 256 ≡ 256
+  pub no-more-cells : capacityOf 26112 512 ≡ 256
+  pub a-byte-less : capacityOf 13055 256 ≡ 255
+  pub a-mark-less : capacityOf 13056 255 ≡ 255
+  -- how many seats are in use: the ones of the number
+  pub two-seats : seatsInUse 32769 ≡ 2
+  pub all-seats : seatsInUse 65535 ≡ 16
 
 -- ---- three requests, and their replies mixed: on a desk with nine cells, as many as there are replies to them
 

@@ -3,7 +3,8 @@ use Prim.Native.Nat.{ℕ, _-_, _/_, _%_, _^_}
 use Prim.Native.Char.{code}
 use Prim.Native.String.{String, [] as done, _∷_ as _then_}
 use mathlib.Core.List.{List, [], _∷_}
-use mathlib.Core.Bool.{Bool, false, cond, _||_}
+use mathlib.Core.Bool.{Bool, true, false, cond, _||_}
+use mathlib.Core.Path.{_≡_}
 use lib.Dec.{eqb, ltb}
 
 -- the bytes of an ASCII text
@@ -19,3 +20,15 @@ oneOf (x ∷ xs) b = eqb b x || oneOf xs b
 -- whether a byte is in a set of bytes below 128, which is two numbers: bit b of the first, and from 64 on bit b - 64 of the second
 unfoldable pub inSet : ℕ → ℕ → ℕ → Bool
 inSet low high b = cond (ltb b 64) (eqb (low / 2 ^ b % 2) 1) (cond (ltb b 128) (eqb (high / 2 ^ (b - 64) % 2) 1) false)
+
+-- worked: the first and the last byte of each number, in the set and not, and the byte past both
+pub record SetsWorked : Type 0 where
+  pub byte-0 : inSet 1 0 0 ≡ true
+  pub not-byte-0 : inSet 2 1 0 ≡ false
+  pub byte-63 : inSet 9223372036854775808 0 63 ≡ true
+  pub not-byte-63 : inSet 9223372036854775807 9223372036854775808 63 ≡ false
+  pub byte-64 : inSet 0 1 64 ≡ true
+  pub not-byte-64 : inSet 1 2 64 ≡ false
+  pub byte-127 : inSet 0 9223372036854775808 127 ≡ true
+  pub not-byte-127 : inSet 9223372036854775808 9223372036854775807 127 ≡ false
+  pub byte-128 : inSet 18446744073709551615 18446744073709551615 128 ≡ false

@@ -14,6 +14,7 @@ use Rattle.frames.specs.Timing.{timingKind, isSign, timeAndDate, timed}
 use Rattle.frames.specs.Reply as P
 use Rattle.frames.specs.Dynamic as D
 use Rattle.frames.specs.Cases.{Worked}
+use Rattle.frames.specs.RuleCases.{RulesWorked}
 use Rattle.frames.specs.RequestCases.{RequestWorked}
 use Rattle.frames.specs.ReplyCases.{ReplyWorked}
 use Rattle.frames.specs.DynamicCases.{DynamicWorked}
@@ -203,4 +204,25 @@ dynamic-worked = record {
   wrong-period = refl;
   no-period = refl;
   wrong-output = refl;
+}
+
+pub rules-worked : RulesWorked
+unfolding oneOf between isRaw isRequester isOutput timingKind isSign Q.isInformation Q.isChannel P.isStatus P.isLetter P.isChannel D.isOrder D.isChannel D.leastPeriod
+rules-worked = record {
+  requesters = refl;
+  outputs = refl;
+  raw-bytes = refl;
+  information = refl;
+  letters = refl;
+  statuses = refl;
+  orders = refl;
+  signs = refl;
+  request-channels = refl;
+  reply-channels = refl;
+  dynamic-channels = refl;
+  clock-letters = refl;
+  net-letters = refl;
+  clock-letters-of-Z = refl;
+  net-letters-of-Z = refl;
+  periods = refl;
 }

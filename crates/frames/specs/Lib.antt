@@ -12,6 +12,7 @@ pub mod Unique
 pub mod Keeps
 pub mod Places
 pub mod Cases
+pub mod RuleCases
 pub mod RequestCases
 pub mod ReplyCases
 pub mod DynamicCases

@@ -101,4 +101,4 @@ text-small = refl
 
 pub list-worked : ListWorked
 unfolding listOf
-list-worked = record { small-list = rw (pieces-small, after-small, counts-small) text-small; too-long = refl }
+list-worked = record { small-list = rw (pieces-small, after-small, counts-small) text-small; not-too-long = refl; too-long = refl }

@@ -2,10 +2,11 @@
 use Prim.Native.Nat.{ℕ}
 use Prim.Native.String.{String}
 use mathlib.Core.List.{List, [], _∷_, _++_}
+use mathlib.Core.Bool.{true}
 use mathlib.Core.Path.{_≡_}
 use lib.ListN.{replicate}
 use Rattle.digits.specs.Text.{codes}
-use Rattle.listing.specs.Listing.{listOf}
+use Rattle.listing.specs.Listing.{short, listOf}
 
 -- a frame of these letters between its lead byte and its CR
 abbrev pub framed : ℕ → String → List ℕ → List ℕ
@@ -30,5 +31,6 @@ pub record ListWorked : Type 0 where
       ++ codes "0\tA\t007\t00015\t003\t014\t015\t006\tP\t2122232425\t26272829\tE\n"
       ++ codes "1\t1\t012\t00009\t004\t001\t002\t003\tP\t1112131415\t16171819\tR\n"
       ++ codes "end\t2\t3\t1\t2\n"
-  -- from 32,769 bytes on the input is too long
+  -- 32,768 bytes are listed, one more is too long
+  pub not-too-long : short [] [] (replicate 32768 0) ≡ true
   pub too-long : listOf [] [] (replicate 32769 0) ≡ codes "input too long\n"

@@ -1,0 +1,56 @@
+-- Which values each rule of letters and channels takes, all of them, lowest first.
+use Prim.Native.Nat.{ℕ, zero, suc}
+use mathlib.Core.List.{List, [], _∷_, _++_}
+use mathlib.Core.Bool.{Bool, true, false, cond}
+use mathlib.Core.Path.{_≡_}
+use lib.ListN.{drop}
+use lib.Dec.{eqb}
+use Rattle.digits.specs.Text.{codes}
+use Rattle.frames.specs.declared.timing.TimingKind.{TimingKind}
+use Rattle.frames.specs.declared.timing.TimingKind.the-variants.{Clock as clockKind, Net as netKind, Raw as rawKind}
+use Rattle.frames.specs.Rules.{isRequester, isOutput, isRaw}
+use Rattle.frames.specs.Request as Q
+use Rattle.frames.specs.Timing.{timingKind, isSign}
+use Rattle.frames.specs.Reply as P
+use Rattle.frames.specs.Dynamic as D
+
+-- the numbers below n that a rule takes
+abbrev pub taken : (ℕ → Bool) → ℕ → List ℕ
+taken rule zero = []
+taken rule (suc n) = taken rule n ++ cond (rule n) (n ∷ []) []
+
+-- all numbers below n
+abbrev pub below : ℕ → List ℕ
+below = taken (λ _. true)
+
+abbrev pub isClock : TimingKind → Bool
+isClock clockKind = true
+isClock netKind = false
+isClock rawKind = false
+
+abbrev pub isNetTime : TimingKind → Bool
+isNetTime clockKind = false
+isNetTime netKind = true
+isNetTime rawKind = false
+
+pub record RulesWorked : Type 0 where
+  pub requesters : taken isRequester 256 ≡ codes "0123456789ABCDEFGHIJKLMNOPQRSTUVWXYZabcdefghijklmnopqrstuvwxyz"
+  pub outputs : taken isOutput 256 ≡ codes "ABST"
+  pub raw-bytes : taken isRaw 256 ≡ drop 32 (below 127)
+  -- 41 letters of a request, 33 of a reply: without * L b c d l q t
+  pub information : taken Q.isInformation 256 ≡ codes "*0123456789AGHIJKLPQRSTWXabcdghijklpqstuw"
+  pub letters : taken P.isLetter 256 ≡ codes "0123456789AGHIJKPQRSTWXaghijkpsuw"
+  pub statuses : taken P.isStatus 256 ≡ codes "ERZ"
+  pub orders : taken D.isOrder 256 ≡ codes "ABTabt"
+  pub signs : taken isSign 256 ≡ codes "+-"
+  -- three digits of a channel
+  pub request-channels : taken Q.isChannel 1000 ≡ below 241 ++ (248 ∷ 249 ∷ 251 ∷ 255 ∷ [])
+  pub reply-channels : taken P.isChannel 1000 ≡ below 241 ++ (245 ∷ 248 ∷ 249 ∷ 250 ∷ 255 ∷ [])
+  pub dynamic-channels : taken D.isChannel 1000 ≡ below 241 ++ (250 ∷ 255 ∷ [])
+  -- the letters of the clock and of net times, with status R; with Z there are none
+  pub clock-letters : taken (λ b. isClock (timingKind 82 b)) 256 ≡ codes "0KSas"
+  pub net-letters : taken (λ b. isNetTime (timingKind 82 b)) 256 ≡ codes "123"
+  pub clock-letters-of-Z : taken (λ b. isClock (timingKind 90 b)) 256 ≡ []
+  pub net-letters-of-Z : taken (λ b. isNetTime (timingKind 90 b)) 256 ≡ []
+  -- the orders that need a period
+  pub periods : taken (λ b. eqb (D.leastPeriod b) 1) 256 ≡ codes "AB"
