@@ -30,7 +30,7 @@ use Rattle.desk.specs.Limits.{seatCount}
 use Rattle.desk.specs.Memory.{Memory, memory}
 use Rattle.desk.specs.Desk.{isDesk}
 use Rattle.desk.specs.Calls.{openRefused, replyRefused, opens, replies, Did}
-use Rattle.desk.specs.Capture.{fateBy, dynamicFate, Step, openLead, replyLead, openStep, replyStep, otherStep, meets, meetsPiece, fates, afterAll, isOpened, isCollected, isDynamic, isRefused, howMany, countsOf, TookCapture, CountsAddUp}
+use Rattle.desk.specs.Capture.{fateBy, dynamicFate, Step, openLead, replyLead, meets, meetsPiece, fates, afterAll, isOpened, isCollected, isDynamic, isRefused, howMany, countsOf, TookCapture, CountsAddUp}
 use Rattle.desk.specs.Inside.{Meets, oneMore}
 use Rattle.digits.proofs.Tests.{by-test}
 use Rattle.desk.proofs.MixLaws.{stays-desk}
@@ -80,7 +80,11 @@ module _ (m : Memory) (f : List ℕ) (r : Met) (cells marks : List ℕ) where
   meets-other n k e b d = rw (ne-eqb (getD f 0 0) openLead n, ne-eqb (getD f 0 0) replyLead k) (record { at = b; fate = e; after = d })
 
 -- what holds of each of the three steps holds of the one that is met
-pub by-lead : (P : Step → Type 0) (m : Memory) (f : List ℕ) → P (openStep m f) → P (replyStep m f) → P (otherStep m f) → P (meets m f)
+pub by-lead : (P : Step → Type 0) (m : Memory) (f : List ℕ)
+    → P (record { fate = fateBy Opened (opens m f .answer); after = opens m f .after })
+    → P (record { fate = fateBy Collected (replies m f .answer); after = replies m f .after })
+    → P (record { fate = dynamicFate (read dynamic f); after = m })
+    → P (meets m f)
 unfolding meets
 by-lead P m f a b c =
     by-test (eqb (getD f 0 0) openLead)

@@ -17,6 +17,7 @@ use Rattle.desk.specs.Desk.{isZero, markNames, lastEnds, isDesk}
 use Rattle.desk.specs.Calls.{keyTried, requestTried, openTried, opens, seatTried, callTried, replyTried, replies, seatsInUse}
 use Rattle.desk.specs.Mix.{run, repliesTo}
 use Rattle.desk.specs.Cases.{Worked, MixWorked}
+use Rattle.desk.specs.DeskCases.{DeskWorked}
 
 pub worked : Worked
 unfolding numberAt numberFrom oneOf between upTo isRaw isRequester isOutput firstWrong values headTold read timingKind timeAndDate timed Q.isInformation Q.isChannel Q.requestFields P.isStatus P.isLetter P.isChannel P.leastRun P.replyFields allBelow countBelow first sameKey isKey heard ends inPlace keyed seatWith lowestClear capacityOf isZero markNames lastEnds isDesk keyTried requestTried openTried opens seatTried callTried replyTried replies run seatsInUse
@@ -45,3 +46,39 @@ worked = record {
 pub mix-worked : MixWorked
 unfolding numberAt numberFrom oneOf between upTo isRaw isRequester isOutput firstWrong values headTold read timingKind timeAndDate timed Q.isInformation Q.isChannel Q.requestFields P.isStatus P.isLetter P.isChannel P.leastRun P.replyFields allBelow countBelow first sameKey isKey heard ends inPlace keyed seatWith lowestClear capacityOf isZero markNames lastEnds isDesk keyTried requestTried openTried opens seatTried callTried replyTried replies run repliesTo recordsOf
 mix-worked = record { answers = refl; marks = refl; count = refl; bits = refl; seats = refl; held-by-1 = refl; held-by-A = refl; held-by-z = refl; bound = refl }
+
+pub desk-worked : DeskWorked
+unfolding numberAt numberFrom oneOf between upTo isRaw isRequester firstWrong values headTold read timingKind timeAndDate timed P.isStatus P.isLetter P.isChannel P.leastRun P.replyFields allBelow countBelow sameKey isKey heard ends keyed capacityOf isZero markNames lastEnds isDesk
+desk-worked = record {
+  a-desk = refl;
+  fifteen = refl;
+  seventeen = refl;
+  bit-16 = refl;
+  key-B = refl;
+  key-of-64 = refl;
+  key-1000 = refl;
+  same-key = refl;
+  same-number = refl;
+  requester-left = refl;
+  number-left = refl;
+  held-left = refl;
+  ended-left = refl;
+  full = refl;
+  no-mark = refl;
+  mark-of-unused = refl;
+  mark-16 = refl;
+  damaged = refl;
+  of-another = refl;
+  of-another-number = refl;
+  held-less = refl;
+  held-more = refl;
+  E-first = refl;
+  E-twice = refl;
+  Z-first = refl;
+  Z-last = refl;
+  Z-alone = refl;
+  goes-on = refl;
+  not-ended = refl;
+  ended-by-2 = refl;
+  ended-early = refl;
+}

@@ -44,18 +44,12 @@ openLead = request .lead
 abbrev pub replyLead : ℕ
 replyLead = reply .lead
 
-abbrev pub openStep : Memory → List ℕ → Step
-openStep m f = record { fate = fateBy Opened (opens m f .answer); after = opens m f .after }
-
-abbrev pub replyStep : Memory → List ℕ → Step
-replyStep m f = record { fate = fateBy Collected (replies m f .answer); after = replies m f .after }
-
 -- any other frame goes to the reader of dynamic requests
-abbrev pub otherStep : Memory → List ℕ → Step
-otherStep m f = record { fate = dynamicFate (read dynamic f); after = m }
-
 unfoldable pub meets : Memory → List ℕ → Step
-meets m f = cond (eqb (getD f 0 0) openLead) (openStep m f) (cond (eqb (getD f 0 0) replyLead) (replyStep m f) (otherStep m f))
+meets m f =
+    cond (eqb (getD f 0 0) openLead) (record { fate = fateBy Opened (opens m f .answer); after = opens m f .after })
+    (cond (eqb (getD f 0 0) replyLead) (record { fate = fateBy Collected (replies m f .answer); after = replies m f .after })
+    (record { fate = dynamicFate (read dynamic f); after = m }))
 
 -- a cut frame counts as refused
 abbrev pub meetsPiece : Memory → Piece → Step

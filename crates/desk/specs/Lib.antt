@@ -14,4 +14,5 @@ pub mod CaptureDemands
 pub mod ReadBack
 pub mod Unique
 pub mod Cases
+pub mod DeskCases
 pub mod Inside

@@ -109,6 +109,7 @@ reply-worked = record {
   net-written = refl;
   clock-written = refl;
   raw-written = refl;
+  zeros = refl;
   net-offsets = refl;
   clock-offsets = refl;
   raw-offsets = refl;
