@@ -40,6 +40,10 @@ sixteen =
     asking "0" "P" ∷ asking "1" "P" ∷ asking "2" "P" ∷ asking "3" "P" ∷ asking "4" "P" ∷ asking "5" "P" ∷ asking "6" "P" ∷ asking "7" "P"
     ∷ asking "8" "P" ∷ asking "9" "P" ∷ asking "A" "P" ∷ asking "Z" "P" ∷ asking "a" "P" ∷ asking "b" "P" ∷ asking "y" "P" ∷ asking "z" "P" ∷ []
 
+-- both cells taken, the request going on or ended
+abbrev pub crowded : String → Memory
+crowded status = replies (replies asked (replying "R") .after) (replying status) .after
+
 pub record Worked : Type 0 where
   pub no-desk-opens : opens (lending 102 2) (asking "1" "P") .answer ≡ refuses 9 0
   pub no-desk-replies : replies (lending 102 2) (replying "R") .answer ≡ refuses 9 0
@@ -53,7 +57,17 @@ pub record Worked : Type 0 where
   pub ended : replies (replies asked (replying "E") .after) (replying "R") .answer ≡ refuses 14 0
   pub ended-by-Z : replies (replies asked (replying "Z") .after) (replying "R") .answer ≡ refuses 14 0
   pub out-of-place : replies (replies asked (replying "R") .after) (replying "Z") .answer ≡ refuses 15 0
-  pub full : replies (replies (replies asked (replying "R") .after) (replying "R") .after) (replying "R") .answer ≡ refuses 16 0
+  pub full : replies (crowded "R") (replying "R") .answer ≡ refuses 16 0
+  -- of two faults the one that is tried first is told
+  pub desk-before-frame : opens (lending 102 2) [] .answer ≡ refuses 9 0
+  pub frame-before-q : opens bare (asking "[" "q") .answer ≡ refuses 5 3
+  pub q-before-in-use : opens asked (asking "1" "q") .answer ≡ refuses 10 0
+  pub in-use-before-no-seat : opens (run bare (openings sixteen)) (asking "1" "P") .answer ≡ refuses 11 0
+  pub desk-before-reply : replies (lending 102 2) [] .answer ≡ refuses 9 0
+  pub stray-before-full : replies (crowded "R") (replyTo "R" "B" "00007" "00015") .answer ≡ refuses 13 0
+  pub ended-before-out-of-place : replies (crowded "E") (replying "Z") .answer ≡ refuses 14 0
+  pub ended-before-full : replies (crowded "E") (replying "R") .answer ≡ refuses 14 0
+  pub out-of-place-before-full : replies (crowded "R") (replying "Z") .answer ≡ refuses 15 0
   -- how many cells a desk has: 51 bytes and a mark each, 256 at most
   pub cells-256 : capacityOf 13056 256 ≡ 256
   pub no-more-cells : capacityOf 26112 512 ≡ 256

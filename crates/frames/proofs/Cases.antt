@@ -56,6 +56,10 @@ worked = record {
   record-251 = refl;
   room-23 = refl;
   room-24 = refl;
+  end-before-address = refl;
+  address-before-field = refl;
+  first-field = refl;
+  record-before-room = refl;
   time-of-none = refl;
 }
 

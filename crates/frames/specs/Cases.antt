@@ -115,4 +115,9 @@ pub record Worked : Type 0 where
   pub record-251 : writeTried (wrongIn request (asked 251)) 24 24 ≡ refuses 6 16
   pub room-23 : writeTried (wrongIn request (asked 250)) 24 23 ≡ refuses 7 0
   pub room-24 : writeTried (wrongIn request (asked 250)) 24 24 ≡ gives tt
+  -- of two faults the one that is tried first is told (KIND before LENGTH and LENGTH before END are among the cases of a lead byte alone)
+  pub end-before-address : read request (17 ∷ (codes "S A012000411255001000S" ++ (10 ∷ []))) ≡ refuses 3 0
+  pub address-before-field : read request (17 ∷ (codes "S [012000411255001000S" ++ (13 ∷ []))) ≡ refuses 4 0
+  pub first-field : read request (17 ∷ (codes "R [012000411255251000x" ++ (13 ∷ []))) ≡ refuses 5 3
+  pub record-before-room : writeTried (wrongIn request (asked 251)) 24 0 ≡ refuses 6 16
   pub time-of-none : runningTime (record { bib = 0; tnow = 0; tev = 1; sign = 0; days = 0; time = 0 }) ≡ refuses 8 0
