@@ -24,6 +24,7 @@ use Rattle.frames.proofs.LayoutLaws.{unless-none, values-fine}
 use Rattle.frames.proofs.RequestLaws.{request-plain}
 use Rattle.desk.specs.declared.call.Key.{Key}
 use Rattle.desk.specs.declared.call.Call.{Call}
+use Rattle.desk.specs.Limits.{cellSize}
 use Rattle.desk.specs.Key.{requestKey, sameKey, isKey}
 use Rattle.desk.specs.Call.{called, heard}
 use Rattle.desk.specs.Calls.{whatIsGiven}
@@ -69,7 +70,7 @@ called-gives : (x : Told StaticReply) (c : Call) → called x ≡ gives c → (r
 called-gives (gives r) c e = (r, refl)
 called-gives (refuses n o) c e = absurd (let z : _≡_ {A = ℕ} 0 1 = cc in omega arith)
 
-pub heard-long : (f : List ℕ) (c : Call) → heard f ≡ gives c → length f ≡ 51
+pub heard-long : (f : List ℕ) (c : Call) → heard f ≡ gives c → length f ≡ cellSize
 unfolding heard
 heard-long f c e = let r = called-gives (read reply f) c e in read-long reply f (r .0) (r .1)
 

@@ -26,6 +26,7 @@ use Rattle.desk.specs.declared.opening.OpenRefusal.the-variants.{Desk as
 use Rattle.desk.specs.declared.reply.Taking.{Taking}
 use Rattle.desk.specs.declared.reply.ReplyRefusal.{ReplyRefusal}
 use Rattle.desk.specs.declared.reply.ReplyRefusal.the-variants.{Desk as no-desk, Frame, Stray, Ended, OutOfPlace, Full}
+use Rattle.desk.specs.Limits.{cellSize}
 use Rattle.desk.specs.Call.{heard, heardTold}
 use Rattle.desk.specs.Seats.{zeroSeat, seatAt}
 use Rattle.desk.specs.Memory.{Memory, capacity}
@@ -99,8 +100,8 @@ module _ (m : Memory) (f : List ℕ) where
 -- ---- the outcome of a reply
 
 -- a copy of all of a frame
-pub with-cell : (cells : List ℕ) (at : ℕ) (f : List ℕ) → length f ≡ 51 → paste cells at f 51 ≡ withCell cells at f
-with-cell cells at f l = ap (λ (x : List ℕ). take at cells ++ x ++ drop (at + 51) cells) (take-all 51 f (omega arith))
+pub with-cell : (cells : List ℕ) (at : ℕ) (f : List ℕ) → length f ≡ cellSize → paste cells at f cellSize ≡ withCell cells at f
+with-cell cells at f l = ap (λ (x : List ℕ). take at cells ++ x ++ drop (at + cellSize) cells) (take-all cellSize f (omega arith))
 
 module _ (m : Memory) (f : List ℕ) where
   pub reply-done : (t : Taking) (after : Memory) → gives t ≡ replyTried m f → after ≡ taken m f t → Did (gives (t .seat)) after (replies m f)

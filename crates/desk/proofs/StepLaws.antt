@@ -17,7 +17,7 @@ use Rattle.desk.specs.declared.call.Key.{Key}
 use Rattle.desk.specs.declared.call.Call.{Call}
 use Rattle.desk.specs.declared.opening.Opening.{Opening}
 use Rattle.desk.specs.declared.reply.Taking.{Taking}
-use Rattle.desk.specs.Limits.{seatCount, mostCells}
+use Rattle.desk.specs.Limits.{seatCount, mostCells, cellSize}
 use Rattle.desk.specs.Key.{requestKey, seatKey, isKey}
 use Rattle.desk.specs.Call.{heard, inPlace}
 use Rattle.desk.specs.Seats.{seatAt, usedBit, keyed, keyedAt, seatWith, clearAt, lowestClear}
@@ -102,8 +102,8 @@ pub record Room (m : Memory) (f : List ℕ) (t : Taking) : Type 0 where
   pub seat : t .seat < seatCount
   pub count : m .count < mostCells
   pub marks : m .count < length (m .marks)
-  pub cells : m .count * 51 + 51 ≤ length (m .cells)
-  pub frame : length f ≡ 51
+  pub cells : m .count * cellSize + cellSize ≤ length (m .cells)
+  pub frame : length f ≡ cellSize
   pub held : seatAt (m .row) (t .seat) .held ≤ m .count
 
 pub took-room : (m : Memory) (f : List ℕ) (t : Taking) → Took m f t → Room m f t

@@ -22,7 +22,7 @@ use Rattle.desk.specs.Key.{requestKey}
 use Rattle.desk.specs.Seats.{seatWith, lowestClear}
 use Rattle.desk.specs.Call.{callOf, called, heard, inPlace}
 use Rattle.desk.specs.Memory.{Memory, capacity}
-use Rattle.desk.specs.Desk.{isDesk, sixteenSeats}
+use Rattle.desk.specs.Desk.{isDesk, allSeats}
 use Rattle.desk.specs.Calls.{DESK, NO-ANSWER-DUE, IN-USE, NO-SEAT, STRAY, ENDED, OUT-OF-PLACE, FULL, Outcome, whatIsGiven, letterQ, over, keyTried, requestTried, openTried, openOutcome, opens, seatTried, callTried, replyTried, replyOutcome, replies, emptied, resets}
 
 module _ {A B : Type 0} where
@@ -84,4 +84,4 @@ sure-reset false m = sure-number DESK 0 refl
 
 pub sure-resets : (m : Memory) → Sure (resets m .answer)
 unfolding resets
-sure-resets m = sure-reset (sixteenSeats m) m
+sure-resets m = sure-reset (allSeats m) m

@@ -19,13 +19,13 @@ use Rattle.desk.specs.declared.call.Heard.the-variants.{Refused as not-h
 use Rattle.desk.specs.declared.state.Seat.{Seat}
 use Rattle.desk.specs.declared.test.View.{View}
 use Rattle.desk.specs.declared.test.Turn.{Turn}
-use Rattle.desk.specs.Limits.{seatCount, mostCells}
+use Rattle.desk.specs.Limits.{seatCount, mostCells, cellSize}
 use Rattle.desk.specs.Below.{allBelow, countBelow}
 use Rattle.desk.specs.Key.{seatKey, isKey}
 use Rattle.desk.specs.Call.{heard, heardTold, isZ, inPlace, statusIn, endedIn}
 use Rattle.desk.specs.Seats.{seatAt, usedBit}
 use Rattle.desk.specs.Memory.{Memory, capacity, capacityOf, cellAt, markAt}
-use Rattle.desk.specs.Desk.{isZero, keyLegal, unusedZero, apartAt, apartBelow, markNames, markGood, cellKeyed, named, lastEnds, heldRight, endedRight, placed, sixteenSeats, noBitAbove, keysLegal, noKeyShared, unusedAllZero, countFits, marksName, cellsAreReplies, heldIsNamed, endsLast, endedIsLast, isDesk}
+use Rattle.desk.specs.Desk.{isZero, keyLegal, unusedZero, apartAt, apartBelow, markNames, markGood, cellKeyed, named, lastEnds, heldRight, endedRight, placed, allSeats, noBitAbove, keysLegal, noKeyShared, unusedAllZero, countFits, marksName, cellsAreReplies, heldIsNamed, endsLast, endedIsLast, isDesk}
 use Rattle.desk.specs.Inside.{seatGood, seatGoodAt, noView, takes, turnOf, agrees, agreesAt, viewOf, takenAt, rowsHold}
 use Rattle.digits.proofs.Tests.{and-true, and-l, and-r}
 use Rattle.desk.proofs.Below.{past, eq-case, all-at, all-of, all-and, all-ext, count-more}
@@ -97,7 +97,7 @@ module _ (cells marks : List ℕ) where
 -- ---- the facts
 
 pub record Facts (m : Memory) : Type 0 where
-  pub sixteen : length (m .row) ≡ seatCount
+  pub size : length (m .row) ≡ seatCount
   pub bits : m .bits < 2 ^ seatCount
   pub keys : (i : ℕ) → i < seatCount → usedBit (m .bits) i ≡ true → isKey (seatKey (seatAt (m .row) i)) ≡ true
   pub apart : (i : ℕ) → i < seatCount → (j : ℕ) → j < i → apartAt (m .row) (m .bits) i j ≡ true
@@ -129,7 +129,7 @@ module _ (m : Memory) where
   pub desk-facts : isDesk m ≡ true → Facts m
   unfolding isDesk
   desk-facts h =
-      let c2 = sixteenSeats m && noBitAbove m in
+      let c2 = allSeats m && noBitAbove m in
       let c3 = c2 && keysLegal m in
       let c4 = c3 && noKeyShared m in
       let c5 = c4 && unusedAllZero m in
@@ -148,8 +148,8 @@ module _ (m : Memory) where
       let h3 = and-l c3 (noKeyShared m) h4 in
       let h2 = and-l c2 (keysLegal m) h3 in
       record {
-        sixteen = eqb-true _ _ (and-l (sixteenSeats m) (noBitAbove m) h2);
-        bits = ltb-true _ _ (and-r (sixteenSeats m) (noBitAbove m) h2);
+        size = eqb-true _ _ (and-l (allSeats m) (noBitAbove m) h2);
+        bits = ltb-true _ _ (and-r (allSeats m) (noBitAbove m) h2);
         keys = λ i l u. when-used u (all-at seatCount (keyLegal (m .row) (m .bits)) (and-r c2 (keysLegal m) h3) i l);
         apart = λ i l j k. all-at i (apartAt (m .row) (m .bits) i) (all-at seatCount (apartBelow (m .row) (m .bits)) (and-r c3 (noKeyShared m) h4) i l) j k;
         zeros = λ i l u. when-unused u (all-at seatCount (unusedZero (m .row) (m .bits)) (and-r c4 (unusedAllZero m) h5) i l);
@@ -165,7 +165,7 @@ module _ (m : Memory) where
   unfolding isDesk
   facts-desk f =
       and-true (and-true (and-true (and-true (and-true (and-true (and-true (and-true (and-true (and-true
-      (eq-eqb (length (m .row)) seatCount (f .sixteen))
+      (eq-eqb (length (m .row)) seatCount (f .size))
       (lt-ltb (m .bits) (2 ^ seatCount) (f .bits)))
       (all-of seatCount (keyLegal (m .row) (m .bits)) (λ i l. used-only (usedBit (m .bits) i) _ (f .keys i l))))
       (all-of seatCount (apartBelow (m .row) (m .bits)) (λ i l. all-of i (apartAt (m .row) (m .bits) i) (f .apart i l))))
@@ -223,11 +223,11 @@ module _ (row : List Seat) (bits count : ℕ) (cells marks : List ℕ) where
 
 -- the clauses in the definition's order are what the code computes in its own
 desk-run : (m : Memory) → isDesk m
-    ≡ sixteenSeats m && (noBitAbove m && (allBelow seatCount (seatGoodAt (m .row) (m .bits)) && (noKeyShared m && (countFits m && rowsHold (m .row) (m .bits) (m .count) (m .cells) (m .marks)))))
+    ≡ allSeats m && (noBitAbove m && (allBelow seatCount (seatGoodAt (m .row) (m .bits)) && (noKeyShared m && (countFits m && rowsHold (m .row) (m .bits) (m .count) (m .cells) (m .marks)))))
 unfolding isDesk
 desk-run m =
-    turned (sixteenSeats m) (noBitAbove m) (keysLegal m) (noKeyShared m) (unusedAllZero m) (countFits m) (marksName m) (cellsAreReplies m) (heldIsNamed m) (endsLast m) (endedIsLast m)
-    ∙ ap₂ (λ (x y : Bool). sixteenSeats m && (noBitAbove m && (x && (noKeyShared m && (countFits m && y)))))
+    turned (allSeats m) (noBitAbove m) (keysLegal m) (noKeyShared m) (unusedAllZero m) (countFits m) (marksName m) (cellsAreReplies m) (heldIsNamed m) (endsLast m) (endedIsLast m)
+    ∙ ap₂ (λ (x y : Bool). allSeats m && (noBitAbove m && (x && (noKeyShared m && (countFits m && y)))))
     (seats-are (m .row) (m .bits) (m .count) (m .cells) (m .marks))
     (rows-are (m .row) (m .bits) (m .count) (m .cells) (m .marks))
 
@@ -254,15 +254,15 @@ turn-refused v seat g x e = sym (ap (turnOf v seat) (ap heardTold e ∙ read-ref
 
 -- ---- the loop over the rows
 
-pub cap-room : (cells marks n : ℕ) → n ≤ capacityOf cells marks → (n ≤ mostCells) × ((n ≤ marks) × (n * 51 ≤ cells))
+pub cap-room : (cells marks n : ℕ) → n ≤ capacityOf cells marks → (n ≤ mostCells) × ((n ≤ marks) × (n * cellSize ≤ cells))
 unfolding capacityOf
 cap-room cells marks n h = (omega arith, (omega arith, omega arith))
 
--- the part from i * 51 to 51 further is the cell
-pub part-cell : (cells : List ℕ) (i : ℕ) → take (i * 51 + 51 - i * 51) (drop (i * 51) cells) ≡ cellAt cells i
+-- the part from i * cellSize to cellSize further is the cell
+pub part-cell : (cells : List ℕ) (i : ℕ) → take (i * cellSize + cellSize - i * cellSize) (drop (i * cellSize) cells) ≡ cellAt cells i
 part-cell cells i =
-    let e : i * 51 + 51 - i * 51 ≡ 51 = omega arith in
-    ap (λ (n : ℕ). take n (drop (i * 51) cells)) e
+    let e : i * cellSize + cellSize - i * cellSize ≡ cellSize = omega arith in
+    ap (λ (n : ℕ). take n (drop (i * cellSize) cells)) e
 
 module _ (cells marks : List ℕ) where
   view-by : (n s : ℕ) (b : Bool) (x : ℕ) → _≡_ {A = View} (record { held = cond b (named marks s n + 1) (named marks s n); ended = cond b x (lastEnds cells marks s n) })

@@ -35,7 +35,7 @@ use Rattle.desk.specs.Key.{requestKey}
 use Rattle.desk.specs.Call.{heard, inPlace, endedBy}
 use Rattle.desk.specs.Seats.{zeroSeat, seatAt, usedBit, seatWith, lowestClear}
 use Rattle.desk.specs.Memory.{Memory, memory, capacity, capacityOf, markAt}
-use Rattle.desk.specs.Desk.{isDesk, sixteenSeats}
+use Rattle.desk.specs.Desk.{isDesk, allSeats}
 
 -- ---- refusals, by number
 
@@ -178,9 +178,9 @@ emptyDesk = record { desk = emptyState; row = emptyRow }
 abbrev pub emptied : Memory → Memory
 emptied m = memory emptyState emptyRow (m .cells) (m .marks)
 
--- refused only if the row is not of sixteen seats; it looks at nothing else
+-- refused only if the row is not of as many seats; it looks at nothing else
 unfoldable pub resets : Memory → Outcome
-resets m = cond (sixteenSeats m) (record { answer = gives 0; after = emptied m }) (record { answer = refuses DESK 0; after = m })
+resets m = cond (allSeats m) (record { answer = gives 0; after = emptied m }) (record { answer = refuses DESK 0; after = m })
 
 -- the ones of a number of 64 bits
 unfoldable pub seatsInUse : ℕ → ℕ

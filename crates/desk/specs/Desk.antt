@@ -69,8 +69,8 @@ abbrev pub endedRight : List Seat → ℕ → ℕ → List ℕ → List ℕ → 
 endedRight row bits count cells marks s = cond (usedBit bits s) (eqb (seatAt row s .ended) (lastEnds cells marks s count)) true
 
 module _ (m : Memory) where
-  abbrev pub sixteenSeats : Bool
-  sixteenSeats = eqb (length (m .row)) seatCount
+  abbrev pub allSeats : Bool
+  allSeats = eqb (length (m .row)) seatCount
 
   abbrev pub noBitAbove : Bool
   noBitAbove = ltb (m .bits) (2 ^ seatCount)
@@ -104,7 +104,7 @@ module _ (m : Memory) where
 
   unfoldable pub isDesk : Bool
   isDesk =
-      sixteenSeats
+      allSeats
       && noBitAbove
       && keysLegal
       && noKeyShared

@@ -1,5 +1,5 @@
 // Keys, and what the desk goes by in a reply.
-use crate::state::SEATS;
+use crate::limits::SEATS;
 use crate::state::Seat;
 use frames::refusals::ReadRefusal;
 use frames::reply::ReplyCheck;

@@ -4,7 +4,7 @@ use crate::opening::open_on_desk;
 use crate::reply::ReplyAnswer;
 use crate::reply::reply_on_desk;
 use crate::state::Desk;
-use crate::state::SEATS;
+use crate::limits::SEATS;
 use crate::state::Seat;
 use crate::test::is_desk;
 use digits::byte_at;

@@ -2,6 +2,7 @@
 mod call;
 pub mod capture;
 pub mod held;
+pub mod limits;
 pub mod opening;
 pub mod reply;
 pub mod state;

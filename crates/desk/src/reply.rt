@@ -5,9 +5,9 @@ use crate::call::ended_by;
 use crate::call::find;
 use crate::call::hear;
 use crate::call::in_place;
-use crate::state::CELL_SIZE;
+use crate::limits::CELL_SIZE;
 use crate::state::Desk;
-use crate::state::SEATS;
+use crate::limits::SEATS;
 use crate::state::Seat;
 use crate::state::capacity;
 use crate::state::with_seat;
@@ -17,7 +17,7 @@ ghost use mathlib.Core.Path.{_≡_};
 ghost use Prim.Native.Nat.{_+_, _≤_, _<_};
 ghost use lib.ListN.{length, set};
 ghost use lib.Seq.{paste};
-ghost use Rattle.desk.specs.Limits.{seatCount};
+ghost use Rattle.desk.specs.Limits.{seatCount, cellSize, mostCells};
 ghost use Rattle.desk.specs.Memory.{memory};
 ghost use Rattle.desk.specs.Calls.{whatIsGiven, grown, replies, replyTold, callTried, seatTried, Did, ReplyDid};
 ghost use Rattle.desk.specs.Desk.{isDesk};
@@ -175,10 +175,10 @@ fn seat_judged(seat: Seat, free: bool, t: Taking) -> ReplyJudged
     }
 }
 
-// The 51 bytes of a frame, from a place on.
+// A frame, from a place on.
 fn put_cell(cells: &mut [u8], at: usize, frame: &[u8])
-    requires { ⌜ (length (now frame) ≡ 51) × (at + 51 ≤ length (now cells)) ⌝ }
-    ensures { λ _. ⌜ now (cells .exit) ≡ paste (now (cells .entry)) at (now (frame .entry)) 51 ⌝ }
+    requires { ⌜ (length (now frame) ≡ cellSize) × (at + cellSize ≤ length (now cells)) ⌝ }
+    ensures { λ _. ⌜ now (cells .exit) ≡ paste (now (cells .entry)) at (now (frame .entry)) cellSize ⌝ }
 {
     let mut j: usize = 0;
     while j < CELL_SIZE {
@@ -188,7 +188,7 @@ fn put_cell(cells: &mut [u8], at: usize, frame: &[u8])
 }
 
 fn grown_seat(seat: Seat, status: u8) -> Seat
-    requires { ⌜ seat .held < 65536 ⌝ }
+    requires { ⌜ seat .held < mostCells ⌝ }
     ensures { λ r. ⌜ r ≡ grown seat status ⌝ }
 {
     Seat {

@@ -9,16 +9,16 @@ use crate::call::is_key;
 use crate::call::key_of;
 use crate::call::same_key;
 use crate::call::used;
-use crate::state::CELL_SIZE;
+use crate::limits::CELL_SIZE;
 use crate::state::Desk;
-use crate::state::SEATS;
+use crate::limits::SEATS;
 use crate::state::Seat;
 use crate::state::capacity;
 ghost use mathlib.Core.Path.{_≡_};
 ghost use Prim.Native.Nat.{_*_, _≤_, _<_};
 ghost use lib.ListN.{length};
 ghost use Rattle.digits.specs.Told.{gives};
-ghost use Rattle.desk.specs.Limits.{seatCount, mostCells};
+ghost use Rattle.desk.specs.Limits.{seatCount, mostCells, cellSize};
 ghost use Rattle.desk.specs.Below.{allBelow};
 ghost use Rattle.desk.specs.Call.{heardTold};
 ghost use Rattle.desk.specs.Memory.{memory};
@@ -137,7 +137,7 @@ fn mark_names(bits: u64, mark: u32) -> bool
 
 // One more row of a seat: a reply with its key, in its place.
 fn one_more(v: View, seat: Seat, got: Heard) -> Turn
-    requires { ⌜ v .held < 65536 ⌝ }
+    requires { ⌜ v .held < mostCells ⌝ }
     ensures { λ r. ⌜ r ≡ turnOf v seat (heardTold got) ⌝ }
 {
     match got {
@@ -153,7 +153,7 @@ fn one_more(v: View, seat: Seat, got: Heard) -> Turn
 }
 
 fn taken_turn(v: View, seat: Seat, call: Call) -> Turn
-    requires { ⌜ v .held < 65536 ⌝ }
+    requires { ⌜ v .held < mostCells ⌝ }
     ensures { λ r. ⌜ r ≡ turnOf v seat (gives call) ⌝ }
 {
     let own = same_key(key_of(seat), call.key);
@@ -195,7 +195,7 @@ fn all_agree(views: [View; SEATS], row: [Seat; SEATS], bits: u64) -> bool
 
 // Each mark and each cell is read once.
 fn rows_hold(row: [Seat; SEATS], bits: u64, count: usize, cells: &[u8], marks: &[u32]) -> bool
-    requires { ⌜ (count ≤ mostCells) × ((count ≤ length (now marks)) × (count * 51 ≤ length (now cells))) ⌝ }
+    requires { ⌜ (count ≤ mostCells) × ((count ≤ length (now marks)) × (count * cellSize ≤ length (now cells))) ⌝ }
     ensures { λ r. ⌜ r ≡ rowsHold row bits count (now (cells .entry)) (now (marks .entry)) ⌝ }
 {
     let none = View { held: 0, ended: 0 };

@@ -37,7 +37,7 @@ enum-known-opening : tie.Need-enum-known-opening
 enum-known-opening c = search needs
 
 opened-state-requires : tie.Need-opened-state-requires
-opened-state-requires c κs = (known (c .before .before) .below, known (c .before .before) .facts .bits)
+opened-state-requires c κs = let k = known (c .before .before) in (k .below, (k .facts .bits, k .clear))
 
 new-seat-requires : tie.Need-new-seat-requires
 new-seat-requires c κs = search needs
