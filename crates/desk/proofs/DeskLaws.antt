@@ -9,23 +9,23 @@ use lib.ListN.{length, take, drop, length-set, length-append, length-drop, lengt
 use lib.Seq.{getD-set-same, getD-set-other, take-append-le, drop-append-le, take-at, drop-at, length-take-le}
 use lib.Dec.{eqb, ltb}
 use borrow.Author.Tests.{eq-eqb, ne-eqb, lt-ltb}
-use Rattle.desk.specs.declared.call.Key.{Key}
+use Rattle.desk.specs.declared.key.Key.{Key}
 use Rattle.desk.specs.declared.opening.Opening.{Opening}
 use Rattle.desk.specs.declared.reply.Taking.{Taking}
 use Rattle.desk.specs.Limits.{seatCount, cellSize}
 use Rattle.desk.specs.Below.{countBelow}
-use Rattle.desk.specs.Key.{seatKey, sameKey, isKey}
-use Rattle.desk.specs.Call.{heard, endedIn}
+use Rattle.desk.specs.Key.{keyIn, seatKey, sameKey, isKey}
+use Rattle.desk.specs.Hearing.{heard, endedIn}
 use Rattle.desk.specs.Seats.{zeroSeat, seatAt, usedBit, keyed}
 use Rattle.desk.specs.Memory.{Memory, capacity, capacityOf, cellAt, markAt, recordsOf, heldBy}
 use Rattle.desk.specs.Desk.{isZero, apartAt, markNames, markGood, cellKeyed, named, lastEnds}
 use Rattle.desk.specs.Calls.{newSeat, opened, grown, withCell, taken, emptyRow, emptied}
-use Rattle.desk.specs.Inside.{takes, takenAt}
+use Rattle.desk.specs.inside.Clauses.{takes, takenAt}
 use Rattle.digits.proofs.Tests.{and-r, and-true, by-test}
 use Rattle.desk.proofs.Below.{never, below-case, eq-case, count-ext, count-more}
 use Rattle.desk.proofs.Bits.{set-own, set-other, set-below, none-used}
-use Rattle.desk.proofs.CallLaws.{same-key, own-key}
-use Rattle.desk.proofs.TestLaws.{Facts}
+use Rattle.desk.proofs.KeyLaws.{same-key, own-key}
+use Rattle.desk.proofs.ClauseLaws.{Facts}
 use Rattle.desk.proofs.StepLaws.{Took, took-used, took-key, Room, took-room, Opens}
 
 -- ---- rows that stay
@@ -164,7 +164,7 @@ module _ (m : Memory) (f : List ℕ) (t : Taking) (k : Took m f t) where
   cell-facts i l =
       below-case i (m .count) (omega arith)
       (λ h. rw (old-mark i h, old-cell i h, taken-key (markAt (m .marks) i)) (k .facts .cells i h))
-      (λ e. rw (e, new-mark, new-cell, taken-key (t .seat), k .hears, took-key m f t k) (own-key (k .call .key)))
+      (λ e. rw (e, new-mark, new-cell, taken-key (t .seat), k .hears, took-key m f t k) (own-key (keyIn (k .label))))
 
   taken-facts : (i : ℕ) → i < m .count + 1 → takenAt (taken m f t .cells) (taken m f t .marks) i ≡ true
   unfolding takes

@@ -4,11 +4,12 @@ use mathlib.Core.List.{List}
 use mathlib.Core.Bool.{Bool, true, cond, not, _&&_}
 use lib.ListN.{length}
 use lib.Dec.{eqb, leb, ltb}
+use Rattle.frames.specs.Timing.{isZ}
 use Rattle.desk.specs.declared.state.Seat.{Seat}
 use Rattle.desk.specs.Limits.{seatCount}
 use Rattle.desk.specs.Below.{allBelow, countBelow}
 use Rattle.desk.specs.Key.{seatKey, isKey}
-use Rattle.desk.specs.Call.{heard, hasKey, isZ, statusIn, endedIn}
+use Rattle.desk.specs.Hearing.{heard, hasKey, statusIn, endedIn}
 use Rattle.desk.specs.Seats.{seatAt, usedBit, keyedAt}
 use Rattle.desk.specs.Memory.{Memory, capacity, cellAt, markAt}
 

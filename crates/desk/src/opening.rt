@@ -1,11 +1,11 @@
 // An opening: a static request takes a seat.
-use crate::call::Key;
-use crate::call::find;
+use crate::clauses::is_desk;
+use crate::key::Key;
+use crate::key::find;
 use crate::state::Desk;
 use crate::limits::SEATS;
 use crate::state::Seat;
 use crate::state::with_seat;
-use crate::test::is_desk;
 use frames::refusals::ReadRefusal;
 use frames::request::RequestRead;
 use frames::request::StaticRequest;
@@ -22,7 +22,7 @@ ghost use Rattle.desk.specs.Desk.{isDesk};
 ghost use Rattle.frames.specs.Kind.{read};
 ghost use Rattle.frames.specs.Request.{request};
 ghost use mathlib.Core.Bool.{true, false};
-ghost use Rattle.desk.specs.Inside.{openJudged};
+ghost use Rattle.desk.specs.inside.Judging.{openJudged};
 
 // In the order in which they are tried.
 pub enum OpenRefusal {

@@ -8,7 +8,7 @@ use lib.ListN.{set}
 use Rattle.digits.specs.Told.{gives}
 use Rattle.desk.specs.Memory.{Memory, memory}
 use Rattle.desk.specs.Calls.{openTried, opens, openRefused, Did}
-use Rattle.desk.specs.Inside.{openJudged}
+use Rattle.desk.specs.inside.Judging.{openJudged}
 use Rattle.desk.proofs.StepLaws.{Opens, opens-taken}
 use Rattle.desk.proofs.OutcomeLaws.{same-first, open-on, opening-done, not-opened}
 use borrow.Author.Needs.{needs}

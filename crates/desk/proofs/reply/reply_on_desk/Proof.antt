@@ -9,7 +9,7 @@ use Rattle.digits.specs.Told.{gives}
 use Rattle.desk.specs.Limits.{cellSize}
 use Rattle.desk.specs.Memory.{Memory, memory}
 use Rattle.desk.specs.Calls.{replyTried, replies, replyRefused, Did}
-use Rattle.desk.specs.Inside.{replyJudged}
+use Rattle.desk.specs.inside.Judging.{replyJudged}
 use Rattle.desk.proofs.StepLaws.{took, Room, took-room}
 use Rattle.desk.proofs.OutcomeLaws.{same-first, reply-on, with-cell, reply-done, not-taken}
 use borrow.Author.Needs.{needs}
