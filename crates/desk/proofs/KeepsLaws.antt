@@ -10,9 +10,10 @@ use Rattle.digits.specs.Told.{Told, gives, refuses, tried}
 use Rattle.finder.specs.Pieces.{pieces}
 use Rattle.desk.specs.declared.opening.Opening.{Opening}
 use Rattle.desk.specs.declared.reply.Taking.{Taking}
+use Rattle.desk.specs.Limits.{cellSize}
 use Rattle.desk.specs.Memory.{Memory, markAt}
 use Rattle.desk.specs.declared.capture.Counts.{Counts}
-use Rattle.desk.specs.Desk.{isDesk, sixteenSeats}
+use Rattle.desk.specs.Desk.{isDesk, allSeats}
 use Rattle.desk.specs.Calls.{DESK, Outcome, openTried, opens, withCell, replyTried, replies, emptied, resets}
 use Rattle.desk.specs.Capture.{fates, afterAll, countsOf}
 use Rattle.desk.specs.Keeps.{RefusedKeeps, SameSeat, KeepsMemory}
@@ -23,22 +24,22 @@ use Rattle.desk.proofs.MixLaws.{after-taken, after-refused, after-opene
 getD-front : (a r : List ℕ) (j : ℕ) → j < length a → getD (a ++ r) j 0 ≡ getD a j 0
 getD-front a r j l = sym (getD-take (length a) (a ++ r) j 0 l) ∙ ap (λ (x : List ℕ). getD x j 0) (take-at a r (length a) refl)
 
-module _ (d : List ℕ) (at : ℕ) (f : List ℕ) (room : at + 51 ≤ length d) (full : length f ≡ 51) where
+module _ (d : List ℕ) (at : ℕ) (f : List ℕ) (room : at + cellSize ≤ length d) (full : length f ≡ cellSize) where
   before : (j : ℕ) → j < at → getD (withCell d at f) j 0 ≡ getD d j 0
   before j l =
       let e = length-take-le at d (omega arith) in
       let a : j < length (take at d ++ f) = simp length-append (omega arith) in
-      getD-front (take at d ++ f) (drop (at + 51) d) j a ∙ getD-front (take at d) f j (omega arith) ∙ getD-take at d j 0 l
+      getD-front (take at d ++ f) (drop (at + cellSize) d) j a ∙ getD-front (take at d) f j (omega arith) ∙ getD-take at d j 0 l
 
-  behind : (j : ℕ) → at + 51 ≤ j → getD (withCell d at f) j 0 ≡ getD d j 0
+  behind : (j : ℕ) → at + cellSize ≤ j → getD (withCell d at f) j 0 ≡ getD d j 0
   behind j l =
       let e = length-take-le at d (omega arith) in
       let a = length-append (take at d) f in
-      let n : length (take at d ++ f) + (j - (at + 51)) ≡ j = omega arith in
-      let k : at + 51 + (j - (at + 51)) ≡ j = omega arith in
+      let n : length (take at d ++ f) + (j - (at + cellSize)) ≡ j = omega arith in
+      let k : at + cellSize + (j - (at + cellSize)) ≡ j = omega arith in
       ap (λ (i : ℕ). getD (withCell d at f) i 0) (sym n)
-      ∙ getD-append-add (take at d ++ f) (drop (at + 51) d) (j - (at + 51)) 0
-      ∙ getD-drop (at + 51) d (j - (at + 51)) 0
+      ∙ getD-append-add (take at d ++ f) (drop (at + cellSize) d) (j - (at + cellSize)) 0
+      ∙ getD-drop (at + cellSize) d (j - (at + cellSize)) 0
       ∙ ap (λ (i : ℕ). getD d i 0) k
 
 -- ---- openings
@@ -76,19 +77,19 @@ module _ (m : Memory) (f : List ℕ) where
   sizes : (a : Told Taking) → replyTried m f ≡ a → (length (replies m f .after .cells) ≡ length (m .cells)) × (length (replies m f .after .marks) ≡ length (m .marks))
   sizes (gives t) e =
       let r = took-room m f t (took m f t e) in
-      rw (after-taken m f t e) (length-with (m .cells) (m .count * 51) f (r .cells) (r .frame), length-set (m .marks) (m .count) (t .seat))
+      rw (after-taken m f t e) (length-with (m .cells) (m .count * cellSize) f (r .cells) (r .frame), length-set (m .marks) (m .count) (t .seat))
   sizes (refuses n o) e = rw (after-refused m f n o e) (refl, refl)
 
-  front-cells : (j : ℕ) → j < m .count * 51 → (a : Told Taking) → replyTried m f ≡ a → getD (replies m f .after .cells) j 0 ≡ getD (m .cells) j 0
+  front-cells : (j : ℕ) → j < m .count * cellSize → (a : Told Taking) → replyTried m f ≡ a → getD (replies m f .after .cells) j 0 ≡ getD (m .cells) j 0
   front-cells j l (gives t) e =
       let r = took-room m f t (took m f t e) in
-      rw (after-taken m f t e) (before (m .cells) (m .count * 51) f (r .cells) (r .frame) j l)
+      rw (after-taken m f t e) (before (m .cells) (m .count * cellSize) f (r .cells) (r .frame) j l)
   front-cells j l (refuses n o) e = rw (after-refused m f n o e)
 
-  back-cells : (j : ℕ) → m .count * 51 + 51 ≤ j → (a : Told Taking) → replyTried m f ≡ a → getD (replies m f .after .cells) j 0 ≡ getD (m .cells) j 0
+  back-cells : (j : ℕ) → m .count * cellSize + cellSize ≤ j → (a : Told Taking) → replyTried m f ≡ a → getD (replies m f .after .cells) j 0 ≡ getD (m .cells) j 0
   back-cells j l (gives t) e =
       let r = took-room m f t (took m f t e) in
-      rw (after-taken m f t e) (behind (m .cells) (m .count * 51) f (r .cells) (r .frame) j l)
+      rw (after-taken m f t e) (behind (m .cells) (m .count * cellSize) f (r .cells) (r .frame) j l)
   back-cells j l (refuses n o) e = rw (after-refused m f n o e)
 
   else-marks : (j : ℕ) → (j ≡ m .count → ⊥) → (a : Told Taking) → replyTried m f ≡ a → markAt (replies m f .after .marks) j ≡ markAt (m .marks) j
@@ -131,7 +132,7 @@ not-captured false m x c number offset h = refl
 pub refused-keeps : RefusedKeeps
 unfolding resets
 refused-keeps = record {
-  reset = λ m number offset h. not-reset (sixteenSeats m) m number offset h;
+  reset = λ m number offset h. not-reset (allSeats m) m number offset h;
   opening = λ m f number offset h. not-opened m f number offset h (openTried m f) refl;
   reply = λ m f number offset h. not-taken m f number offset h (replyTried m f) refl;
   capture = λ m s number offset h. not-captured (isDesk m) m (afterAll m (pieces s)) (countsOf (fates m (pieces s))) number offset h;

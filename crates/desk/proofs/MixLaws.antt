@@ -10,24 +10,24 @@ use Rattle.digits.specs.Told.{Told, gives, refuses, tried}
 use Rattle.frames.specs.Kind.{read}
 use Rattle.frames.specs.Request.{request}
 use Rattle.frames.specs.declared.request.StaticRequest.{StaticRequest}
-use Rattle.desk.specs.declared.call.Key.{Key}
-use Rattle.desk.specs.declared.call.Call.{Call}
+use Rattle.frames.specs.declared.reply.ReplyLabel.{ReplyLabel}
+use Rattle.desk.specs.declared.key.Key.{Key}
 use Rattle.desk.specs.declared.opening.Opening.{Opening}
 use Rattle.desk.specs.declared.reply.Taking.{Taking}
 use Rattle.desk.specs.Limits.{seatCount}
 use Rattle.desk.specs.Below.{first}
-use Rattle.desk.specs.Key.{requestKey, seatKey, sameKey}
-use Rattle.desk.specs.Call.{heard, hasKey, ends, inPlace, endedBy, statusIn}
+use Rattle.desk.specs.Key.{requestKey, keyIn, seatKey, sameKey}
+use Rattle.desk.specs.Hearing.{heard, hasKey, ends, inPlace, endedBy, statusIn}
 use Rattle.desk.specs.Seats.{seatAt, usedBit, keyed, keyedAt, seatWith}
 use Rattle.desk.specs.Memory.{Memory, capacity, heldBy}
-use Rattle.desk.specs.Calls.{Outcome, over, newSeat, openTried, openOutcome, opens, opened, seatTried, callTried, replyTried, replyOutcome, replies, taken, emptied, ENDED, OUT-OF-PLACE}
+use Rattle.desk.specs.Calls.{Outcome, over, newSeat, openTried, openOutcome, opens, opened, seatTried, labelTried, replyTried, replyOutcome, replies, taken, emptied, ENDED, OUT-OF-PLACE}
 use Rattle.desk.specs.Rule.{Frame}
 use Rattle.desk.specs.Mix.{Event, toOpen, toReply, run, openings, heardAll, Stretch, addressed, framesTo, answersTo, seated, expected, repliesTo, Sorted, SortsFromAnyDesk, SortsOpenedRequests, StaysDesk}
 use Rattle.digits.proofs.Tests.{and-true, by-test}
 use Rattle.desk.proofs.Below.{never, false-or, first-at, first-ext}
-use Rattle.desk.proofs.CallLaws.{own-key}
+use Rattle.desk.proofs.KeyLaws.{own-key}
 use Rattle.desk.proofs.RuleLaws.{fits, endsIt, keeps, says, addressed-heard, keeps-kept, says-said}
-use Rattle.desk.proofs.TestLaws.{Facts, desk-facts, facts-desk}
+use Rattle.desk.proofs.ClauseLaws.{Facts, desk-facts, facts-desk}
 use Rattle.desk.proofs.StepLaws.{keyed-used, keyed-key, Took, took, took-key, opens-taken}
 use Rattle.desk.proofs.DeskLaws.{taken-own, taken-other, taken-key, taken-capacity, records-own, records-other, taken-desk, opened-own, opened-other, opened-bit, other-bit, used-other, opened-holds, opened-desk, emptied-desk}
 
@@ -102,8 +102,8 @@ with-same m x k n =
 
 -- ---- cells enough
 
-seated-same : (m x : Memory) (got : Told Call) → Next m x → seated x got ≡ seated m got
-seated-same m x (gives c) n = ap (λ (s : ℕ). ltb s seatCount) (with-same m x (c .key) n)
+seated-same : (m x : Memory) (got : Told ReplyLabel) → Next m x → seated x got ≡ seated m got
+seated-same m x (gives c) n = ap (λ (s : ℕ). ltb s seatCount) (with-same m x (keyIn c) n)
 seated-same m x (refuses number offset) n = refl
 
 expected-same : (m x : Memory) (e : Event) → Next m x → expected x e ≡ expected m e
@@ -138,7 +138,7 @@ record Kept (m x : Memory) (s : ℕ) : Type 0 where
   held : heldBy x s ≡ heldBy m s
 
 hears-own : (m : Memory) (f : Frame) (t : Taking) → Took m f t → addressed (seatKey (seatAt (m .row) (t .seat))) (toReply f) ≡ true
-hears-own m f t k = rw (addressed-heard (seatKey (seatAt (m .row) (t .seat))) f, k .hears, took-key m f t k) (own-key (k .call .key))
+hears-own m f t k = rw (addressed-heard (seatKey (seatAt (m .row) (t .seat))) f, k .hears, took-key m f t k) (own-key (keyIn (k .label)))
 
 else-by : (m : Memory) (f : Frame) (s : ℕ) → addressed (seatKey (seatAt (m .row) s)) (toReply f) ≡ false → (a : Told Taking) → replyTried m f ≡ a → Kept m (replies m f .after) s
 else-by m f s h (gives t) e =
@@ -165,19 +165,19 @@ not-not : (b : Bool) → not (not b) ≡ b
 not-not true = refl
 not-not false = refl
 
-place-fits : (m : Memory) (f : Frame) (s : ℕ) (c : Call) → heard f ≡ gives c → inPlace (seatAt (m .row) s .held) (c .status) ≡ fits (anyAt m s) f
+place-fits : (m : Memory) (f : Frame) (s : ℕ) (c : ReplyLabel) → heard f ≡ gives c → inPlace (seatAt (m .row) s .held) (c .status) ≡ fits (anyAt m s) f
 unfolding inPlace
 place-fits m f s c e = rw (e, not-not (eqb (seatAt (m .row) s .held) 0))
 
 -- what is tried, where the seat is s
-own-tried : (m : Memory) (f : Frame) (s : ℕ) (c : Call) → Facts m → s < seatCount → usedBit (m .bits) s ≡ true → m .count < capacity m
-    → heard f ≡ gives c → sameKey (seatKey (seatAt (m .row) s)) (c .key) ≡ true
+own-tried : (m : Memory) (f : Frame) (s : ℕ) (c : ReplyLabel) → Facts m → s < seatCount → usedBit (m .bits) s ≡ true → m .count < capacity m
+    → heard f ≡ gives c → sameKey (seatKey (seatAt (m .row) s)) (keyIn c) ≡ true
     → replyTried m f ≡ seatTried (seatAt (m .row) s) true (record { seat = s; status = c .status })
-unfolding replyTried callTried keyed
+unfolding replyTried labelTried keyed
 own-tried m f s c d l u r e h =
-    rw (facts-desk m d, e, one-seat m (c .key) s d l (and-true u h), lt-ltb s seatCount l, lt-ltb (m .count) (capacity m) r)
+    rw (facts-desk m d, e, one-seat m (keyIn c) s d l (and-true u h), lt-ltb s seatCount l, lt-ltb (m .count) (capacity m) r)
 
-own-case : (m : Memory) (f : Frame) (s : ℕ) (c : Call) → heard f ≡ gives c
+own-case : (m : Memory) (f : Frame) (s : ℕ) (c : ReplyLabel) → heard f ≡ gives c
     → replyTried m f ≡ seatTried (seatAt (m .row) s) true (record { seat = s; status = c .status })
     → (a b : Bool) → overAt m s ≡ a → fits (anyAt m s) f ≡ b → Own m f s
 unfolding seatTried
@@ -189,7 +189,7 @@ own-case m f s c e q false true ea eb =
     kept-one (c .status) ea eb (ap statusIn e) (took m f t p) (after-taken m f t p)
 
 own-heard : (m : Memory) (f : Frame) (s : ℕ) → Facts m → s < seatCount → usedBit (m .bits) s ≡ true → m .count < capacity m
-    → (got : Told Call) → heard f ≡ got → hasKey (seatKey (seatAt (m .row) s)) got ≡ true → Own m f s
+    → (got : Told ReplyLabel) → heard f ≡ got → hasKey (seatKey (seatAt (m .row) s)) got ≡ true → Own m f s
 own-heard m f s d l u r (gives c) e h = own-case m f s c e (own-tried m f s c d l u r e h) (overAt m s) (fits (anyAt m s) f) refl refl
 own-heard m f s d l u r (refuses n o) e h = never true refl (sym h)
 
@@ -198,9 +198,9 @@ own : (m : Memory) (f : Frame) (s : ℕ) → Facts m → s < seatCount → usedB
 own m f s d l u r h = own-heard m f s d l u r (heard f) refl (rw (addressed-heard (seatKey (seatAt (m .row) s)) f) at h)
 
 -- a frame addressed to a used seat is one of those that are counted, so a cell is free
-own-seated : (m : Memory) (s : ℕ) → Facts m → s < seatCount → usedBit (m .bits) s ≡ true → (got : Told Call) → hasKey (seatKey (seatAt (m .row) s)) got ≡ true → seated m got ≡ true
+own-seated : (m : Memory) (s : ℕ) → Facts m → s < seatCount → usedBit (m .bits) s ≡ true → (got : Told ReplyLabel) → hasKey (seatKey (seatAt (m .row) s)) got ≡ true → seated m got ≡ true
 unfolding keyed
-own-seated m s d l u (gives c) h = rw (one-seat m (c .key) s d l (and-true u h)) (lt-ltb s seatCount l)
+own-seated m s d l u (gives c) h = rw (one-seat m (keyIn c) s d l (and-true u h)) (lt-ltb s seatCount l)
 own-seated m s d l u (refuses n o) h = h
 
 own-room : (m : Memory) (f : Frame) (s : ℕ) (es : List Event) → Facts m → s < seatCount → usedBit (m .bits) s ≡ true → addressed (seatKey (seatAt (m .row) s)) (toReply f) ≡ true

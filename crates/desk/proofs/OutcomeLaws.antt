@@ -10,27 +10,29 @@ use lib.Dec.{ltb}
 use Rattle.digits.specs.Told.{Told, gives, refuses, tried}
 use Rattle.frames.specs.Kind.{read}
 use Rattle.frames.specs.Request.{request, requestTold}
+use Rattle.frames.specs.Reply.{CheckedAs}
 use Rattle.frames.specs.Refusals.{readRefused}
 use Rattle.frames.specs.declared.refusals.ReadRefusal.{ReadRefusal}
 use Rattle.frames.specs.declared.request.StaticRequest.{StaticRequest}
 use Rattle.frames.specs.declared.request.RequestRead.{RequestRead}
 use Rattle.frames.specs.declared.request.RequestRead.the-variants.{Request, Refused as not-request}
+use Rattle.frames.specs.declared.reply.ReplyLabel.{ReplyLabel}
+use Rattle.frames.specs.declared.reply.ReplyCheck.{ReplyCheck}
+use Rattle.frames.specs.declared.reply.ReplyCheck.the-variants.{Good, Refused as not-reply}
 use Rattle.frames.proofs.RefusalLaws.{read-refuses}
 use Rattle.desk.specs.declared.state.Seat.{Seat}
-use Rattle.desk.specs.declared.call.Call.{Call}
-use Rattle.desk.specs.declared.call.Heard.{Heard}
-use Rattle.desk.specs.declared.call.Heard.the-variants.{Reply, Refused as not-reply}
 use Rattle.desk.specs.declared.opening.Opening.{Opening}
 use Rattle.desk.specs.declared.opening.OpenRefusal.{OpenRefusal}
 use Rattle.desk.specs.declared.opening.OpenRefusal.the-variants.{Desk as open-no-desk, Frame as open-frame, NoAnswerDue, InUse, NoSeat}
 use Rattle.desk.specs.declared.reply.Taking.{Taking}
 use Rattle.desk.specs.declared.reply.ReplyRefusal.{ReplyRefusal}
 use Rattle.desk.specs.declared.reply.ReplyRefusal.the-variants.{Desk as no-desk, Frame, Stray, Ended, OutOfPlace, Full}
-use Rattle.desk.specs.Call.{heard, heardTold}
+use Rattle.desk.specs.Limits.{cellSize}
+use Rattle.desk.specs.Hearing.{heard}
 use Rattle.desk.specs.Seats.{zeroSeat, seatAt}
 use Rattle.desk.specs.Memory.{Memory, capacity}
 use Rattle.desk.specs.Desk.{isDesk}
-use Rattle.desk.specs.Calls.{DESK, whatIsGiven, requestTried, openTried, callTried, replyTried, opens, opened, replies, taken, withCell, openRefused, replyRefused, Did}
+use Rattle.desk.specs.Calls.{DESK, whatIsGiven, requestTried, openTried, labelTried, replyTried, opens, opened, replies, taken, withCell, openRefused, replyRefused, Did}
 
 -- ---- a reader's refusal stands
 
@@ -45,11 +47,13 @@ module _ (x : List ℕ) where
   pub request-refused : (row : List Seat) (bits : ℕ) (a : RequestRead) (g : ReadRefusal) → requestTold a ≡ read request x → a ≡ not-request g → readRefused g ≡ whatIsGiven (read request x) (requestTried row bits)
   request-refused row bits a g e i = given-refused g (requestTried row bits) ∙ ap (λ (y : Told StaticRequest). whatIsGiven y (requestTried row bits)) (rw i at e)
 
-  pub reply-heard : (row : List Seat) (bits : ℕ) (free : Bool) (a : Heard) (c : Call) → heardTold a ≡ heard x → a ≡ Reply c → callTried row bits free c ≡ whatIsGiven (heard x) (callTried row bits free)
-  reply-heard row bits free a c e i = ap (λ (y : Told Call). whatIsGiven y (callTried row bits free)) (rw i at e)
+  pub reply-heard : (row : List Seat) (bits : ℕ) (free : Bool) (a : ReplyCheck) (l : ReplyLabel) → CheckedAs x a → a ≡ Good l → labelTried row bits free l ≡ whatIsGiven (heard x) (labelTried row bits free)
+  unfolding heard
+  reply-heard row bits free a l e i = ap (λ (y : Told ReplyLabel). whatIsGiven y (labelTried row bits free)) (rw i at e)
 
-  pub reply-refused : (row : List Seat) (bits : ℕ) (free : Bool) (a : Heard) (g : ReadRefusal) → heardTold a ≡ heard x → a ≡ not-reply g → readRefused g ≡ whatIsGiven (heard x) (callTried row bits free)
-  reply-refused row bits free a g e i = given-refused g (callTried row bits free) ∙ ap (λ (y : Told Call). whatIsGiven y (callTried row bits free)) (rw i at e)
+  pub reply-refused : (row : List Seat) (bits : ℕ) (free : Bool) (a : ReplyCheck) (g : ReadRefusal) → CheckedAs x a → a ≡ not-reply g → readRefused g ≡ whatIsGiven (heard x) (labelTried row bits free)
+  unfolding heard
+  reply-refused row bits free a g e i = given-refused g (labelTried row bits free) ∙ ap (λ (y : Told ReplyLabel). whatIsGiven y (labelTried row bits free)) (rw i at e)
 
 -- ---- DESK is tried first
 
@@ -62,7 +66,7 @@ module _ (m : Memory) (f : List ℕ) where
   unfolding openTried
   open-off d = rw d
 
-  pub reply-on : isDesk m ≡ true → whatIsGiven (heard f) (callTried (m .row) (m .bits) (ltb (m .count) (capacity m))) ≡ replyTried m f
+  pub reply-on : isDesk m ≡ true → whatIsGiven (heard f) (labelTried (m .row) (m .bits) (ltb (m .count) (capacity m))) ≡ replyTried m f
   unfolding replyTried
   reply-on d = rw d
 
@@ -99,8 +103,8 @@ module _ (m : Memory) (f : List ℕ) where
 -- ---- the outcome of a reply
 
 -- a copy of all of a frame
-pub with-cell : (cells : List ℕ) (at : ℕ) (f : List ℕ) → length f ≡ 51 → paste cells at f 51 ≡ withCell cells at f
-with-cell cells at f l = ap (λ (x : List ℕ). take at cells ++ x ++ drop (at + 51) cells) (take-all 51 f (omega arith))
+pub with-cell : (cells : List ℕ) (at : ℕ) (f : List ℕ) → length f ≡ cellSize → paste cells at f cellSize ≡ withCell cells at f
+with-cell cells at f l = ap (λ (x : List ℕ). take at cells ++ x ++ drop (at + cellSize) cells) (take-all cellSize f (omega arith))
 
 module _ (m : Memory) (f : List ℕ) where
   pub reply-done : (t : Taking) (after : Memory) → gives t ≡ replyTried m f → after ≡ taken m f t → Did (gives (t .seat)) after (replies m f)

@@ -7,32 +7,32 @@ use lib.Dec.{eqb, ltb, leb}
 use Rattle.digits.specs.Told.{Told, gives, refuses, Sure}
 use Rattle.digits.proofs.Sure.{sure-number, sure-gives, sure-tried}
 use Rattle.frames.specs.Request.{request}
-use Rattle.frames.specs.Reply.{reply}
+use Rattle.frames.specs.Reply.{reply, labelOf, labelled}
 use Rattle.frames.specs.Kind.{read}
 use Rattle.frames.specs.declared.request.StaticRequest.{StaticRequest}
 use Rattle.frames.specs.declared.reply.StaticReply.{StaticReply}
+use Rattle.frames.specs.declared.reply.ReplyLabel.{ReplyLabel}
 use Rattle.frames.proofs.HeadLaws.{sure-read}
 use Rattle.desk.specs.declared.state.Seat.{Seat}
-use Rattle.desk.specs.declared.call.Key.{Key}
-use Rattle.desk.specs.declared.call.Call.{Call}
+use Rattle.desk.specs.declared.key.Key.{Key}
 use Rattle.desk.specs.declared.opening.Opening.{Opening}
 use Rattle.desk.specs.declared.reply.Taking.{Taking}
 use Rattle.desk.specs.Limits.{seatCount}
-use Rattle.desk.specs.Key.{requestKey}
+use Rattle.desk.specs.Key.{requestKey, keyIn}
 use Rattle.desk.specs.Seats.{seatWith, lowestClear}
-use Rattle.desk.specs.Call.{callOf, called, heard, inPlace}
+use Rattle.desk.specs.Hearing.{heard, inPlace}
 use Rattle.desk.specs.Memory.{Memory, capacity}
-use Rattle.desk.specs.Desk.{isDesk, sixteenSeats}
-use Rattle.desk.specs.Calls.{DESK, NO-ANSWER-DUE, IN-USE, NO-SEAT, STRAY, ENDED, OUT-OF-PLACE, FULL, Outcome, whatIsGiven, letterQ, over, keyTried, requestTried, openTried, openOutcome, opens, seatTried, callTried, replyTried, replyOutcome, replies, emptied, resets}
+use Rattle.desk.specs.Desk.{isDesk, allSeats}
+use Rattle.desk.specs.Calls.{DESK, NO-ANSWER-DUE, IN-USE, NO-SEAT, STRAY, ENDED, OUT-OF-PLACE, FULL, Outcome, whatIsGiven, letterQ, over, keyTried, requestTried, openTried, openOutcome, opens, seatTried, labelTried, replyTried, replyOutcome, replies, emptied, resets}
 
 module _ {A B : Type 0} where
   sure-given : (t : Told A) (further : A → Told B) → Sure t → ((a : A) → Sure (further a)) → Sure (whatIsGiven t further)
   sure-given (gives a) further s f = f a
   sure-given (refuses n o) further s f = sure-number n o (s n o refl)
 
-sure-called : (t : Told StaticReply) → Sure t → Sure (called t)
-sure-called (gives r) s = sure-gives (callOf r)
-sure-called (refuses n o) s = sure-number n o (s n o refl)
+sure-labelled : (t : Told StaticReply) → Sure t → Sure (labelled t)
+sure-labelled (gives r) s = sure-gives (labelOf r)
+sure-labelled (refuses n o) s = sure-number n o (s n o refl)
 
 sure-opened : (m : Memory) (t : Told Opening) → Sure t → Sure (openOutcome m t .answer)
 sure-opened m (gives o) s = sure-gives (o .seat)
@@ -61,9 +61,9 @@ sure-seat s free t =
     (sure-tried free FULL 0 _ (λ _. refl)
     (sure-gives t)))
 
-sure-call : (row : List Seat) (bits : ℕ) (free : Bool) (c : Call) → Sure (callTried row bits free c)
-unfolding callTried
-sure-call row bits free c = sure-tried (ltb (seatWith row bits (c .key)) seatCount) STRAY 0 _ (λ _. refl) (sure-seat _ free _)
+sure-label : (row : List Seat) (bits : ℕ) (free : Bool) (c : ReplyLabel) → Sure (labelTried row bits free c)
+unfolding labelTried
+sure-label row bits free c = sure-tried (ltb (seatWith row bits (keyIn c)) seatCount) STRAY 0 _ (λ _. refl) (sure-seat _ free _)
 
 pub sure-opens : (m : Memory) (f : List ℕ) → Sure (opens m f .answer)
 unfolding opens openTried
@@ -76,7 +76,7 @@ unfolding replies replyTried heard
 sure-replies m f =
     let free = ltb (m .count) (capacity m) in
     sure-taken m f (replyTried m f)
-    (sure-tried (isDesk m) DESK 0 _ (λ _. refl) (sure-given (heard f) (callTried (m .row) (m .bits) free) (sure-called (read reply f) (sure-read reply f)) (sure-call (m .row) (m .bits) free)))
+    (sure-tried (isDesk m) DESK 0 _ (λ _. refl) (sure-given (heard f) (labelTried (m .row) (m .bits) free) (sure-labelled (read reply f) (sure-read reply f)) (sure-label (m .row) (m .bits) free)))
 
 sure-reset : (b : Bool) (m : Memory) → Sure (cond {A = Outcome} b (record { answer = gives 0; after = emptied m }) (record { answer = refuses DESK 0; after = m }) .answer)
 sure-reset true m = sure-gives 0
@@ -84,4 +84,4 @@ sure-reset false m = sure-number DESK 0 refl
 
 pub sure-resets : (m : Memory) → Sure (resets m .answer)
 unfolding resets
-sure-resets m = sure-reset (sixteenSeats m) m
+sure-resets m = sure-reset (allSeats m) m

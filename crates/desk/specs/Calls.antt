@@ -10,11 +10,11 @@ use Rattle.frames.specs.Kind.{read}
 use Rattle.frames.specs.Request.{request}
 use Rattle.frames.specs.Refusals.{readRefused}
 use Rattle.frames.specs.declared.request.StaticRequest.{StaticRequest}
+use Rattle.frames.specs.declared.reply.ReplyLabel.{ReplyLabel}
 use Rattle.desk.specs.declared.state.Seat.{Seat}
 use Rattle.desk.specs.declared.state.Desk.{Desk}
 use Rattle.desk.specs.declared.state.Emptied.{Emptied}
-use Rattle.desk.specs.declared.call.Key.{Key}
-use Rattle.desk.specs.declared.call.Call.{Call}
+use Rattle.desk.specs.declared.key.Key.{Key}
 use Rattle.desk.specs.declared.held.Held.{Held}
 use Rattle.desk.specs.declared.held.Held.the-variants.{Cell, Nothing}
 use Rattle.desk.specs.declared.opening.Opening.{Opening}
@@ -31,11 +31,11 @@ use Rattle.desk.specs.declared.reply.ReplyDone.{ReplyDone}
 use Rattle.desk.specs.declared.reply.ReplyAnswer.the-variants.{Taken, Refused}
 use Rattle.desk.specs.Limits.{seatCount, cellSize}
 use Rattle.desk.specs.Below.{first, countBelow}
-use Rattle.desk.specs.Key.{requestKey}
-use Rattle.desk.specs.Call.{heard, inPlace, endedBy}
+use Rattle.desk.specs.Key.{requestKey, keyIn}
+use Rattle.desk.specs.Hearing.{heard, inPlace, endedBy}
 use Rattle.desk.specs.Seats.{zeroSeat, seatAt, usedBit, seatWith, lowestClear}
 use Rattle.desk.specs.Memory.{Memory, memory, capacity, capacityOf, markAt}
-use Rattle.desk.specs.Desk.{isDesk, sixteenSeats}
+use Rattle.desk.specs.Desk.{isDesk, allSeats}
 
 -- ---- refusals, by number
 
@@ -105,12 +105,9 @@ openTried m f = tried (isDesk m) DESK 0 (whatIsGiven (read request f) (requestTr
 abbrev pub newSeat : Key → Seat
 newSeat k = record { requester = k .requester; number = k .number; held = 0; ended = 0 }
 
-abbrev pub openedRow : List Seat → Opening → List Seat
-openedRow row o = set row (o .seat) (newSeat (o .key))
-
 -- the seat gets the key, and its bit is set; all else stays
 abbrev pub opened : Memory → Opening → Memory
-opened m o = record { row = openedRow (m .row) o; bits = m .bits + 2 ^ (o .seat); count = m .count; cells = m .cells; marks = m .marks }
+opened m o = record { row = set (m .row) (o .seat) (newSeat (o .key)); bits = m .bits + 2 ^ (o .seat); count = m .count; cells = m .cells; marks = m .marks }
 
 abbrev pub openOutcome : Memory → Told Opening → Outcome
 openOutcome m (gives o) = record { answer = gives (o .seat); after = opened m o }
@@ -132,13 +129,13 @@ seatTried s free t =
     (tried free FULL 0
     (gives t)))
 
-unfoldable pub callTried : List Seat → ℕ → Bool → Call → Told Taking
-callTried row bits free c =
-    tried (ltb (seatWith row bits (c .key)) seatCount) STRAY 0
-    (seatTried (seatAt row (seatWith row bits (c .key))) free (record { seat = seatWith row bits (c .key); status = c .status }))
+unfoldable pub labelTried : List Seat → ℕ → Bool → ReplyLabel → Told Taking
+labelTried row bits free l =
+    tried (ltb (seatWith row bits (keyIn l)) seatCount) STRAY 0
+    (seatTried (seatAt row (seatWith row bits (keyIn l))) free (record { seat = seatWith row bits (keyIn l); status = l .status }))
 
 unfoldable pub replyTried : Memory → List ℕ → Told Taking
-replyTried m f = tried (isDesk m) DESK 0 (whatIsGiven (heard f) (callTried (m .row) (m .bits) (ltb (m .count) (capacity m))))
+replyTried m f = tried (isDesk m) DESK 0 (whatIsGiven (heard f) (labelTried (m .row) (m .bits) (ltb (m .count) (capacity m))))
 
 -- a seat with one record more
 abbrev pub grown : Seat → ℕ → Seat
@@ -148,13 +145,16 @@ grown s status = record { requester = s .requester; number = s .number; held = s
 abbrev pub withCell : List ℕ → ℕ → List ℕ → List ℕ
 withCell cells at f = take at cells ++ f ++ drop (at + cellSize) cells
 
-abbrev pub grownRow : List Seat → Taking → List Seat
-grownRow row t = set row (t .seat) (grown (seatAt row (t .seat)) (t .status))
-
 -- the frame goes to the next cell and its seat to the mark beside it; the seat has one record more; all else stays
 abbrev pub taken : Memory → List ℕ → Taking → Memory
 taken m f t =
-    record { row = grownRow (m .row) t; bits = m .bits; count = m .count + 1; cells = withCell (m .cells) (m .count * cellSize) f; marks = set (m .marks) (m .count) (t .seat) }
+    record {
+      row = set (m .row) (t .seat) (grown (seatAt (m .row) (t .seat)) (t .status));
+      bits = m .bits;
+      count = m .count + 1;
+      cells = withCell (m .cells) (m .count * cellSize) f;
+      marks = set (m .marks) (m .count) (t .seat);
+    }
 
 abbrev pub replyOutcome : Memory → List ℕ → Told Taking → Outcome
 replyOutcome m f (gives t) = record { answer = gives (t .seat); after = taken m f t }
@@ -178,9 +178,9 @@ emptyDesk = record { desk = emptyState; row = emptyRow }
 abbrev pub emptied : Memory → Memory
 emptied m = memory emptyState emptyRow (m .cells) (m .marks)
 
--- refused only if the row is not of sixteen seats; it looks at nothing else
+-- refused only if the row is not of as many seats; it looks at nothing else
 unfoldable pub resets : Memory → Outcome
-resets m = cond (sixteenSeats m) (record { answer = gives 0; after = emptied m }) (record { answer = refuses DESK 0; after = m })
+resets m = cond (allSeats m) (record { answer = gives 0; after = emptied m }) (record { answer = refuses DESK 0; after = m })
 
 -- the ones of a number of 64 bits
 unfoldable pub seatsInUse : ℕ → ℕ

@@ -8,7 +8,7 @@ use Rattle.digits.specs.Told.{Told, gives, refuses}
 use Rattle.frames.specs.Kind.{read}
 use Rattle.frames.specs.Reply.{reply}
 use Rattle.frames.specs.declared.reply.StaticReply.{StaticReply}
-use Rattle.desk.specs.declared.call.Key.{Key}
+use Rattle.desk.specs.declared.key.Key.{Key}
 
 abbrev pub Frame : Type 0
 Frame = List ℕ
@@ -25,26 +25,26 @@ abbrev pub letterIn : Told StaticReply → ℕ
 letterIn (gives r) = r .status
 letterIn (refuses number offset) = 0
 
-abbrev pub isE : Frame → Bool
-isE f = eqb (letterIn (read reply f)) 69
+abbrev pub hasStatusE : Frame → Bool
+hasStatusE f = eqb (letterIn (read reply f)) 69
 
-abbrev pub isZ : Frame → Bool
-isZ f = eqb (letterIn (read reply f)) 90
+abbrev pub hasStatusZ : Frame → Bool
+hasStatusZ f = eqb (letterIn (read reply f)) 90
 
 -- ---- what the request keeps of its frames
 
 abbrev pub withoutZ : List Frame → List Frame
 withoutZ [] = []
-withoutZ (f ∷ fs) = cond (isZ f) (withoutZ fs) (f ∷ withoutZ fs)
+withoutZ (f ∷ fs) = cond (hasStatusZ f) (withoutZ fs) (f ∷ withoutZ fs)
 
 abbrev pub upToE : List Frame → List Frame
 upToE [] = []
-upToE (f ∷ fs) = f ∷ cond (isE f) [] (upToE fs)
+upToE (f ∷ fs) = f ∷ cond (hasStatusE f) [] (upToE fs)
 
 -- a first Z alone; otherwise all up to the first E, without the Zs
 abbrev pub keptFirst : List Frame → List Frame
 keptFirst [] = []
-keptFirst (f ∷ fs) = cond (isZ f) (f ∷ []) (upToE (withoutZ (f ∷ fs)))
+keptFirst (f ∷ fs) = cond (hasStatusZ f) (f ∷ []) (upToE (withoutZ (f ∷ fs)))
 
 -- `any` says that it holds records already, `ended` that it had its ending one
 abbrev pub kept : Bool → Bool → List Frame → List Frame
@@ -62,12 +62,12 @@ saidEnded (f ∷ fs) = refuses 14 0 ∷ saidEnded fs
 -- among records a Z is OUT OF PLACE, which is 15; any other is taken
 abbrev pub saidAmong : ℕ → List Frame → List (Told ℕ)
 saidAmong s [] = []
-saidAmong s (f ∷ fs) = cond (isZ f) (refuses 15 0 ∷ saidAmong s fs) (gives s ∷ cond (isE f) (saidEnded fs) (saidAmong s fs))
+saidAmong s (f ∷ fs) = cond (hasStatusZ f) (refuses 15 0 ∷ saidAmong s fs) (gives s ∷ cond (hasStatusE f) (saidEnded fs) (saidAmong s fs))
 
 -- a first Z is taken, and ends
 abbrev pub saidFirst : ℕ → List Frame → List (Told ℕ)
 saidFirst s [] = []
-saidFirst s (f ∷ fs) = cond (isZ f) (gives s ∷ saidEnded fs) (saidAmong s (f ∷ fs))
+saidFirst s (f ∷ fs) = cond (hasStatusZ f) (gives s ∷ saidEnded fs) (saidAmong s (f ∷ fs))
 
 abbrev pub said : ℕ → Bool → Bool → List Frame → List (Told ℕ)
 said s any true fs = saidEnded fs

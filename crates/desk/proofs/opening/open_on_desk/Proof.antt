@@ -8,7 +8,7 @@ use lib.ListN.{set}
 use Rattle.digits.specs.Told.{gives}
 use Rattle.desk.specs.Memory.{Memory, memory}
 use Rattle.desk.specs.Calls.{openTried, opens, openRefused, Did}
-use Rattle.desk.specs.Inside.{openJudged}
+use Rattle.desk.specs.inside.Judging.{openJudged}
 use Rattle.desk.proofs.StepLaws.{Opens, opens-taken}
 use Rattle.desk.proofs.OutcomeLaws.{same-first, open-on, opening-done, not-opened}
 use borrow.Author.Needs.{needs}
@@ -37,7 +37,7 @@ enum-known-opening : tie.Need-enum-known-opening
 enum-known-opening c = search needs
 
 opened-state-requires : tie.Need-opened-state-requires
-opened-state-requires c κs = (known (c .before .before) .below, known (c .before .before) .facts .bits)
+opened-state-requires c κs = let k = known (c .before .before) in (k .below, (k .facts .bits, k .clear))
 
 new-seat-requires : tie.Need-new-seat-requires
 new-seat-requires c κs = search needs
