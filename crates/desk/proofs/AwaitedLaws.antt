@@ -58,7 +58,7 @@ module _ (m : Memory) where
       (λ n.
       let l = ltb-false _ seatCount n in
       rw n (count-none seatCount (keyedAt (m .row) (m .bits) (keyIn c)) (fresh-below (m .row) (m .bits) (keyIn c) l)))
-  one-label d (refuses number offset) = count-none seatCount _ (λ k l. and-false-r (usedBit (m .bits) k) refl)
+  one-label d (refuses why) = count-none seatCount _ (λ k l. and-false-r (usedBit (m .bits) k) refl)
 
   one-own : Facts m → (e : Event) → countBelow seatCount (own e) ≡ cond (expected m e) 1 0
   unfolding addressed

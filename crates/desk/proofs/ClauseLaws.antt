@@ -15,7 +15,6 @@ use Rattle.frames.specs.Reply.{checkTold}
 use Rattle.frames.specs.declared.refusals.ReadRefusal.{ReadRefusal}
 use Rattle.frames.specs.declared.reply.ReplyCheck.{ReplyCheck}
 use Rattle.frames.specs.declared.reply.ReplyCheck.the-variants.{Refused as not-heard}
-use Rattle.frames.proofs.RefusalLaws.{read-refuses}
 use Rattle.desk.specs.declared.state.Seat.{Seat}
 use Rattle.desk.specs.declared.clauses.View.{View}
 use Rattle.desk.specs.declared.clauses.Turn.{Turn}
@@ -250,7 +249,7 @@ if-no {a = a} {x = x} {r = r} {d = d} b e t q = q ∙ sym (ap (λ (z : Bool). co
 pub turn-refused : (v : View) (seat : Seat) (g : ReplyCheck) (x : ReadRefusal) → g ≡ not-heard x
     → _≡_ {A = Turn} (record { good = false; view = record { held = v .held + 1; ended = 0 } }) (turnOf v seat (checkTold g))
 unfolding turnOf
-turn-refused v seat g x e = sym (ap (turnOf v seat) (ap checkTold e ∙ read-refuses x))
+turn-refused v seat g x e = sym (ap (turnOf v seat) (ap checkTold e))
 
 -- ---- the loop over the rows
 

@@ -20,13 +20,13 @@ read-long : {R : Type 0} (k : Kind R) (s : List ℕ) (r : R) → read k s ≡ gi
 unfolding read headTold
 read-long k s r e =
     let h = then-gives (headTold (k .lead) (k .size) s) _ r e in
-    let a = tried-gives (leadIs (k .lead) s) _ _ _ _ (h .0) in
-    let b = tried-gives (eqb (length s) (k .size)) _ _ _ _ (a .1) in
+    let a = tried-gives (leadIs (k .lead) s) _ _ _ (h .0) in
+    let b = tried-gives (eqb (length s) (k .size)) _ _ _ (a .1) in
     eqb-true _ _ (b .0)
 
 labelled-gives : (x : Told StaticReply) (l : ReplyLabel) → labelled x ≡ gives l → (r : StaticReply) × (x ≡ gives r)
 labelled-gives (gives r) l e = (r, refl)
-labelled-gives (refuses n o) l e = absurd (let z : _≡_ {A = ℕ} 0 1 = cc in omega arith)
+labelled-gives (refuses why) l e = absurd (let z : _≡_ {A = ℕ} 0 1 = cc in omega arith)
 
 pub heard-long : (f : List ℕ) (l : ReplyLabel) → heard f ≡ gives l → length f ≡ cellSize
 unfolding heard

@@ -34,7 +34,7 @@ read-fine : (f : List ℕ) (r : StaticRequest) → read request f ≡ gives r �
 unfolding read wrongIn
 read-fine f r e =
     let h = then-gives (headTold 17 24 f) _ r e in
-    let t = tried-gives (eqb (firstWrong requestFields 3 f) 0) _ _ _ r (h .1) in
+    let t = tried-gives (eqb (firstWrong requestFields 3 f) 0) _ _ r (h .1) in
     let is : request .ofValues (values requestFields 3 f) ≡ r = let g = t .1 in cc in
     let z = eqb-true (firstWrong requestFields 3 f) 0 (t .0) in
     rw (← is, request-plain .again f) (values-fine (request-plain .sound) 3 f z)

@@ -56,7 +56,7 @@ leaves-by m f (gives t) e =
       cells-behind = rw (after-taken m f t e) (drop-cell (m .cells) (m .count * cellSize) f storeSize (r .cells) (r .frame) (omega (arith, r .count)));
       marks-behind = rw (after-taken m f t e) (drop-set (m .marks) mostCells (m .count) (t .seat) (r .count));
     }
-leaves-by m f (refuses n o) e = rw (after-refused m f n o e) (same m)
+leaves-by m f (refuses why) e = rw (after-refused m f why e) (same m)
 
 open-leaves : (m : Memory) (f : List ℕ) → Leaves m (opens m f .after)
 open-leaves m f =

@@ -40,7 +40,7 @@ module _ {A B : Type 0} where
 
   given : (x : Told A) (further : A → Told B) (b : B) → whatIsGiven x further ≡ gives b → Given x further b
   given (gives a) further b e = record { one = a; is = refl; rest = e }
-  given (refuses n o) further b e = absurd (let z : _≡_ {A = ℕ} 0 1 = cc in omega arith)
+  given (refuses why) further b e = absurd (let z : _≡_ {A = ℕ} 0 1 = cc in omega arith)
 
 -- ---- the seat that is found is in use and has the key
 
@@ -73,9 +73,9 @@ took-seat : (m : Memory) (f : List ℕ) (t : Taking) (c : ReplyLabel) (s : ℕ) 
     → seatTried (seatAt (m .row) s) (ltb (m .count) (capacity m)) (record { seat = s; status = c .status }) ≡ gives t → Took m f t
 unfolding seatTried
 took-seat m f t c s facts h e l q =
-    let a = tried-gives (not (over (seatAt (m .row) s))) _ _ _ t q in
-    let b = tried-gives (inPlace (seatAt (m .row) s .held) (c .status)) _ _ _ t (a .1) in
-    let d = tried-gives (ltb (m .count) (capacity m)) _ _ _ t (b .1) in
+    let a = tried-gives (not (over (seatAt (m .row) s))) _ _ t q in
+    let b = tried-gives (inPlace (seatAt (m .row) s .held) (c .status)) _ _ t (a .1) in
+    let d = tried-gives (ltb (m .count) (capacity m)) _ _ t (b .1) in
     let g = d .1 in
     let is : record { seat = s; status = c .status } ≡ t = cc in
     let p : s ≡ t .seat = ap (λ (x : Taking). x .seat) is in
@@ -95,10 +95,10 @@ took-seat m f t c s facts h e l q =
 pub took : (m : Memory) (f : List ℕ) (t : Taking) → replyTried m f ≡ gives t → Took m f t
 unfolding replyTried labelTried
 took m f t q =
-    let d = tried-gives (isDesk m) _ _ _ t q in
+    let d = tried-gives (isDesk m) _ _ t q in
     let g = given (heard f) (labelTried (m .row) (m .bits) (ltb (m .count) (capacity m))) t (d .1) in
     let s = seatWith (m .row) (m .bits) (keyIn (g .one)) in
-    let l = tried-gives (ltb s seatCount) _ _ _ t (g .rest) in
+    let l = tried-gives (ltb s seatCount) _ _ t (g .rest) in
     took-seat m f t (g .one) s (desk-facts m (d .0)) (g .is) refl (ltb-true s seatCount (l .0)) (l .1)
 
 module _ (m : Memory) (f : List ℕ) (t : Taking) (k : Took m f t) where
@@ -151,8 +151,8 @@ lowest-is-clear bits l = not-true _ (first-sound 64 (clearAt bits) (omega arith)
 opens-key : (m : Memory) (f : List ℕ) (o : Opening) (r : StaticRequest) → Facts m → read request f ≡ gives r → keyTried (m .row) (m .bits) (requestKey r) ≡ gives o → Opens m f o
 unfolding keyTried
 opens-key m f o r facts e q =
-    let a = tried-gives (leb seatCount (seatWith (m .row) (m .bits) (requestKey r))) _ _ _ o q in
-    let b = tried-gives (ltb (lowestClear (m .bits)) seatCount) _ _ _ o (a .1) in
+    let a = tried-gives (leb seatCount (seatWith (m .row) (m .bits) (requestKey r))) _ _ o q in
+    let b = tried-gives (ltb (lowestClear (m .bits)) seatCount) _ _ o (a .1) in
     let g = b .1 in
     let is : record { seat = lowestClear (m .bits); key = requestKey r } ≡ o = cc in
     let p : lowestClear (m .bits) ≡ o .seat = ap (λ (x : Opening). x .seat) is in
@@ -172,7 +172,7 @@ opens-key m f o r facts e q =
 pub opens-taken : (m : Memory) (f : List ℕ) (o : Opening) → openTried m f ≡ gives o → Opens m f o
 unfolding openTried requestTried
 opens-taken m f o q =
-    let d = tried-gives (isDesk m) _ _ _ o q in
+    let d = tried-gives (isDesk m) _ _ o q in
     let g = given (read request f) (requestTried (m .row) (m .bits)) o (d .1) in
-    let a = tried-gives (not (eqb (g .one .information) 113)) _ _ _ o (g .rest) in
+    let a = tried-gives (not (eqb (g .one .information) 113)) _ _ o (g .rest) in
     opens-key m f o (g .one) (desk-facts m (d .0)) (g .is) (a .1)

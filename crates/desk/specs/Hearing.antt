@@ -18,7 +18,7 @@ heard f = labelled (read reply f)
 -- a well formed reply with this key
 abbrev pub hasKey : Key → Told ReplyLabel → Bool
 hasKey k (gives l) = sameKey k (keyIn l)
-hasKey k (refuses number offset) = false
+hasKey k (refuses f) = false
 
 -- ---- status: R is one record of an answer, E its last, Z says that there is none
 
@@ -35,8 +35,8 @@ endedBy status = cond (ends status) 1 0
 
 abbrev pub statusIn : Told ReplyLabel → ℕ
 statusIn (gives l) = l .status
-statusIn (refuses number offset) = 0
+statusIn (refuses f) = 0
 
 abbrev pub endedIn : Told ReplyLabel → ℕ
 endedIn (gives l) = endedBy (l .status)
-endedIn (refuses number offset) = 0
+endedIn (refuses f) = 0

@@ -79,7 +79,7 @@ answersTo k m (e ∷ es) =
 -- a well formed reply with the key of an open request
 abbrev pub seated : Memory → Told ReplyLabel → Bool
 seated m (gives l) = ltb (seatWith (m .row) (m .bits) (keyIn l)) seatCount
-seated m (refuses number offset) = false
+seated m (refuses f) = false
 
 abbrev pub expected : Memory → Event → Bool
 expected m (toOpen f) = false

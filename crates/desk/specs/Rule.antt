@@ -4,6 +4,7 @@ use Prim.Native.Nat.{ℕ}
 use mathlib.Core.List.{List, [], _∷_}
 use mathlib.Core.Bool.{Bool, true, false, cond, _&&_}
 use lib.Dec.{eqb}
+use Rattle.digits.specs.Refusals.{plain}
 use Rattle.digits.specs.Told.{Told, gives, refuses}
 use Rattle.frames.specs.Kind.{read}
 use Rattle.frames.specs.Reply.{reply}
@@ -17,13 +18,13 @@ Frame = List ℕ
 
 abbrev pub isTo : Key → Told StaticReply → Bool
 isTo k (gives r) = eqb (k .requester) (r .requester) && eqb (k .number) (r .number)
-isTo k (refuses number offset) = false
+isTo k (refuses f) = false
 
 -- ---- its status: R, E or Z
 
 abbrev pub letterIn : Told StaticReply → ℕ
 letterIn (gives r) = r .status
-letterIn (refuses number offset) = 0
+letterIn (refuses f) = 0
 
 abbrev pub hasStatusE : Frame → Bool
 hasStatusE f = eqb (letterIn (read reply f)) 69
@@ -57,12 +58,12 @@ kept false false fs = keptFirst fs
 -- after the ending one each is ENDED, which is 14
 abbrev pub saidEnded : List Frame → List (Told ℕ)
 saidEnded [] = []
-saidEnded (f ∷ fs) = refuses 14 0 ∷ saidEnded fs
+saidEnded (f ∷ fs) = refuses (plain 14) ∷ saidEnded fs
 
 -- among records a Z is OUT OF PLACE, which is 15; any other is taken
 abbrev pub saidAmong : ℕ → List Frame → List (Told ℕ)
 saidAmong s [] = []
-saidAmong s (f ∷ fs) = cond (hasStatusZ f) (refuses 15 0 ∷ saidAmong s fs) (gives s ∷ cond (hasStatusE f) (saidEnded fs) (saidAmong s fs))
+saidAmong s (f ∷ fs) = cond (hasStatusZ f) (refuses (plain 15) ∷ saidAmong s fs) (gives s ∷ cond (hasStatusE f) (saidEnded fs) (saidAmong s fs))
 
 -- a first Z is taken, and ends
 abbrev pub saidFirst : ℕ → List Frame → List (Told ℕ)

@@ -1,4 +1,6 @@
 // Bytes and numbers at places of lent memory, read and written. Every function takes any slice, any place and any width.
+pub mod refusal;
+
 ghost use mathlib.Core.Path.{_≡_};
 ghost use Prim.Native.Nat.{_+_, min};
 ghost use lib.ListN.{getD, set};

@@ -5,7 +5,7 @@ use native.Mathlib.Omega.{arith}
 use Prim.Native.Nat.{ℕ, _+_, _*_}
 use denote.Ref.{now}
 use lib.ListN.{set}
-use Rattle.digits.specs.Told.{gives}
+use Rattle.digits.specs.Told.{gives, refuses}
 use Rattle.desk.specs.Limits.{cellSize}
 use Rattle.desk.specs.Memory.{Memory, memory}
 use Rattle.desk.specs.Calls.{replyTried, replies, replyRefused, Did}
@@ -98,7 +98,7 @@ returns-2 c =
     let m = M (c .before .before .before .before) in
     let f = F (c .before .before .before .before) in
     let r = c .before .before .refusal .given .0 .0 in
-    (omega arith, subst (λ (x : Memory). Did (replyRefused r) x (replies m f)) (sym (same-first m)) (not-taken m f r (rw (c .before .before .refusal .given .1) at (tried (c .before .before .before .before)))))
+    (omega arith, subst (λ (x : Memory). Did (refuses (replyRefused r)) x (replies m f)) (sym (same-first m)) (not-taken m f (replyRefused r) (rw (c .before .before .refusal .given .1) at (tried (c .before .before .before .before)))))
 
 pub reply-on-desk-spec : {M : Type 1} → statement M
 reply-on-desk-spec =
