@@ -1,11 +1,10 @@
 -- How the steps of a call make up its outcome. Assumes nothing.
-use Prim.Native.Nat.{ℕ, _+_}
-use mathlib.Core.List.{List, _++_}
-use mathlib.Core.Bool.{Bool, true, false}
+use Prim.Native.Nat.{ℕ}
+use mathlib.Core.List.{List}
+use mathlib.Core.Bool.{true, false}
 use mathlib.Core.Path.{_≡_, refl, ap}
-use native.Mathlib.Omega.{arith}
-use lib.ListN.{length, set, take, drop}
-use lib.Seq.{paste, take-all, set-getD}
+use lib.ListN.{set}
+use lib.Seq.{set-getD}
 use lib.Dec.{ltb}
 use Rattle.digits.specs.declared.refusal.Refusal.{Refusal}
 use Rattle.digits.specs.Refusals.{DESK}
@@ -14,12 +13,11 @@ use Rattle.frames.specs.Kind.{read}
 use Rattle.frames.specs.Request.{request}
 use Rattle.desk.specs.declared.opening.Opening.{Opening}
 use Rattle.desk.specs.declared.reply.Taking.{Taking}
-use Rattle.desk.specs.Limits.{cellSize}
 use Rattle.desk.specs.Hearing.{heard}
 use Rattle.desk.specs.Seats.{zeroSeat, seatAt}
 use Rattle.desk.specs.Memory.{Memory, capacity}
 use Rattle.desk.specs.Desk.{isDesk}
-use Rattle.desk.specs.Calls.{whatIsGiven, requestTried, openTried, labelTried, replyTried, opens, opened, replies, taken, withCell, Did}
+use Rattle.desk.specs.Calls.{whatIsGiven, requestTried, openTried, labelTried, replyTried, opens, opened, replies, taken, Did}
 
 -- ---- what is tried further of an answer that is known
 
@@ -48,7 +46,7 @@ module _ (m : Memory) (f : List ℕ) where
 
 -- ---- a step of the code that changes no seat tells the first, as it is
 
-abbrev pub sameFirst : Memory → Memory
+abbrev sameFirst : Memory → Memory
 sameFirst m = record { row = set (m .row) 0 (seatAt (m .row) 0); bits = m .bits; count = m .count; cells = m .cells; marks = m .marks }
 
 pub same-first : (m : Memory) → sameFirst m ≡ m
@@ -66,10 +64,6 @@ module _ (m : Memory) (f : List ℕ) where
   not-opened why e = rw (← e) (record { answer = refl; memory = refl })
 
 -- ---- the outcome of a reply
-
--- a copy of all of a frame
-pub with-cell : (cells : List ℕ) (at : ℕ) (f : List ℕ) → length f ≡ cellSize → paste cells at f cellSize ≡ withCell cells at f
-with-cell cells at f l = ap (λ (x : List ℕ). take at cells ++ x ++ drop (at + cellSize) cells) (take-all cellSize f (omega arith))
 
 module _ (m : Memory) (f : List ℕ) where
   pub reply-done : (t : Taking) (after : Memory) → gives t ≡ replyTried m f → after ≡ taken m f t → Did (gives (t .seat)) after (replies m f)
