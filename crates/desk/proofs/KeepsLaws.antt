@@ -22,7 +22,7 @@ use Rattle.desk.specs.Capture.{fates, afterAll, countsOf}
 use Rattle.desk.specs.Keeps.{RefusedKeeps, SameSeat, KeepsMemory}
 use Rattle.desk.proofs.StepLaws.{took, took-room, opens-taken}
 use Rattle.desk.proofs.DeskLaws.{length-with, taken-other, records-other, opened-other, other-bit}
-use Rattle.desk.proofs.MixLaws.{after-taken, after-refused, after-opened, after-not-opened}
+use Rattle.desk.proofs.MixLaws.{after-taken, after-refused, after-opened, after-not-opened, lent}
 
 getD-front : (a r : List ℕ) (j : ℕ) → j < length a → getD (a ++ r) j 0 ≡ getD a j 0
 getD-front a r j l = sym (getD-take (length a) (a ++ r) j 0 l) ∙ ap (λ (x : List ℕ). getD x j 0) (take-at a r (length a) refl)
@@ -51,18 +51,6 @@ module _ (m : Memory) (f : List ℕ) where
   not-opened : (why : Refusal) → opens m f .answer ≡ refuses why → (a : Told Opening) → openTried m f ≡ a → opens m f .after ≡ m
   not-opened why h (gives o) e = absurd (not-refused (o .seat) why (rw (after-opened m f o e) at h))
   not-opened why h (refuses g) e = rw (after-not-opened m f g e)
-
-  lends-count : (a : Told Opening) → openTried m f ≡ a → opens m f .after .count ≡ m .count
-  lends-count (gives o) e = rw (after-opened m f o e)
-  lends-count (refuses why) e = rw (after-not-opened m f why e)
-
-  lends-cells : (a : Told Opening) → openTried m f ≡ a → opens m f .after .cells ≡ m .cells
-  lends-cells (gives o) e = rw (after-opened m f o e)
-  lends-cells (refuses why) e = rw (after-not-opened m f why e)
-
-  lends-marks : (a : Told Opening) → openTried m f ≡ a → opens m f .after .marks ≡ m .marks
-  lends-marks (gives o) e = rw (after-opened m f o e)
-  lends-marks (refuses why) e = rw (after-not-opened m f why e)
 
   -- ---- replies
 
@@ -142,9 +130,9 @@ pub keeps-memory : KeepsMemory
 keeps-memory = record {
   opening-others = λ m f s h i n. opened-else m f s i n h (openTried m f) refl;
   reply-others = λ m f s h i n. taken-else m f s i n h (replyTried m f) refl;
-  opening-count = λ m f. lends-count m f (openTried m f) refl;
-  opening-cells = λ m f. lends-cells m f (openTried m f) refl;
-  opening-marks = λ m f. lends-marks m f (openTried m f) refl;
+  opening-count = λ m f. lent m f .count;
+  opening-cells = λ m f. lent m f .cells;
+  opening-marks = λ m f. lent m f .marks;
   reply-bits = λ m f. same-bits m f (replyTried m f) refl;
   reply-sizes = λ m f. sizes m f (replyTried m f) refl;
   cells-before = λ m f j l. front-cells m f j l (replyTried m f) refl;
