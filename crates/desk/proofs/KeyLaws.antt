@@ -4,18 +4,19 @@ use mathlib.Core.List.{List}
 use mathlib.Core.Bool.{true}
 use mathlib.Core.Path.{_≡_, refl}
 use native.Mathlib.Omega.{arith}
+use lib.ListN.{length, replicate, length-replicate}
 use lib.Dec.{eqb, leb}
 use borrow.Author.Tests.{eqb-true, eq-eqb}
 use Rattle.digits.specs.Told.{gives}
 use Rattle.digits.proofs.Tests.{and-l, and-r, and-true}
 use Rattle.frames.specs.declared.request.StaticRequest.{StaticRequest}
-use Rattle.frames.specs.Rules.{upTo, isRequester}
-use Rattle.frames.specs.Layout.{firstWrong, values, recordWrong}
-use Rattle.frames.specs.Kind.{headTold, read, wrongIn}
+use Rattle.frames.specs.Rules.{upTo, space, isAddress, isRequester}
+use Rattle.frames.specs.Layout.{recordWrong}
+use Rattle.frames.specs.Kind.{read, wrongIn, writeTried}
 use Rattle.frames.specs.Request.{request, requestFields}
-use Rattle.frames.proofs.HeadLaws.{tried-gives, then-gives}
-use Rattle.frames.proofs.LayoutLaws.{unless-none, values-fine}
-use Rattle.frames.proofs.RequestLaws.{request-plain}
+use Rattle.frames.proofs.HeadLaws.{tried-gives}
+use Rattle.frames.proofs.LayoutLaws.{unless-none}
+use Rattle.frames.proofs.RequestLaws.{request-faithful}
 use Rattle.desk.specs.declared.key.Key.{Key}
 use Rattle.desk.specs.Key.{requestKey, sameKey, isKey}
 
@@ -30,19 +31,19 @@ pub own-key : (k : Key) → sameKey k k ≡ true
 unfolding sameKey
 own-key k = and-true (eq-eqb (k .requester) (k .requester) refl) (eq-eqb (k .number) (k .number) refl)
 
+-- a request that was read is well formed
 read-fine : (f : List ℕ) (r : StaticRequest) → read request f ≡ gives r → wrongIn request r ≡ 0
-unfolding read wrongIn
+unfolding writeTried
 read-fine f r e =
-    let h = then-gives (headTold 17 24 f) _ r e in
-    let t = tried-gives (eqb (firstWrong requestFields 3 f) 0) _ _ r (h .1) in
-    let is : request .ofValues (values requestFields 3 f) ≡ r = let g = t .1 in cc in
-    let z = eqb-true (firstWrong requestFields 3 f) 0 (t .0) in
-    rw (← is, request-plain .again f) (values-fine (request-plain .sound) 3 f z)
+    let size : length {A = ℕ} (replicate (request .size) 0) ≡ request .size = length-replicate {A = ℕ} (request .size) 0 in
+    let w = request-faithful .writes-again f r e (replicate (request .size) 0) (omega (arith, size)) in
+    eqb-true (wrongIn request r) 0 (tried-gives (eqb (wrongIn request r) 0) _ _ tt (w .0) .0)
 
 -- a request that was read has a legal key
 pub request-legal : (f : List ℕ) (r : StaticRequest) → read request f ≡ gives r → isKey (requestKey r) ≡ true
 unfolding wrongIn requestFields recordWrong isKey upTo
 request-legal f r e =
-    let a = unless-none (isRequester (r .requester)) 3 _ (omega arith) (read-fine f r e) in
+    let z = unless-none (isAddress space) 2 _ (omega arith) (read-fine f r e) in
+    let a = unless-none (isRequester (r .requester)) 3 _ (omega arith) (z .1) in
     let b = unless-none (leb (r .number) 999) 4 _ (omega arith) (a .1) in
     and-true (a .0) (b .0)
