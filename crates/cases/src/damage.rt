@@ -1,12 +1,14 @@
 // Every damage of one byte: each place of a frame, each of the 256 values.
 use digits::byte_at;
 use digits::put_byte;
+use digits::refusal::Refusal;
 use frames::dynamic::DynamicRead;
 use frames::dynamic::DynamicRequest;
 use frames::dynamic::read_dynamic;
 use frames::dynamic::write_dynamic;
 use frames::refusals::ReadVerdict;
 use frames::refusals::WriteAnswer;
+use frames::refusals::of_reading;
 use frames::reply::StaticReply;
 use frames::reply::read_reply;
 use frames::reply::write_reply;
@@ -16,9 +18,7 @@ use frames::request::read_request;
 use frames::request::write_request;
 use spelling::line;
 use spelling::print;
-use spelling::told::Told;
 use spelling::told::done;
-use spelling::told::read_told;
 
 // Which reader and writer a case is for.
 pub enum Damaged {
@@ -64,25 +64,25 @@ fn damage_place(kind: Damaged, frame: &mut [u8], place: usize) {
     put_byte(frame, place, own);
 }
 
-fn same_told(a: Told, b: Told) -> bool {
+fn same_told(a: Refusal, b: Refusal) -> bool {
     (a.number == b.number) & (a.offset == b.offset)
 }
 
-fn print_run(count: u64, t: Told) {
+fn print_run(count: u64, t: Refusal) {
     print::space();
     print::decimal(count);
     print::text(b"*");
-    print::decimal(t.number);
+    print::decimal(t.number as u64);
     print::text(b".");
-    print::decimal(t.offset);
+    print::decimal(t.offset as u64);
 }
 
-fn answer_with(kind: Damaged, frame: &mut [u8], place: usize, value: u8) -> Told {
+fn answer_with(kind: Damaged, frame: &mut [u8], place: usize, value: u8) -> Refusal {
     put_byte(frame, place, value);
     answer_to(kind, frame)
 }
 
-fn answer_to(kind: Damaged, frame: &[u8]) -> Told {
+fn answer_to(kind: Damaged, frame: &[u8]) -> Refusal {
     match kind {
         Damaged::Request => request_answer(frame),
         Damaged::Reply => reply_answer(frame),
@@ -90,64 +90,64 @@ fn answer_to(kind: Damaged, frame: &[u8]) -> Told {
     }
 }
 
-fn request_answer(frame: &[u8]) -> Told {
+fn request_answer(frame: &[u8]) -> Refusal {
     match read_request(frame) {
         RequestRead::Request(r) => request_again(r, frame),
-        RequestRead::Refused(f) => read_told(f),
+        RequestRead::Refused(f) => of_reading(f),
     }
 }
 
-fn request_again(r: StaticRequest, frame: &[u8]) -> Told {
+fn request_again(r: StaticRequest, frame: &[u8]) -> Refusal {
     let mut out = [0u8; 24];
     let a = write_request(r, &mut out);
     own_bytes(a, &out, frame)
 }
 
-fn reply_answer(frame: &[u8]) -> Told {
+fn reply_answer(frame: &[u8]) -> Refusal {
     let a = read_reply(frame);
     let verdict = a.verdict;
     let r = a.reply;
     match verdict {
         ReadVerdict::Read => reply_again(r, frame),
-        ReadVerdict::Refused(f) => read_told(f),
+        ReadVerdict::Refused(f) => of_reading(f),
     }
 }
 
-fn reply_again(r: StaticReply, frame: &[u8]) -> Told {
+fn reply_again(r: StaticReply, frame: &[u8]) -> Refusal {
     let mut out = [0u8; 51];
     let a = write_reply(r, &mut out);
     own_bytes(a, &out, frame)
 }
 
-fn dynamic_answer(frame: &[u8]) -> Told {
+fn dynamic_answer(frame: &[u8]) -> Refusal {
     match read_dynamic(frame) {
         DynamicRead::Request(r) => dynamic_again(r, frame),
-        DynamicRead::Refused(f) => read_told(f),
+        DynamicRead::Refused(f) => of_reading(f),
     }
 }
 
-fn dynamic_again(r: DynamicRequest, frame: &[u8]) -> Told {
+fn dynamic_again(r: DynamicRequest, frame: &[u8]) -> Refusal {
     let mut out = [0u8; 46];
     let a = write_dynamic(r, &mut out);
     own_bytes(a, &out, frame)
 }
 
 // Done where the frame was written again with its own bytes; an offset of 1 where not.
-fn own_bytes(a: WriteAnswer, out: &[u8], frame: &[u8]) -> Told {
+fn own_bytes(a: WriteAnswer, out: &[u8], frame: &[u8]) -> Refusal {
     match a {
         WriteAnswer::Written => same_bytes(out, frame),
-        WriteAnswer::Refused(_) => Told {
+        WriteAnswer::Refused(_) => Refusal {
             number: 0,
             offset: 1,
         },
     }
 }
 
-fn same_bytes(out: &[u8], frame: &[u8]) -> Told {
+fn same_bytes(out: &[u8], frame: &[u8]) -> Refusal {
     let mut i = 0;
     while i < out.len() {
         if byte_at(out, i) != byte_at(frame, i) {
-            return Told {
+            return Refusal {
                 number: 0,
                 offset: 1,
             };

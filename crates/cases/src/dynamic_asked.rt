@@ -6,17 +6,17 @@ use frames::dynamic::DynamicRead;
 use frames::dynamic::DynamicRequest;
 use frames::dynamic::read_dynamic;
 use frames::dynamic::write_dynamic;
+use frames::refusals::of_reading;
 use spelling::line;
 use spelling::print;
 use spelling::told::print_told;
-use spelling::told::read_told;
 
 pub fn reading(s: &[u8]) {
     let mut b = [0u8; 100];
     let n = line::bytes(s, 1, &mut b);
     match read_dynamic(&b[0..n]) {
         DynamicRead::Request(r) => print_dynamic(r),
-        DynamicRead::Refused(f) => print_told(read_told(f)),
+        DynamicRead::Refused(f) => print_told(of_reading(f)),
     }
     print::end_line();
 }

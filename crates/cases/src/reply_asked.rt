@@ -5,6 +5,8 @@ use crate::words::print_signed;
 use crate::words::signed;
 use crate::written::print_written;
 use frames::refusals::ReadVerdict;
+use frames::refusals::of_reading;
+use frames::reply::ReplyHead;
 use frames::reply::ReplyRead;
 use frames::reply::StaticReply;
 use frames::reply::read_reply;
@@ -15,7 +17,6 @@ use frames::timing::Timing;
 use spelling::line;
 use spelling::print;
 use spelling::told::print_told;
-use spelling::told::read_told;
 ghost use Prim.Native.Nat.{_<_};
 
 pub fn reading(s: &[u8]) {
@@ -35,14 +36,15 @@ fn print_read(a: ReplyRead) {
     let r = a.reply;
     match verdict {
         ReadVerdict::Read => print_reply(r),
-        ReadVerdict::Refused(f) => print_told(read_told(f)),
+        ReadVerdict::Refused(f) => print_told(of_reading(f)),
     }
     print::end_line();
 }
 
 fn print_reply(r: StaticReply) {
     print::text(b"0 0");
-    print_head(r);
+    let head = r.head;
+    print_head(head);
     let timing = r.timing;
     print_timing(timing);
     let raw_time = r.raw_time;
@@ -53,7 +55,7 @@ fn print_reply(r: StaticReply) {
     print::also_bytes(&spare);
 }
 
-fn print_head(r: StaticReply) {
+fn print_head(r: ReplyHead) {
     also_code(r.program);
     also_code(r.mode);
     also_code(r.status);
@@ -142,6 +144,19 @@ fn reply_with(s: &[u8], k: usize, timing: Timing, p: usize) -> StaticReply
     let mut spare = [0u8; 2];
     line::bytes(s, p + 2, &mut spare);
     StaticReply {
+        head: head_asked(s, k),
+        timing,
+        raw_time,
+        raw_date,
+        spare,
+    }
+}
+
+// The eleven parts from word k on.
+fn head_asked(s: &[u8], k: usize) -> ReplyHead
+    requires { ⌜ k < 100 ⌝ }
+{
+    ReplyHead {
         program: code(s, k),
         mode: code(s, k + 1),
         status: code(s, k + 2),
@@ -153,9 +168,5 @@ fn reply_with(s: &[u8], k: usize, timing: Timing, p: usize) -> StaticReply
         physical: line::small(s, k + 8),
         channel: line::small(s, k + 9),
         information: code(s, k + 10),
-        timing,
-        raw_time,
-        raw_date,
-        spare,
     }
 }

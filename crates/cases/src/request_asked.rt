@@ -2,6 +2,7 @@
 use crate::words::also_code;
 use crate::words::code;
 use crate::written::print_written;
+use frames::refusals::of_reading;
 use frames::request::RequestRead;
 use frames::request::StaticRequest;
 use frames::request::read_request;
@@ -9,14 +10,13 @@ use frames::request::write_request;
 use spelling::line;
 use spelling::print;
 use spelling::told::print_told;
-use spelling::told::read_told;
 
 pub fn reading(s: &[u8]) {
     let mut b = [0u8; 100];
     let n = line::bytes(s, 1, &mut b);
     match read_request(&b[0..n]) {
         RequestRead::Request(r) => print_request(r),
-        RequestRead::Refused(f) => print_told(read_told(f)),
+        RequestRead::Refused(f) => print_told(of_reading(f)),
     }
     print::end_line();
 }

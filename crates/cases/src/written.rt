@@ -1,24 +1,15 @@
 // Answers to a writing.
+use digits::refusal::Refusal;
 use frames::refusals::WriteAnswer;
-use frames::refusals::WriteRefusal;
+use frames::refusals::of_writing;
 use spelling::print;
-use spelling::told::Told;
 use spelling::told::done;
 use spelling::told::print_told;
 
-fn write_told(a: WriteAnswer) -> Told {
+fn write_told(a: WriteAnswer) -> Refusal {
     match a {
         WriteAnswer::Written => done(),
-        WriteAnswer::Refused(f) => match f {
-            WriteRefusal::Record(at) => Told {
-                number: 6,
-                offset: at as u64,
-            },
-            WriteRefusal::Room => Told {
-                number: 7,
-                offset: 0,
-            },
-        },
+        WriteAnswer::Refused(f) => of_writing(f),
     }
 }
 

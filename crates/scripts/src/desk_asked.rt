@@ -7,20 +7,20 @@ use crate::memory::MOST_BYTES;
 use crate::memory::MOST_MARKS;
 use crate::memory::changed_bytes;
 use crate::memory::changed_marks;
-use crate::memory::copy_bytes;
 use crate::memory::copy_marks;
 use crate::memory::mark_at;
 use crate::script::Script;
 use crate::script::with;
 use desk::held::Held;
 use desk::held::next_held;
+use desk::limits::SEATS;
 use desk::opening::open;
 use desk::reply::reply;
 use desk::state::Desk;
-use desk::state::SEATS;
 use desk::state::Seat;
 use desk::state::reset;
 use desk::state::seats_in_use;
+use digits::put_bytes;
 use spelling::line;
 use spelling::print;
 use spelling::told::print_told;
@@ -55,7 +55,7 @@ pub fn replying(script: Script, s: &[u8], cells: &mut [u8], marks: &mut [u32]) -
     let mut frame = [0u8; 100];
     let n = line::bytes(s, 1, &mut frame);
     let mut cells_before = [0u8; MOST_BYTES];
-    copy_bytes(&mut cells_before, 0, cells);
+    put_bytes(&mut cells_before, 0, cells);
     let mut marks_before = [0u32; MOST_MARKS];
     copy_marks(&mut marks_before, marks);
     let row = script.row;
@@ -74,7 +74,7 @@ pub fn replying(script: Script, s: &[u8], cells: &mut [u8], marks: &mut [u32]) -
 fn print_said(said: Said, desk: Desk) {
     print_told(said.told);
     print::space();
-    print::decimal(said.seat);
+    print::decimal(said.seat as u64);
     print::space();
     print::pair(desk.bits, desk.count as u64);
 }

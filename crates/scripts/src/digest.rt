@@ -1,7 +1,7 @@
 // A number over many numbers, taken in one after the other.
 use crate::desk_told::Said;
 use crate::memory::mark_at;
-use desk::state::SEATS;
+use desk::limits::SEATS;
 use desk::state::Seat;
 use digits::byte_at;
 
@@ -18,7 +18,10 @@ pub fn take_small(digest: u64, x: u32) -> u64 {
 
 pub fn take_said(digest: u64, said: Said) -> u64 {
     let told = said.told;
-    take(take(take(digest, told.number), told.offset), said.seat)
+    take_small(
+        take_small(take_small(digest, told.number), told.offset),
+        said.seat,
+    )
 }
 
 pub fn take_row(digest: u64, row: [Seat; SEATS]) -> u64 {

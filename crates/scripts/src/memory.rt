@@ -40,20 +40,6 @@ pub fn fill_marks(out: &mut [u32], m: u32) {
     }
 }
 
-// The bytes of s from a place of the output on.
-pub fn copy_bytes(out: &mut [u8], at: usize, s: &[u8]) {
-    let mut p = at;
-    let mut i = 0;
-    while i < s.len() {
-        if out.len() <= p {
-            return;
-        }
-        put_byte(out, p, byte_at(s, i));
-        p += 1;
-        i += 1;
-    }
-}
-
 pub fn copy_marks(out: &mut [u32], marks: &[u32]) {
     let mut i = 0;
     while i < marks.len() {

@@ -1,14 +1,14 @@
 // The desk of the scripts, which lasts from line to line: what it is at first, and how a script sets its parts.
 use crate::memory::FRESH_BYTE;
 use crate::memory::FRESH_MARK;
-use crate::memory::copy_bytes;
 use crate::memory::fill_bytes;
 use crate::memory::fill_marks;
 use crate::memory::put_mark;
+use desk::limits::SEATS;
 use desk::state::Desk;
-use desk::state::SEATS;
 use desk::state::Seat;
 use desk::state::capacity;
+use digits::put_bytes;
 use spelling::line;
 use spelling::print;
 
@@ -117,6 +117,6 @@ pub fn setting_cell(script: Script, s: &[u8], cells: &mut [u8]) -> Script {
     print::text(b"set\n");
     let mut b = [0u8; 100];
     let n = line::bytes(s, 2, &mut b);
-    copy_bytes(cells, line::small(s, 1) as usize, &b[0..n]);
+    put_bytes(cells, line::small(s, 1) as usize, &b[0..n]);
     script
 }
