@@ -4,7 +4,7 @@ use mathlib.Core.Bool.{Bool, true, false, true≢false}
 use mathlib.Core.Path.{_≡_, refl, ap, sym, _∙_}
 use native.Mathlib.Omega.{arith}
 use Rattle.digits.specs.declared.refusal.Refusal.{Refusal}
-use Rattle.digits.specs.Refusals.{plain, placed, isRefusal}
+use Rattle.digits.specs.Refusals.{plain, placed, isRefusal, TableWorked}
 use Rattle.digits.specs.Told.{Told, gives, refuses, tried, Sure}
 
 pub never-0 : (f : Refusal) → isRefusal f ≡ true → 1 ≤ f .number
@@ -41,3 +41,6 @@ module _ {A : Type 0} where
   pub sure-tried : (b : Bool) (f : Refusal) (rest : Told A) → (b ≡ false → isRefusal f ≡ true) → Sure rest → Sure (tried b f rest)
   sure-tried true f rest h s = s
   sure-tried false f rest h s = sure-refuses f (h refl)
+
+pub table-worked : TableWorked
+table-worked = record { numbers = refl; offsets = refl; none-0 = refl; last-16 = refl; none-17 = refl; field-placed = refl; field-nowhere = refl; room-placed = refl }

@@ -1,6 +1,8 @@
 -- The table of refusals: why a call is turned away, by number. FIELD and RECORD have an offset, the others 0.
 use Prim.Native.Nat.{ℕ}
-use mathlib.Core.Bool.{Bool, cond, not, _&&_, _||_}
+use mathlib.Core.List.{[], _∷_}
+use mathlib.Core.Bool.{Bool, true, false, cond, not, _&&_, _||_}
+use mathlib.Core.Path.{_≡_}
 use lib.Dec.{eqb, leb}
 use Rattle.digits.specs.declared.refusal.Refusal.{Refusal}
 
@@ -79,3 +81,16 @@ FULL = plain 16
 abbrev pub isRefusal : Refusal → Bool
 isRefusal f =
     leb 1 (f .number) && leb (f .number) 16 && cond (eqb (f .number) 5 || eqb (f .number) 6) (not (eqb (f .offset) 0)) (eqb (f .offset) 0)
+
+-- worked: the numbers in the table's order, and where an offset is due
+pub record TableWorked : Type 0 where
+  pub numbers : KIND .number ∷ LENGTH .number ∷ END .number ∷ ADDRESS .number ∷ FIELD 9 .number ∷ RECORD 9 .number ∷ ROOM .number ∷ TIME .number
+      ∷ DESK .number ∷ NO-ANSWER-DUE .number ∷ IN-USE .number ∷ NO-SEAT .number ∷ STRAY .number ∷ ENDED .number ∷ OUT-OF-PLACE .number ∷ FULL .number ∷ []
+      ≡ 1 ∷ 2 ∷ 3 ∷ 4 ∷ 5 ∷ 6 ∷ 7 ∷ 8 ∷ 9 ∷ 10 ∷ 11 ∷ 12 ∷ 13 ∷ 14 ∷ 15 ∷ 16 ∷ []
+  pub offsets : FIELD 9 .offset ∷ RECORD 9 .offset ∷ ROOM .offset ∷ FULL .offset ∷ [] ≡ 9 ∷ 9 ∷ 0 ∷ 0 ∷ []
+  pub none-0 : isRefusal (plain 0) ≡ false
+  pub last-16 : isRefusal (plain 16) ≡ true
+  pub none-17 : isRefusal (plain 17) ≡ false
+  pub field-placed : isRefusal (placed 5 30) ≡ true
+  pub field-nowhere : isRefusal (placed 5 0) ≡ false
+  pub room-placed : isRefusal (placed 7 30) ≡ false
