@@ -36,6 +36,7 @@ use Rattle.frames.specs.inside.Held.{orNone}
 use Rattle.frames.specs.inside.Timing.{timingWrong, timingText}
 use Rattle.frames.specs.inside.Reply.{refusedBy, judgedAs, headAt, headWrong, seenIn, replyAt, wrongAt, fieldsRead, fieldsChecked, headText, replyText}
 use Rattle.frames.proofs.RuleLaws.{up-to, in-range, none-in-range, or-one, to-240}
+use Rattle.frames.proofs.ShapeLaws.{all-bytes}
 use Rattle.frames.proofs.LayoutLaws.{unless-none, Sound, byte-sound, number-sound, within-wrong, within-write, within-sound, Sees, sees-within}
 use Rattle.frames.proofs.SeesLaws.{sees-byte, sees-number}
 use Rattle.frames.proofs.KindLaws as K
@@ -224,13 +225,15 @@ length-timing Raw rt rd = refl
 length-head : (h : ReplyHead) → length (headText h) ≡ 30
 length-head h = simp (length-append, length-digits)
 
-pub reply-stores : (r : StaticReply) (l : List ℕ) → set (sets (sets (sets l 0 (headText (r .head))) 30 (timingText (r .timing) (r .«raw_time») (r .«raw_date»))) 48 (bytesOf (r .spare) 0 2)) 50 CR ≡ sets l 0 (replyText r)
+pub reply-stores : (r : StaticReply) (l : List ℕ) → 2 ≡ length (r .spare)
+    → set (sets (sets (sets l 0 (headText (r .head))) 30 (timingText (r .timing) (r .«raw_time») (r .«raw_date»))) 48 (r .spare)) 50 CR ≡ sets l 0 (replyText r)
 unfolding replyText
-reply-stores r l =
+reply-stores r l h =
     let t = timingText (r .timing) (r .«raw_time») (r .«raw_date») in
     let a = sets-append l 0 (headText (r .head)) (t ++ (bytesOf (r .spare) 0 2 ++ (CR ∷ []))) in
     let b = sets-append (sets l 0 (headText (r .head))) 30 t (bytesOf (r .spare) 0 2 ++ (CR ∷ [])) in
-    sym (a ∙ rw (length-head (r .head), b, length-timing (r .timing) (r .«raw_time») (r .«raw_date»)))
+    ap (λ (s : List ℕ). set (sets (sets (sets l 0 (headText (r .head))) 30 t) 48 s) 50 CR) (sym (all-bytes (r .spare) 2 (sym h)))
+    ∙ sym (a ∙ rw (length-head (r .head), b, length-timing (r .timing) (r .«raw_time») (r .«raw_date»)))
 
 -- reading: the head's refusal, and the fields
 pub refused-as : (s : List ℕ) (h : ReadVerdict) (f : ReadRefusal) (a : ReplyRead) → h ≡ Refused f → verdictTold h ≡ headTold 18 51 s → a ≡ refusedBy f → ReadAs s a

@@ -26,9 +26,9 @@ use Rattle.frames.specs.Shape.{bytesOf, allFrom}
 use Rattle.frames.specs.Layout.{wrongUnless, recordWrong, write}
 use Rattle.frames.specs.Timing.{Times, isOf, areZero, rawUnused, date, isDate, ticksIn, dateIn, isSign, signOf, netOf, netIn, daysIn, signedDays, areDays, timed}
 use Rattle.frames.specs.inside.Held.{orNone}
-use Rattle.frames.specs.inside.Timing.{clockWrong, netWrong, netValueWrong, timingWrong, seenClock, netTiming, seenNet, seenRaw, seenOf, clockText, netText, timingText}
+use Rattle.frames.specs.inside.Timing.{clockWrong, netWrong, netValueWrong, timingWrong, seenClock, netTiming, seenNet, seenRaw, seenOf, clockText, netText, rawText, timingText}
 use Rattle.frames.proofs.RuleLaws.{or-cases}
-use Rattle.frames.proofs.ShapeLaws.{Inverse, digits-inverse, one-inverse, both-inverse}
+use Rattle.frames.proofs.ShapeLaws.{Inverse, digits-inverse, both-inverse, all-bytes}
 use Rattle.frames.proofs.LayoutLaws.{unless-none, Sound, field-sound, suits-sound, end-sound, byte-inverse, time-sound, run-sound, Sees, sees-suits, sees-end}
 use Rattle.frames.proofs.SeesLaws.{sees-time, sees-date, sees-days, sees-run}
 
@@ -48,18 +48,6 @@ unfolding allFrom
 run-done rule l i n all false h e = sym e
 run-done rule l i n all true h e = let k : n - i ≡ 0 = omega arith in sym (e ∙ rw k)
 
--- ---- a turn of the loop that stores bytes
-
-pub store-goes : (o k l : List ℕ) (at i n : ℕ) → i < n → k ≡ set o (at + i) (getD l i 0) → sets o (at + i) (bytesOf l i (n - i)) ≡ sets k (at + (i + 1)) (bytesOf l (i + 1) (n - (i + 1)))
-store-goes o k l at i n h e =
-    let m : n - i ≡ suc (n - suc i) = omega arith in
-    let j : i + 1 ≡ suc i = omega arith in
-    let p : at + suc i ≡ suc (at + i) = omega arith in
-    rw (m, j, p, e)
-
-pub store-done : (o l : List ℕ) (p i n : ℕ) → n ≤ i → sets o p (bytesOf l i (n - i)) ≡ o
-store-done o l p i n h = let k : n - i ≡ 0 = omega arith in rw k
-
 -- ---- stores that are one run
 
 pub clock-stores : (o : List ℕ) (ticks day month year : ℕ)
@@ -69,6 +57,12 @@ clock-stores o ticks day month year = simp (sets-append, length-digits)
 pub net-stores : (o : List ℕ) (v : ℤ)
     → sets (set (sets o 30 (clock .put (netParts v .time))) 40 (signOf (netParts v .minus))) 41 (digits 7 (netParts v .days)) ≡ sets o 30 (netText v)
 net-stores o v = simp (sets-append, length-digits)
+
+pub raw-stores : (o rt rd : List ℕ) → 10 ≡ length rt → 8 ≡ length rd → sets (sets o 30 rt) 40 rd ≡ sets o 30 (rawText rt rd)
+raw-stores o rt rd a b =
+    let e : rawText rt rd ≡ rt ++ rd = ap₂ (λ (x y : List ℕ). x ++ y) (all-bytes rt 10 (sym a)) (all-bytes rd 8 (sym b)) in
+    let n : 30 + length rt ≡ 40 = omega arith in
+    sym (ap (sets o 30) e ∙ sets-append o 30 rt rd ∙ rw n)
 
 -- ---- bytes that are all zero
 

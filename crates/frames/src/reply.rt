@@ -15,7 +15,6 @@ use crate::timing::Seen;
 use crate::timing::Timing;
 use crate::timing::is_raw;
 use crate::timing::kind_of;
-use crate::timing::put_run;
 use crate::timing::put_timing;
 use crate::timing::seen_at;
 use crate::timing::spare_at;
@@ -24,6 +23,7 @@ use crate::timing::timing_wrong_at;
 use digits::byte_at;
 use digits::in_set;
 use digits::put_byte;
+use digits::put_bytes;
 use digits::put_number;
 ghost use mathlib.Core.Path.{_≡_};
 ghost use lib.Seq.{sets};
@@ -353,7 +353,7 @@ fn put_reply(r: StaticReply, out: &mut [u8])
     let raw_date = r.raw_date;
     let spare = r.spare;
     put_timing(timing, raw_time, raw_date, out);
-    put_run(out, field::SPARE, &spare, 2);
+    put_bytes(out, field::SPARE, &spare);
     put_byte(out, field::END, CR);
 }
 

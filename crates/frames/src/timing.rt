@@ -6,6 +6,7 @@ use crate::reply::STATUS_Z;
 use crate::reply::field;
 use digits::byte_at;
 use digits::put_byte;
+use digits::put_bytes;
 use digits::put_number;
 use times::clock::LAST_TICK;
 use times::clock::put_clock;
@@ -422,18 +423,6 @@ fn put_net(value: i64, out: &mut [u8])
 fn put_raw(raw_time: [u8; 10], raw_date: [u8; 8], out: &mut [u8])
     ensures { λ _. ⌜ now (out .exit) ≡ sets (now (out .entry)) 30 (I.rawText «raw_time» «raw_date») ⌝ }
 {
-    put_run(out, field::TIME, &raw_time, 10);
-    put_run(out, field::DATE, &raw_date, 8);
-}
-
-// The first n bytes of t, from a place on.
-pub(crate) fn put_run(out: &mut [u8], at: usize, t: &[u8], n: usize)
-    requires { ⌜ at + n < 1000 ⌝ }
-    ensures { λ _. ⌜ now (out .exit) ≡ sets (now (out .entry)) at (S.bytesOf (now (t .entry)) 0 n) ⌝ }
-{
-    let mut i = 0;
-    while i < n {
-        put_byte(out, at + i, byte_at(t, i));
-        i += 1;
-    }
+    put_bytes(out, field::TIME, &raw_time);
+    put_bytes(out, field::DATE, &raw_date);
 }
