@@ -1,7 +1,7 @@
--- `frames::core::within` meets its contract. Assumes nothing.
+-- `frames::fields::within` meets its contract. Assumes nothing.
 use borrow.Author.Needs.{needs}
-use Rattle.frames.proofs.core.within.Statement.{statement}
-use Rattle.frames.proofs.core.within.Tie as tie
+use Rattle.frames.proofs.fields.within.Statement.{statement}
+use Rattle.frames.proofs.fields.within.Tie as tie
 use Rattle.frames.specs.Rules.{between}
 
 returns : tie.Need-returns

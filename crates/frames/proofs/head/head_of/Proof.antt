@@ -1,8 +1,9 @@
--- `frames::core::head_of` meets its contract: each test is the definition's. Assumes nothing.
+-- `frames::head::head_of` meets its contract: each test is the definition's. Assumes nothing.
 use mathlib.Core.Path.{sym, _∙_}
 use borrow.Author.Needs.{needs}
-use Rattle.frames.proofs.core.head_of.Statement.{statement}
-use Rattle.frames.proofs.core.head_of.Tie as tie
+use borrow.Author.Tests.{eq-eqb}
+use Rattle.frames.proofs.head.head_of.Statement.{statement}
+use Rattle.frames.proofs.head.head_of.Tie as tie
 use Rattle.frames.proofs.HeadLaws.{head-kind, head-length, head-end, head-letter, head-address, head-good}
 
 byte-at-requires : tie.Need-byte-at-requires
@@ -57,7 +58,7 @@ returns-6 c =
     let b = c .before .before .before .before .before .byte-at2 .ensures in
     let d = c .before .before .before .byte-at3 .ensures in
     let f = c .before .byte-at4 .ensures in
-    head-good _ _ _ (c .before .before .before .before .before .before .before .before .before .before .pre .0) (sym a ∙ c .before .before .before .before .before .before .before .if1 .left) (c .before .before .before .before .before .before .if2 .left) (sym b ∙ c .before .before .before .before .if3 .left) (sym d ∙ c .before .before .if4 .left) (sym f ∙ c .if5 .left)
+    head-good _ _ _ (c .before .before .before .before .before .before .before .before .before .before .pre .0) (sym a ∙ c .before .before .before .before .before .before .before .if1 .left) (c .before .before .before .before .before .before .if2 .left) (sym b ∙ c .before .before .before .before .if3 .left) (sym d ∙ c .before .before .if4 .left) (eq-eqb _ _ (sym f ∙ c .if5 .left))
 
 pub head-of-spec : {M : Type 1} → statement M
 head-of-spec =

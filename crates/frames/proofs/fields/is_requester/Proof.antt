@@ -1,7 +1,7 @@
--- `frames::core::is_requester` meets its contract. Assumes nothing.
+-- `frames::fields::is_requester` meets its contract. Assumes nothing.
 use borrow.Author.Needs.{needs}
-use Rattle.frames.proofs.core.is_requester.Statement.{statement}
-use Rattle.frames.proofs.core.is_requester.Tie as tie
+use Rattle.frames.proofs.fields.is_requester.Statement.{statement}
+use Rattle.frames.proofs.fields.is_requester.Tie as tie
 use Rattle.frames.specs.Rules.{isRequester, between}
 
 returns : tie.Need-returns

@@ -1,10 +1,10 @@
--- `frames::core::clock_or_none` meets its contract: the ticks of a day fit 32 bits. Assumes nothing.
+-- `frames::fields::clock_or_none` meets its contract: the ticks of a day fit 32 bits. Assumes nothing.
 use mathlib.Core.Path.{sym, ap, _∙_}
 use borrow.Author.Needs.{needs}
-use Rattle.frames.proofs.core.clock_or_none.Statement.{statement}
-use Rattle.frames.proofs.core.clock_or_none.Tie as tie
+use Rattle.frames.proofs.fields.clock_or_none.Statement.{statement}
+use Rattle.frames.proofs.fields.clock_or_none.Tie as tie
 use Rattle.times.proofs.ClockLaws.{time-below}
-use Rattle.frames.specs.Inside.{orNone}
+use Rattle.frames.specs.inside.Held.{orNone}
 
 clock-at-requires : tie.Need-clock-at-requires
 clock-at-requires c κs = search needs

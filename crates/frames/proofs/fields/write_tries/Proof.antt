@@ -1,6 +1,6 @@
--- `frames::core::write_tries` meets its contract. Assumes nothing.
-use Rattle.frames.proofs.core.write_tries.Statement.{statement}
-use Rattle.frames.proofs.core.write_tries.Tie as tie
+-- `frames::fields::write_tries` meets its contract. Assumes nothing.
+use Rattle.frames.proofs.fields.write_tries.Statement.{statement}
+use Rattle.frames.proofs.fields.write_tries.Tie as tie
 use Rattle.frames.proofs.HeadLaws.{write-record, write-room, write-done}
 
 returns : tie.Need-returns

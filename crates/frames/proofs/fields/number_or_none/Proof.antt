@@ -1,10 +1,10 @@
--- `frames::core::number_or_none` meets its contract: a number of nine digits fits 32 bits. Assumes nothing.
+-- `frames::fields::number_or_none` meets its contract: a number of nine digits fits 32 bits. Assumes nothing.
 use mathlib.Core.Path.{sym, ap, _∙_}
 use borrow.Author.Needs.{needs}
-use Rattle.frames.proofs.core.number_or_none.Statement.{statement}
-use Rattle.frames.proofs.core.number_or_none.Tie as tie
+use Rattle.frames.proofs.fields.number_or_none.Statement.{statement}
+use Rattle.frames.proofs.fields.number_or_none.Tie as tie
 use Rattle.digits.proofs.Laws.{small-number}
-use Rattle.frames.specs.Inside.{orNone}
+use Rattle.frames.specs.inside.Held.{orNone}
 
 number-at-requires : tie.Need-number-at-requires
 number-at-requires c κs = search needs

@@ -1,7 +1,7 @@
--- `frames::core::put_head` meets its contract. Assumes nothing.
+-- `frames::head::put_head` meets its contract. Assumes nothing.
 use borrow.Author.Needs.{needs}
-use Rattle.frames.proofs.core.put_head.Statement.{statement}
-use Rattle.frames.proofs.core.put_head.Tie as tie
+use Rattle.frames.proofs.head.put_head.Statement.{statement}
+use Rattle.frames.proofs.head.put_head.Tie as tie
 
 put-byte-requires : tie.Need-put-byte-requires
 put-byte-requires c κs = search needs

@@ -1,9 +1,9 @@
--- `frames::core::is_output` meets its contract. Assumes nothing.
+-- `frames::fields::is_output` meets its contract. Assumes nothing.
 use Rattle.frames.specs.Rules.{isOutput}
 use Rattle.digits.specs.Text.{oneOf}
 use mathlib.Core.Bool.{or-assoc, or-false}
-use Rattle.frames.proofs.core.is_output.Statement.{statement}
-use Rattle.frames.proofs.core.is_output.Tie as tie
+use Rattle.frames.proofs.fields.is_output.Statement.{statement}
+use Rattle.frames.proofs.fields.is_output.Tie as tie
 
 returns : tie.Need-returns
 unfolding isOutput oneOf
