@@ -1,4 +1,4 @@
-/* Calls each exported function of libhost.a. With no word it runs the checks; with the word capture or list it writes
+/* Calls each exported function of librei2.a. With no word it runs the checks; with the word capture or list it writes
    the example that it has, for tests/c/run to compare. */
 #include <string.h>
 #include <unistd.h>

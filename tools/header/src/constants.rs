@@ -27,7 +27,7 @@ const REFUSALS: [&str; 3] = ["frames/specs/Refusals.antt", "times/specs/Running.
 
 /// Each enum of kinds, and the function that gives each constructor its number, as the field `kind` of a record.
 const KINDS: [(&str, &str, &str); 2] =
-    [("rei2_timing", "host/specs/Reply.antt", "numbersOf"), ("rei2_found", "host/specs/Calls.antt", "frameAnswer")];
+    [("rei2_timing", "rei2/specs/Reply.antt", "numbersOf"), ("rei2_found", "rei2/specs/Calls.antt", "frameAnswer")];
 
 /// The programs that list captures.
 const PROGRAMS: [&str; 2] = ["rei2list/src/main.rt", "lists/src/main.rt"];

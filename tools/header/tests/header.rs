@@ -7,8 +7,8 @@ use std::{env, fs, process};
 
 /// The files of the right pair, each a path and its text.
 const FILES: [(&str, &str); 21] = [
-    ("crates/host/src/lib.rt", "pub mod calls;\n"),
-    ("crates/host/src/calls.rt", CALLS),
+    ("crates/rei2/src/lib.rt", "pub mod calls;\n"),
+    ("crates/rei2/src/calls.rt", CALLS),
     ("crates/desk/src/state.rt", STATE),
     ("rei2.h", HEADER),
     ("crates/desk/specs/Limits.antt", LIMITS),
@@ -24,8 +24,8 @@ const FILES: [(&str, &str); 21] = [
     ("crates/listing/src/lib.rt", LISTING),
     ("crates/listing/specs/Listing.antt", "abbrev pub mostInput : ℕ\nmostInput = 32768\n"),
     ("crates/listing/specs/Sizes.antt", "abbrev pub longestList : ℕ\nlongestList = 14170\n"),
-    ("crates/host/specs/Reply.antt", NUMBERS),
-    ("crates/host/specs/Calls.antt", FOUND),
+    ("crates/rei2/specs/Reply.antt", NUMBERS),
+    ("crates/rei2/specs/Calls.antt", FOUND),
     ("crates/rei2list/src/main.rt", PROGRAM),
     ("crates/lists/src/main.rt", PROGRAM_BY_NAMES),
 ];
@@ -279,7 +279,7 @@ impl Folder {
         let index = [&count[..], &vec![0; 4 * names.len()], text.as_bytes()].concat();
         let head = format!("{:<16}{:<12}{:<6}{:<6}{:<8}{:<10}`\n", "/", 0, 0, 0, 0, index.len());
         let bytes = [b"!<arch>\n", head.as_bytes(), &index].concat();
-        fs::write(self.0.join("libhost.a"), bytes).expect("the archive is written");
+        fs::write(self.0.join("librei2.a"), bytes).expect("the archive is written");
     }
 }
 
@@ -317,7 +317,7 @@ fn differs(old: &str, new: &str, wanted: &[&str]) {
 fn archive_differs(names: &[&str], wanted: &[&str]) {
     let folder = Folder::right();
     folder.archive(names);
-    let (status, printed, errors) = folder.run(&["crates", "rei2.h", "libhost.a"]);
+    let (status, printed, errors) = folder.run(&["crates", "rei2.h", "librei2.a"]);
     let mut lines: String = wanted.iter().map(|line| format!("{line}\n")).collect();
     lines += &RIGHT.replace(" 0 ", &format!(" {} ", wanted.len()));
     assert_eq!((status, printed, errors), (i32::from(!wanted.is_empty()), lines, String::new()));
@@ -505,21 +505,21 @@ fn what_is_not_read_is_told() {
 #[test]
 fn a_slice_becomes_mutable() {
     let wanted = ["rei2_take: parameter 4 is `uint8_t *frame`, in the header `const uint8_t *frame`"];
-    differs_in("crates/host/src/calls.rt", "frame: &[u8]", "frame: &mut [u8]", &wanted);
+    differs_in("crates/rei2/src/calls.rt", "frame: &[u8]", "frame: &mut [u8]", &wanted);
 }
 
 #[test]
 fn a_function_more_is_exported() {
     let more = "#[no_mangle]\npub extern \"C\" fn rei2_more(x: u8) -> u8 {\n    x\n}\n\nfn helper(";
-    differs_in("crates/host/src/calls.rt", "fn helper(", more, &["rei2_more: the header lacks this function"]);
+    differs_in("crates/rei2/src/calls.rt", "fn helper(", more, &["rei2_more: the header lacks this function"]);
 }
 
 #[test]
 fn a_function_without_its_mark() {
     let wanted = ["rei2_nothing: is not exported: `#[no_mangle] pub extern \"C\"` is asked for"];
     let old = "#[no_mangle]\npub extern \"C\" fn rei2_nothing";
-    differs_in("crates/host/src/calls.rt", old, "pub extern \"C\" fn rei2_nothing", &wanted);
-    differs_in("crates/host/src/calls.rt", old, "#[no_mangle]\npub fn rei2_nothing", &wanted);
+    differs_in("crates/rei2/src/calls.rt", old, "pub extern \"C\" fn rei2_nothing", &wanted);
+    differs_in("crates/rei2/src/calls.rt", old, "#[no_mangle]\npub fn rei2_nothing", &wanted);
 }
 
 #[test]
@@ -663,34 +663,34 @@ fn a_refusal_is_only_on_one_side() {
 #[test]
 fn a_kind_has_another_number() {
     let wanted = [
-        "REI2_CLOCK: 1 in host/specs/Reply.antt (numbersOf Clock), 0 in the header",
-        "REI2_RAW: 0 in host/specs/Reply.antt (numbersOf Raw), 1 in the header",
+        "REI2_CLOCK: 1 in rei2/specs/Reply.antt (numbersOf Clock), 0 in the header",
+        "REI2_RAW: 0 in rei2/specs/Reply.antt (numbersOf Raw), 1 in the header",
     ];
     differs("REI2_RAW = 0, REI2_CLOCK = 1", "REI2_RAW = 1, REI2_CLOCK = 0", &wanted);
-    let wanted = ["REI2_NET: 3 in host/specs/Reply.antt (numbersOf Net), 2 in the header"];
-    differs_in("crates/host/specs/Reply.antt", "kind = 2", "kind = 3", &wanted);
-    let wanted = ["REI2_ON_THE_WAY: 2 in host/specs/Calls.antt (frameAnswer OnTheWay), 1 in the header"];
-    differs_in("crates/host/specs/Calls.antt", "kind = 1", "kind = 2", &wanted);
-    let wanted = ["REI2_NET: no single number in host/specs/Reply.antt (numbersOf Net)"];
-    differs_in("crates/host/specs/Reply.antt", "kind = 2", "kind = two", &wanted);
+    let wanted = ["REI2_NET: 3 in rei2/specs/Reply.antt (numbersOf Net), 2 in the header"];
+    differs_in("crates/rei2/specs/Reply.antt", "kind = 2", "kind = 3", &wanted);
+    let wanted = ["REI2_ON_THE_WAY: 2 in rei2/specs/Calls.antt (frameAnswer OnTheWay), 1 in the header"];
+    differs_in("crates/rei2/specs/Calls.antt", "kind = 1", "kind = 2", &wanted);
+    let wanted = ["REI2_NET: no single number in rei2/specs/Reply.antt (numbersOf Net)"];
+    differs_in("crates/rei2/specs/Reply.antt", "kind = 2", "kind = two", &wanted);
 }
 
 #[test]
 fn a_kind_by_name_has_its_definitions_number() {
     let named = |number: &str| format!("abbrev pub TWO : ℕ\nTWO = {number}\n\nabbrev pub numbersOf :");
     let text = |number: &str| NUMBERS.replace("abbrev pub numbersOf :", &named(number)).replace("kind = 2", "kind = TWO");
-    differs_in("crates/host/specs/Reply.antt", NUMBERS, &text("2"), &[]);
-    let wanted = ["REI2_NET: 3 in host/specs/Reply.antt (numbersOf Net), 2 in the header"];
-    differs_in("crates/host/specs/Reply.antt", NUMBERS, &text("3"), &wanted);
+    differs_in("crates/rei2/specs/Reply.antt", NUMBERS, &text("2"), &[]);
+    let wanted = ["REI2_NET: 3 in rei2/specs/Reply.antt (numbersOf Net), 2 in the header"];
+    differs_in("crates/rei2/specs/Reply.antt", NUMBERS, &text("3"), &wanted);
 }
 
 #[test]
 fn a_kind_is_only_on_one_side() {
     let more = "numbersOf Raw = record { kind = 0; ticks = 0; net = pos 0 }\nnumbersOf Mark = record { kind = 3 }";
     let wanted = ["REI2_MARK: enum rei2_timing of the header lacks this constant"];
-    differs_in("crates/host/specs/Reply.antt", more.lines().next().expect("a line"), more, &wanted);
+    differs_in("crates/rei2/specs/Reply.antt", more.lines().next().expect("a line"), more, &wanted);
     let wanted = ["REI2_NOTHING: not compared: no number is known that it stands for"];
-    differs_in("crates/host/specs/Calls.antt", "frameAnswer Nothing", "answer Nothing", &wanted);
+    differs_in("crates/rei2/specs/Calls.antt", "frameAnswer Nothing", "answer Nothing", &wanted);
 }
 
 #[test]
@@ -757,7 +757,7 @@ fn it_cannot_tell() {
     };
     assert_eq!(told(&["crates"]), "header: usage: header CRATES HEADER [ARCHIVE]\n");
     assert!(told(&["crates", "other.h"]).starts_with("header: other.h: cannot be read"));
-    assert!(told(&["nowhere", "rei2.h"]).starts_with("header: nowhere/host/src: cannot be read"));
+    assert!(told(&["nowhere", "rei2.h"]).starts_with("header: nowhere/rei2/src: cannot be read"));
     let limits = folder.0.join("crates/desk/specs/Limits.antt");
     fs::remove_file(&limits).expect("the file is removed");
     assert!(told(&["crates", "rei2.h"]).starts_with("header: crates/desk/specs/Limits.antt: cannot be read"));
@@ -769,7 +769,7 @@ fn it_cannot_tell() {
 #[test]
 fn nothing_exported_is_no_success() {
     let folder = Folder::right();
-    fs::write(folder.0.join("crates/host/src/calls.rt"), "fn helper() {}\n").expect("the file is written");
+    fs::write(folder.0.join("crates/rei2/src/calls.rt"), "fn helper() {}\n").expect("the file is written");
     let constants = HEADER.find("typedef").expect("the structs come behind the constants");
     fs::write(folder.0.join("rei2.h"), &HEADER[..constants]).expect("the header is written");
     let (status, printed, _) = folder.run(&["crates", "rei2.h"]);

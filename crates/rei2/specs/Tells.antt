@@ -1,0 +1,25 @@
+-- What is demanded of the numbers: 0 exactly if the call was done, otherwise one of the table, with an offset just at 5 and 6; and no two answers have the same numbers.
+use Prim.Native.Nat.{ℕ}
+use mathlib.Core.List.{List}
+use mathlib.Core.Path.{_≡_}
+use Rattle.digits.specs.Told.{Told, Sure}
+use Rattle.times.specs.declared.running.RunningOf.{RunningOf}
+use Rattle.times.specs.Running.{runningTime}
+use Rattle.frames.specs.Kind.{Kind, read, writeTried}
+use Rattle.desk.specs.Memory.{Memory}
+use Rattle.desk.specs.Calls.{resets, opens, replies}
+use Rattle.desk.specs.Capture.{captures}
+use Rattle.listing.specs.Listing.{listed}
+use Rattle.rei2.specs.Numbers.{numberIn, offsetIn, valueIn}
+
+pub record NumbersTell : Type 1 where
+  pub reading : {R : Type 0} (k : Kind R) (s : List ℕ) → Sure (read k s)
+  pub writing : (wrong size room : ℕ) → Sure (writeTried wrong size room)
+  pub running : (of : RunningOf) → Sure (runningTime of)
+  pub reset : (m : Memory) → Sure (resets m .answer)
+  pub opening : (m : Memory) (f : List ℕ) → Sure (opens m f .answer)
+  pub reply : (m : Memory) (f : List ℕ) → Sure (replies m f .answer)
+  pub capture : (m : Memory) (s : List ℕ) → Sure (captures m s .answer)
+  pub listing : (cells marks s out : List ℕ) → Sure (listed cells marks s out)
+  -- so number, offset and value tell an answer
+  pub told : {A : Type 0} (zero : A) (t t′ : Told A) → Sure t → Sure t′ → numberIn t ≡ numberIn t′ → offsetIn t ≡ offsetIn t′ → valueIn zero t ≡ valueIn zero t′ → t ≡ t′
