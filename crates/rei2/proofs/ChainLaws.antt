@@ -69,13 +69,13 @@ sorts-lent-calls seats desk cells marks empty seats₀ hr z before after rs₁ r
     let w : Memory = memory desk seats cells marks in
     let x : Memory = memory desk₁ seats₁ cells₁ marks₁ in
     let e₀ : memory (empty .desk) seats₀ cells marks ≡ emptied w =
-    left (resets w) empty seats₀ cells marks (hr cells marks) ∙ reset-done w (sym (ap (λ (a : DeskAnswer). a .number) (hr cells marks .answer)) ∙ z) in
+    left (resets w) empty seats₀ cells marks (hr cells marks) ∙ reset-done w (sym (ap (λ (a : DeskAnswer). a .refusal) (hr cells marks .answer)) ∙ z) in
     let e₁ : x ≡ run (emptied w) (openings before) = chain-runs c₁ .0 ∙ ap (λ (y : Memory). run y (openings before)) e₀ in
     let e₂ : m ≡ run (opens x f .after) (openings after) = chain-runs c₂ .0 ∙ ap (λ (y : Memory). run y (openings after)) (left (opens x f) answer seats₂ cells₁ marks₁ ho) in
     let e : run (emptied w) (openings (before ++ f ∷ after)) ≡ m =
     run-parts (emptied w) before after f ∙ ap (λ (y : Memory). run (opens y f .after) (openings after)) (sym e₁) ∙ sym e₂ in
     let s : opens x f .answer ≡ gives (answer .seat) =
-    seat-given (opens x f .answer) (sure-opens x f) (sym (ap (λ (a : DeskAnswer). a .number) (ho .answer)) ∙ zo) ∙ ap gives (sym (ap (λ (a : DeskAnswer). a .seat) (ho .answer))) in
+    seat-given (opens x f .answer) (sure-opens x f) (sym (ap (λ (a : DeskAnswer). a .refusal) (ho .answer)) ∙ zo) ∙ ap gives (sym (ap (λ (a : DeskAnswer). a .seat) (ho .answer))) in
     let s′ : opens (run (emptied w) (openings before)) f .answer ≡ gives (answer .seat) = sym (ap (λ (y : Memory). opens y f .answer) e₁) ∙ s in
     let room′ : repliesTo (run (emptied w) (openings (before ++ f ∷ after))) es ≤ capacity w = rw e room in
     let k = chain-runs c₃ in

@@ -49,10 +49,10 @@ lent-kept m h e =
     (h .seats ∙ ap (λ (x : Memory). x .row) e, (h .cells ∙ ap (λ (x : Memory). x .cells) e, h .marks ∙ ap (λ (x : Memory). x .marks) e))
 
 call-kept : (o : Outcome) (m : Memory) → (Refusing (numberIn (o .answer)) → o .after ≡ m)
-    → (r : DeskAnswer) (seats : List Seat) (cells marks : List ℕ) → LentCall o r seats cells marks → Refusing (r .number)
+    → (r : DeskAnswer) (seats : List Seat) (cells marks : List ℕ) → LentCall o r seats cells marks → Refusing (r .refusal)
     → (r .desk ≡ stateIn m) × ((seats ≡ m .row) × ((cells ≡ m .cells) × (marks ≡ m .marks)))
 call-kept o m keeps r seats cells marks h n =
-    let e : o .after ≡ m = keeps (λ z. n (ap (λ (x : DeskAnswer). x .number) (h .answer) ∙ z)) in
+    let e : o .after ≡ m = keeps (λ z. n (ap (λ (x : DeskAnswer). x .refusal) (h .answer) ∙ z)) in
     (ap (λ (x : DeskAnswer). x .desk) (h .answer) ∙ ap stateIn e, lent-kept m h e)
 
 -- ---- outputs
@@ -78,13 +78,13 @@ refused-keeps = record {
       call-kept (replies m frame) m (reply-kept m frame);
   capture = λ seats desk cells marks capture r seats′ cells′ marks′ h n.
       let m = memory desk seats cells marks in
-      let e : captures m capture .after ≡ m = capture-kept m capture (λ z. n (ap (λ (x : CapturedAnswer). x .number) (h .answer) ∙ z)) in
+      let e : captures m capture .after ≡ m = capture-kept m capture (λ z. n (ap (λ (x : CapturedAnswer). x .refusal) (h .answer) ∙ z)) in
       (ap (λ (x : CapturedAnswer). x .desk) (h .answer) ∙ ap stateIn e, lent-kept m h e);
   writing = λ k r out answer out′ h n.
-      h .bytes ∙ output-kept (writeTried (wrongIn k r) (k .size) (length out)) (frameOf k r) (k .size) out (λ z. n (ap (λ (x : WrittenAnswer). x .number) (h .told) ∙ z));
+      h .bytes ∙ output-kept (writeTried (wrongIn k r) (k .size) (length out)) (frameOf k r) (k .size) out (λ z. n (ap (λ (x : WrittenAnswer). x .refusal) (h .told) ∙ z));
   writing-reply = λ c out answer out′ h n.
-      h .bytes ∙ output-kept (triedInC c out) (frameOf reply (recordOf c)) 51 out (λ z. n (ap (λ (x : WrittenAnswer). x .number) (h .told) ∙ z));
+      h .bytes ∙ output-kept (triedInC c out) (frameOf reply (recordOf c)) 51 out (λ z. n (ap (λ (x : WrittenAnswer). x .refusal) (h .told) ∙ z));
   listing = λ cells marks capture out answer cells′ marks′ out′ h n.
-      let k = list-kept cells marks capture out (λ z. n (ap (λ (x : ListedAnswer). x .number) (h .told) ∙ z)) in
+      let k = list-kept cells marks capture out (λ z. n (ap (λ (x : ListedAnswer). x .refusal) (h .told) ∙ z)) in
       (h .cells ∙ k .0, (h .marks ∙ k .1 .0, h .bytes ∙ k .1 .1));
 }

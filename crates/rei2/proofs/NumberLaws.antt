@@ -58,11 +58,11 @@ no-value zero g = sym (ap (valueIn zero) (read-refuses g))
 
 -- what a refused call answers, from the refusal as it is told of numbers
 module _ (g : ReadRefusal) where
-  pub request-refused : _≡_ {A = RequestAnswer} (record { number = numberIn {A = ℕ} (readRefused g); offset = offsetIn {A = ℕ} (readRefused g); request = zeroRequest }) (requestAnswer (readRefused g))
-  request-refused = λ i. record { number = same-number StaticRequest g i; offset = same-offset StaticRequest g i; request = no-value zeroRequest g i }
+  pub request-refused : _≡_ {A = RequestAnswer} (record { refusal = numberIn {A = ℕ} (readRefused g); offset = offsetIn {A = ℕ} (readRefused g); request = zeroRequest }) (requestAnswer (readRefused g))
+  request-refused = λ i. record { refusal = same-number StaticRequest g i; offset = same-offset StaticRequest g i; request = no-value zeroRequest g i }
 
-  pub dynamic-refused : _≡_ {A = DynamicAnswer} (record { number = numberIn {A = ℕ} (readRefused g); offset = offsetIn {A = ℕ} (readRefused g); request = zeroDynamic }) (dynamicAnswer (readRefused g))
-  dynamic-refused = λ i. record { number = same-number DynamicRequest g i; offset = same-offset DynamicRequest g i; request = no-value zeroDynamic g i }
+  pub dynamic-refused : _≡_ {A = DynamicAnswer} (record { refusal = numberIn {A = ℕ} (readRefused g); offset = offsetIn {A = ℕ} (readRefused g); request = zeroDynamic }) (dynamicAnswer (readRefused g))
+  dynamic-refused = λ i. record { refusal = same-number DynamicRequest g i; offset = same-offset DynamicRequest g i; request = no-value zeroDynamic g i }
 
 no-opened : (g : OpenRefusal) → _≡_ {A = ℕ} 0 (valueIn 0 (openRefused g))
 no-opened open-no-desk = refl
@@ -80,28 +80,28 @@ no-taken OutOfPlace = refl
 no-taken Full = refl
 
 module _ (d : Desk) where
-  pub opening-refused : (g : OpenRefusal) → _≡_ {A = DeskAnswer} (record { desk = d; number = numberIn {A = ℕ} (openRefused g); offset = offsetIn {A = ℕ} (openRefused g); seat = 0 }) (deskAnswer d (openRefused g))
-  opening-refused g = λ i. record { desk = d; number = numberIn {A = ℕ} (openRefused g); offset = offsetIn {A = ℕ} (openRefused g); seat = no-opened g i }
+  pub opening-refused : (g : OpenRefusal) → _≡_ {A = DeskAnswer} (record { desk = d; refusal = numberIn {A = ℕ} (openRefused g); offset = offsetIn {A = ℕ} (openRefused g); seat = 0 }) (deskAnswer d (openRefused g))
+  opening-refused g = λ i. record { desk = d; refusal = numberIn {A = ℕ} (openRefused g); offset = offsetIn {A = ℕ} (openRefused g); seat = no-opened g i }
 
-  pub replying-refused : (g : ReplyRefusal) → _≡_ {A = DeskAnswer} (record { desk = d; number = numberIn {A = ℕ} (replyRefused g); offset = offsetIn {A = ℕ} (replyRefused g); seat = 0 }) (deskAnswer d (replyRefused g))
-  replying-refused g = λ i. record { desk = d; number = numberIn {A = ℕ} (replyRefused g); offset = offsetIn {A = ℕ} (replyRefused g); seat = no-taken g i }
+  pub replying-refused : (g : ReplyRefusal) → _≡_ {A = DeskAnswer} (record { desk = d; refusal = numberIn {A = ℕ} (replyRefused g); offset = offsetIn {A = ℕ} (replyRefused g); seat = 0 }) (deskAnswer d (replyRefused g))
+  replying-refused g = λ i. record { desk = d; refusal = numberIn {A = ℕ} (replyRefused g); offset = offsetIn {A = ℕ} (replyRefused g); seat = no-taken g i }
 
 pub writing-refused : (size : ℕ) (g : WriteRefusal)
-    → _≡_ {A = WrittenAnswer} (record { number = numberIn (writeTold (not-written g)); offset = offsetIn (writeTold (not-written g)); size = 0 }) (writtenAnswer size (writeTold (not-written g)))
+    → _≡_ {A = WrittenAnswer} (record { refusal = numberIn (writeTold (not-written g)); offset = offsetIn (writeTold (not-written g)); size = 0 }) (writtenAnswer size (writeTold (not-written g)))
 writing-refused size (Record at) = refl
 writing-refused size Room = refl
 
 -- ---- the reply
 
 module _ (s : List ℕ) (a : ReplyRead) (h : ReadAs s a) where
-  pub reply-read : a .verdict ≡ Read → _≡_ {A = ReplyAnswer} (record { number = 0; offset = 0; reply = shown (a .reply) }) (replyAnswer (read reply s))
+  pub reply-read : a .verdict ≡ Read → _≡_ {A = ReplyAnswer} (record { refusal = 0; offset = 0; reply = shown (a .reply) }) (replyAnswer (read reply s))
   reply-read e = ap replyAnswer (rw e at (h .told))
 
   pub reply-refused : (g : ReadRefusal) → a .verdict ≡ Refused g
-      → _≡_ {A = ReplyAnswer} (record { number = numberIn {A = ℕ} (readRefused g); offset = offsetIn {A = ℕ} (readRefused g); reply = shown zeroReply }) (replyAnswer (read reply s))
+      → _≡_ {A = ReplyAnswer} (record { refusal = numberIn {A = ℕ} (readRefused g); offset = offsetIn {A = ℕ} (readRefused g); reply = shown zeroReply }) (replyAnswer (read reply s))
   reply-refused g e =
       let told : readRefused g ≡ read reply s = rw e at (h .told) in
-      λ i. record { number = (same-number StaticReply g ∙ ap numberIn told) i; offset = (same-offset StaticReply g ∙ ap offsetIn told) i; reply = shown ((sym (ap orZero (read-refuses g)) ∙ ap orZero told) i) }
+      λ i. record { refusal = (same-number StaticReply g ∙ ap numberIn told) i; offset = (same-offset StaticReply g ∙ ap offsetIn told) i; reply = shown ((sym (ap orZero (read-refuses g)) ∙ ap orZero told) i) }
 
 -- ---- the calls by value
 

@@ -26,10 +26,10 @@ cellAnswer (Cell i) = record { found = 1; cell = i }
 cellAnswer no-cell = record { found = 0; cell = 0 }
 
 abbrev pub runningAnswer : Told ℤ → RunningAnswer
-runningAnswer t = record { number = numberIn t; ticks = valueIn (pos 0) t }
+runningAnswer t = record { refusal = numberIn t; ticks = valueIn (pos 0) t }
 
 abbrev pub listAnswer : Told ℕ → ListedAnswer
-listAnswer t = record { number = numberIn t; size = valueIn 0 t }
+listAnswer t = record { refusal = numberIn t; size = valueIn 0 t }
 
 -- what is promised of listing s to an output: the answer, and every byte and mark that is lent
 pub record ListLent (lent-cells lent-marks s out : List ℕ) (answer : ListedAnswer) (cells′ marks′ out′ : List ℕ) : Type 0 where

@@ -48,7 +48,7 @@ pub record CellsHeld : Type 0 where
 -- ---- the desk's calls, on the desks and frames of the desk's own cases
 
 abbrev pub answering : ℕ → ℕ → ℕ → ℕ → ℕ → DeskAnswer
-answering bits count number offset seat = record { desk = record { bits = bits; count = count }; number = number; offset = offset; seat = seat }
+answering bits count refusal offset seat = record { desk = record { bits = bits; count = count }; refusal = refusal; offset = offset; seat = seat }
 
 -- no seats, with a state that is not empty
 abbrev pub noDesk : Memory
@@ -79,13 +79,13 @@ pub record DeskCalls : Type 0 where
 -- a request and three lead bytes; a reply; a dynamic request; and no desk
 pub record CapturesTaken : Type 0 where
   pub asked-and-cut : capturedOf (captures bare (asking "1" "P" ++ (17 ∷ 18 ∷ 19 ∷ [])))
-      ≡ record { desk = record { bits = 1; count = 0 }; number = 0; counts = record { opened = 1; collected = 0; dynamic = 0; refused = 3 } }
+      ≡ record { desk = record { bits = 1; count = 0 }; refusal = 0; counts = record { opened = 1; collected = 0; dynamic = 0; refused = 3 } }
   pub replied : capturedOf (captures asked (replying "E"))
-      ≡ record { desk = record { bits = 1; count = 1 }; number = 0; counts = record { opened = 0; collected = 1; dynamic = 0; refused = 0 } }
+      ≡ record { desk = record { bits = 1; count = 1 }; refusal = 0; counts = record { opened = 0; collected = 1; dynamic = 0; refused = 0 } }
   pub ran : capturedOf (captures asked (F.running "A" "00041" "00001"))
-      ≡ record { desk = record { bits = 1; count = 0 }; number = 0; counts = record { opened = 0; collected = 0; dynamic = 1; refused = 0 } }
+      ≡ record { desk = record { bits = 1; count = 0 }; refusal = 0; counts = record { opened = 0; collected = 0; dynamic = 1; refused = 0 } }
   pub no-desk : capturedOf (captures noDesk (asking "1" "P"))
-      ≡ record { desk = record { bits = 5; count = 7 }; number = 9; counts = record { opened = 0; collected = 0; dynamic = 0; refused = 0 } }
+      ≡ record { desk = record { bits = 5; count = 7 }; refusal = 9; counts = record { opened = 0; collected = 0; dynamic = 0; refused = 0 } }
 
 -- ---- frames read
 
@@ -105,27 +105,27 @@ clocked net = record { kind = 1; ticks = 725400; day = 29; month = 2; year = 202
 
 pub record FramesRead : Type 0 where
   pub request-read : requestAnswer (read request (F.asking "A" "1" "255" "250"))
-      ≡ record { number = 0; offset = 0; request = record { requester = 65; number = 12; bib = 41; information = 49; channel = 255; run = 250; group = 0; output = 83 } }
+      ≡ record { refusal = 0; offset = 0; request = record { requester = 65; number = 12; bib = 41; information = 49; channel = 255; run = 250; group = 0; output = 83 } }
   pub request-refused : requestAnswer (read request (F.asking "A" "1" "255" "251"))
-      ≡ record { number = 5; offset = 16; request = record { requester = 0; number = 0; bib = 0; information = 0; channel = 0; run = 0; group = 0; output = 0 } }
+      ≡ record { refusal = 5; offset = 16; request = record { requester = 0; number = 0; bib = 0; information = 0; channel = 0; run = 0; group = 0; output = 0 } }
   pub reply-read : replyAnswer (read reply (F.replying "00041" "255" "0" "0001125400" "29022024"))
-      ≡ record { number = 0; offset = 0; reply = told 41 48 (record { kind = 1; ticks = 725400; day = 29; month = 2; year = 2024; net = pos 0 }) }
+      ≡ record { refusal = 0; offset = 0; reply = told 41 48 (record { kind = 1; ticks = 725400; day = 29; month = 2; year = 2024; net = pos 0 }) }
   pub reply-refused : replyAnswer (read reply (F.replying "60000" "255" "0" "0001125400" "29022024"))
-      ≡ record { number = 5; offset = 12; reply = record { program = 0; mode = 0; status = 0; requester = 0; number = 0; bib = 0; group = 0; run = 0; physical = 0; channel = 0; information = 0; timing = record { kind = 0; ticks = 0; day = 0; month = 0; year = 0; net = pos 0 }; «raw_time» = 0 ∷ 0 ∷ 0 ∷ 0 ∷ 0 ∷ 0 ∷ 0 ∷ 0 ∷ 0 ∷ 0 ∷ []; «raw_date» = 0 ∷ 0 ∷ 0 ∷ 0 ∷ 0 ∷ 0 ∷ 0 ∷ 0 ∷ []; spare = 0 ∷ 0 ∷ [] } }
+      ≡ record { refusal = 5; offset = 12; reply = record { program = 0; mode = 0; status = 0; requester = 0; number = 0; bib = 0; group = 0; run = 0; physical = 0; channel = 0; information = 0; timing = record { kind = 0; ticks = 0; day = 0; month = 0; year = 0; net = pos 0 }; «raw_time» = 0 ∷ 0 ∷ 0 ∷ 0 ∷ 0 ∷ 0 ∷ 0 ∷ 0 ∷ 0 ∷ 0 ∷ []; «raw_date» = 0 ∷ 0 ∷ 0 ∷ 0 ∷ 0 ∷ 0 ∷ 0 ∷ 0 ∷ []; spare = 0 ∷ 0 ∷ [] } }
   pub dynamic-read : dynamicAnswer (read dynamic (F.running "A" "00041" "00001"))
-      ≡ record { number = 0; offset = 0; request = record { requester = 49; order = 65; bib = 41; channel = 0; run = 1; «stop_bib» = 60000; «stop_channel» = 255; «stop_run» = 0; sign = 0; time = 0; days = 0; period = 1; output = 83 } }
+      ≡ record { refusal = 0; offset = 0; request = record { requester = 49; order = 65; bib = 41; channel = 0; run = 1; «stop_bib» = 60000; «stop_channel» = 255; «stop_run» = 0; sign = 0; time = 0; days = 0; period = 1; output = 83 } }
   pub dynamic-refused : dynamicAnswer (read dynamic (F.running "A" "00041" "00000"))
-      ≡ record { number = 5; offset = 39; request = record { requester = 0; order = 0; bib = 0; channel = 0; run = 0; «stop_bib» = 0; «stop_channel» = 0; «stop_run» = 0; sign = 0; time = 0; days = 0; period = 0; output = 0 } }
+      ≡ record { refusal = 5; offset = 39; request = record { requester = 0; order = 0; bib = 0; channel = 0; run = 0; «stop_bib» = 0; «stop_channel» = 0; «stop_run» = 0; sign = 0; time = 0; days = 0; period = 0; output = 0 } }
 
 -- ---- frames written
 
 pub record FramesWritten : Type 0 where
-  pub written : writtenAnswer 24 (writeTried (wrongIn request (F.asked 250)) 24 24) ≡ record { number = 0; offset = 0; size = 24 }
-  pub no-record : writtenAnswer 24 (writeTried (wrongIn request (F.asked 251)) 24 24) ≡ record { number = 6; offset = 16; size = 0 }
-  pub no-room : writtenAnswer 24 (writeTried (wrongIn request (F.asked 250)) 24 23) ≡ record { number = 7; offset = 0; size = 0 }
-  pub reply-written : writtenAnswer 51 (triedInC (told 41 48 (clocked 0)) (replicate 51 0)) ≡ record { number = 0; offset = 0; size = 51 }
-  pub left-over : writtenAnswer 51 (triedInC (told 41 48 (clocked 5)) (replicate 51 0)) ≡ record { number = 6; offset = 50; size = 0 }
-  pub reply-room : writtenAnswer 51 (triedInC (told 41 48 (clocked 0)) (replicate 50 0)) ≡ record { number = 7; offset = 0; size = 0 }
+  pub written : writtenAnswer 24 (writeTried (wrongIn request (F.asked 250)) 24 24) ≡ record { refusal = 0; offset = 0; size = 24 }
+  pub no-record : writtenAnswer 24 (writeTried (wrongIn request (F.asked 251)) 24 24) ≡ record { refusal = 6; offset = 16; size = 0 }
+  pub no-room : writtenAnswer 24 (writeTried (wrongIn request (F.asked 250)) 24 23) ≡ record { refusal = 7; offset = 0; size = 0 }
+  pub reply-written : writtenAnswer 51 (triedInC (told 41 48 (clocked 0)) (replicate 51 0)) ≡ record { refusal = 0; offset = 0; size = 51 }
+  pub left-over : writtenAnswer 51 (triedInC (told 41 48 (clocked 5)) (replicate 51 0)) ≡ record { refusal = 6; offset = 50; size = 0 }
+  pub reply-room : writtenAnswer 51 (triedInC (told 41 48 (clocked 0)) (replicate 50 0)) ≡ record { refusal = 7; offset = 0; size = 0 }
 
 -- ---- a reply's timing in numbers
 
@@ -152,10 +152,10 @@ pub record TimingNumbered : Type 0 where
 -- ---- running times and lists
 
 pub record OtherCalls : Type 0 where
-  pub running : runningAnswer (runningTime (record { bib = 1; tnow = 20; tev = 5; sign = 0; days = 0; time = 18 })) ≡ record { number = 0; ticks = negsuc 2 }
-  pub not-running : runningAnswer (runningTime (record { bib = 1; tnow = 20; tev = 5; sign = 2; days = 0; time = 18 })) ≡ record { number = 8; ticks = pos 0 }
-  pub list : listAnswer (listed [] [] [] (replicate 100 0)) ≡ record { number = 0; size = 74 }
-  pub no-room : listAnswer (listed [] [] [] []) ≡ record { number = 7; size = 0 }
+  pub running : runningAnswer (runningTime (record { bib = 1; tnow = 20; tev = 5; sign = 0; days = 0; time = 18 })) ≡ record { refusal = 0; ticks = negsuc 2 }
+  pub not-running : runningAnswer (runningTime (record { bib = 1; tnow = 20; tev = 5; sign = 2; days = 0; time = 18 })) ≡ record { refusal = 8; ticks = pos 0 }
+  pub list : listAnswer (listed [] [] [] (replicate 100 0)) ≡ record { refusal = 0; size = 74 }
+  pub no-room : listAnswer (listed [] [] [] []) ≡ record { refusal = 7; size = 0 }
 
 pub record Worked : Type 0 where
   pub frames-found : FramesFound

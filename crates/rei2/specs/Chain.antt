@@ -49,12 +49,12 @@ pub record SortedLent (m m′ : Memory) (es : List Event) (rs : List DeskAnswer)
 abbrev pub SortsLentCalls : Type 0
 SortsLentCalls =
     (seats : List Seat) (desk : Desk) (cells marks : List ℕ) (emptied : DeskAnswer) (seats₀ : List Seat)
-    → ResetLent seats desk emptied seats₀ → emptied .number ≡ 0
+    → ResetLent seats desk emptied seats₀ → emptied .refusal ≡ 0
     -- openings, then the one of the request r, then other openings
     → (before after : List Frame) (rs₁ rs₂ : List DeskAnswer) (desk₁ : Desk) (seats₁ : List Seat) (cells₁ marks₁ : List ℕ)
     → Chain (memory (emptied .desk) seats₀ cells marks) (openings before) rs₁ (memory desk₁ seats₁ cells₁ marks₁)
     → (f : Frame) (r : StaticRequest) (answer : DeskAnswer) (seats₂ : List Seat)
-    → OpenLent seats₁ desk₁ cells₁ marks₁ f answer seats₂ → answer .number ≡ 0 → read request f ≡ gives r
+    → OpenLent seats₁ desk₁ cells₁ marks₁ f answer seats₂ → answer .refusal ≡ 0 → read request f ≡ gives r
     → (m : Memory) → Chain (memory (answer .desk) seats₂ cells₁ marks₁) (openings after) rs₂ m
     -- the replies
     → (es : List Event) (rs : List DeskAnswer) (m′ : Memory) → Chain m es rs m′ → Stretch es → repliesTo m es ≤ capacityOf (length cells) (length marks)

@@ -19,14 +19,14 @@ abbrev pub zeroRequest : StaticRequest
 zeroRequest = record { requester = 0; number = 0; bib = 0; information = 0; channel = 0; run = 0; group = 0; output = 0 }
 
 abbrev pub requestAnswer : Told StaticRequest → RequestAnswer
-requestAnswer t = record { number = numberIn t; offset = offsetIn t; request = valueIn zeroRequest t }
+requestAnswer t = record { refusal = numberIn t; offset = offsetIn t; request = valueIn zeroRequest t }
 
 abbrev pub zeroDynamic : DynamicRequest
 zeroDynamic =
     record { requester = 0; order = 0; bib = 0; channel = 0; run = 0; «stop_bib» = 0; «stop_channel» = 0; «stop_run» = 0; sign = 0; time = 0; days = 0; period = 0; output = 0 }
 
 abbrev pub dynamicAnswer : Told DynamicRequest → DynamicAnswer
-dynamicAnswer t = record { number = numberIn t; offset = offsetIn t; request = valueIn zeroDynamic t }
+dynamicAnswer t = record { refusal = numberIn t; offset = offsetIn t; request = valueIn zeroDynamic t }
 
 -- ---- writing
 
@@ -36,7 +36,7 @@ sizeIn size (gives done) = size
 sizeIn size (refuses number offset) = 0
 
 abbrev pub writtenAnswer : ℕ → Told (Unit {0}) → WrittenAnswer
-writtenAnswer size t = record { number = numberIn t; offset = offsetIn t; size = sizeIn size t }
+writtenAnswer size t = record { refusal = numberIn t; offset = offsetIn t; size = sizeIn size t }
 
 -- what is promised of writing r to out: the answer, and every byte of the output
 pub record WroteLent {R : Type 0} (k : Kind R) (r : R) (out : List ℕ) (answer : WrittenAnswer) (out′ : List ℕ) : Type 0 where

@@ -46,4 +46,4 @@ roomIn left size = cond left 0 size
 
 -- and where that is all that is wrong, the number is told
 abbrev pub orLeft : Bool → WrittenAnswer → WrittenAnswer
-orLeft left a = cond (left && eqb (a .number) ROOM) (record { number = RECORD; offset = leftAt; size = 0 }) a
+orLeft left a = cond (left && eqb (a .refusal) ROOM) (record { refusal = RECORD; offset = leftAt; size = 0 }) a

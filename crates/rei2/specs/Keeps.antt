@@ -21,25 +21,25 @@ Refusing number = number ≡ 0 → ⊥
 
 module _ (seats : List Seat) (desk : Desk) where
   abbrev pub ResetKeeps : Type 0
-  ResetKeeps = (r : DeskAnswer) (seats′ : List Seat) → ResetLent seats desk r seats′ → Refusing (r .number) → (r .desk ≡ desk) × (seats′ ≡ seats)
+  ResetKeeps = (r : DeskAnswer) (seats′ : List Seat) → ResetLent seats desk r seats′ → Refusing (r .refusal) → (r .desk ≡ desk) × (seats′ ≡ seats)
 
   module _ (cells marks : List ℕ) where
     abbrev pub OpenKeeps : List ℕ → Type 0
     OpenKeeps frame =
-        (r : DeskAnswer) (seats′ : List Seat) → OpenLent seats desk cells marks frame r seats′ → Refusing (r .number) → (r .desk ≡ desk) × (seats′ ≡ seats)
+        (r : DeskAnswer) (seats′ : List Seat) → OpenLent seats desk cells marks frame r seats′ → Refusing (r .refusal) → (r .desk ≡ desk) × (seats′ ≡ seats)
 
     abbrev pub ReplyKeeps : List ℕ → Type 0
     ReplyKeeps frame =
-        (r : DeskAnswer) (seats′ : List Seat) (cells′ marks′ : List ℕ) → ReplyLent seats desk cells marks frame r seats′ cells′ marks′ → Refusing (r .number)
+        (r : DeskAnswer) (seats′ : List Seat) (cells′ marks′ : List ℕ) → ReplyLent seats desk cells marks frame r seats′ cells′ marks′ → Refusing (r .refusal)
         → (r .desk ≡ desk) × ((seats′ ≡ seats) × ((cells′ ≡ cells) × (marks′ ≡ marks)))
 
     abbrev pub CaptureKeeps : List ℕ → Type 0
     CaptureKeeps capture =
-        (r : CapturedAnswer) (seats′ : List Seat) (cells′ marks′ : List ℕ) → CaptureLent seats desk cells marks capture r seats′ cells′ marks′ → Refusing (r .number)
+        (r : CapturedAnswer) (seats′ : List Seat) (cells′ marks′ : List ℕ) → CaptureLent seats desk cells marks capture r seats′ cells′ marks′ → Refusing (r .refusal)
         → (r .desk ≡ desk) × ((seats′ ≡ seats) × ((cells′ ≡ cells) × (marks′ ≡ marks)))
 
 abbrev pub WriteKeeps : (List ℕ → WrittenAnswer → List ℕ → Type 0) → Type 0
-WriteKeeps Promised = (out : List ℕ) (answer : WrittenAnswer) (out′ : List ℕ) → Promised out answer out′ → Refusing (answer .number) → out′ ≡ out
+WriteKeeps Promised = (out : List ℕ) (answer : WrittenAnswer) (out′ : List ℕ) → Promised out answer out′ → Refusing (answer .refusal) → out′ ≡ out
 
 pub record RefusedKeeps : Type 1 where
   pub reset : (seats : List Seat) (desk : Desk) → ResetKeeps seats desk
@@ -50,5 +50,5 @@ pub record RefusedKeeps : Type 1 where
   pub writing : {R : Type 0} (k : Kind R) (r : R) → WriteKeeps (WroteLent k r)
   pub writing-reply : (c : ReplyRecord) → WriteKeeps (WroteReplyLent c)
   pub listing : (cells marks capture out : List ℕ) (answer : ListedAnswer) (cells′ marks′ out′ : List ℕ)
-      → ListLent cells marks capture out answer cells′ marks′ out′ → Refusing (answer .number)
+      → ListLent cells marks capture out answer cells′ marks′ out′ → Refusing (answer .refusal)
       → (cells′ ≡ cells) × ((marks′ ≡ marks) × (out′ ≡ out))

@@ -20,7 +20,7 @@ stateIn m = record { bits = m .bits; count = m .count }
 -- ---- answers in numbers
 
 abbrev pub deskAnswer : Desk → Told ℕ → DeskAnswer
-deskAnswer d t = record { desk = d; number = numberIn t; offset = offsetIn t; seat = valueIn 0 t }
+deskAnswer d t = record { desk = d; refusal = numberIn t; offset = offsetIn t; seat = valueIn 0 t }
 
 -- what an outcome says, with the state that it leaves
 abbrev pub answerOf : Outcome → DeskAnswer
@@ -30,7 +30,7 @@ abbrev pub noCounts : Counts
 noCounts = record { opened = 0; collected = 0; dynamic = 0; refused = 0 }
 
 abbrev pub captureAnswer : Desk → Told Counts → CapturedAnswer
-captureAnswer d t = record { desk = d; number = numberIn t; counts = valueIn noCounts t }
+captureAnswer d t = record { desk = d; refusal = numberIn t; counts = valueIn noCounts t }
 
 abbrev pub capturedOf : Captured → CapturedAnswer
 capturedOf o = captureAnswer (stateIn (o .after)) (o .answer)

@@ -74,7 +74,7 @@ recordOf r =
 
 -- beside a refusal stands the record of zeros
 abbrev pub replyAnswer : Told StaticReply → ReplyAnswer
-replyAnswer t = record { number = numberIn t; offset = offsetIn t; reply = shown (orZero t) }
+replyAnswer t = record { refusal = numberIn t; offset = offsetIn t; reply = shown (orZero t) }
 
 -- ---- writing
 

@@ -15,7 +15,7 @@ ghost use Rattle.rei2.specs.Frames.{dynamicAnswer, zeroDynamic, WroteLen
 // The record is all zero where the frame was refused.
 #[repr(C)]
 pub struct DynamicAnswer {
-    pub number: u32,
+    pub refusal: u32,
     pub offset: u32,
     pub request: DynamicRequest,
 }
@@ -27,7 +27,7 @@ pub extern "C" fn rei2_read_dynamic(frame: &[u8]) -> DynamicAnswer
     match read_dynamic(frame) {
         // Part by part, as in the static request.
         DynamicRead::Request(r) => DynamicAnswer {
-            number: 0,
+            refusal: 0,
             offset: 0,
             request: DynamicRequest {
                 requester: r.requester,
@@ -48,7 +48,7 @@ pub extern "C" fn rei2_read_dynamic(frame: &[u8]) -> DynamicAnswer
         DynamicRead::Refused(refusal) => {
             let said = of_reading(refusal);
             DynamicAnswer {
-                number: said.number,
+                refusal: said.number,
                 offset: said.offset,
                 request: no_dynamic(),
             }

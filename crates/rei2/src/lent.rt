@@ -21,20 +21,20 @@ ghost use Rattle.desk.specs.Capture.{captureTold};
 ghost use Rattle.rei2.specs.Lent.{deskAnswer, captureAnswer, ResetLent, OpenLent, ReplyLent, CaptureLent};
 ghost use Rattle.rei2.specs.Inside.{CoreReset, CoreOpen, CoreReply, CoreCapture};
 
-// The state after the call; the refusal's number, 0 where the call was done, and its offset; the seat, 0 where it was refused.
+// The state after the call; the refusal by its number, 0 where the call was done, and its offset; the seat, 0 where it was refused.
 #[repr(C)]
 pub struct DeskAnswer {
     pub desk: Desk,
-    pub number: u32,
+    pub refusal: u32,
     pub offset: u32,
     pub seat: usize,
 }
 
-// The state after the call, the refusal's number, and what became of the frames of the capture, all 0 where it was refused.
+// The state after the call, the refusal, and what became of the frames of the capture, all 0 where it was refused.
 #[repr(C)]
 pub struct CapturedAnswer {
     pub desk: Desk,
-    pub number: u32,
+    pub refusal: u32,
     pub counts: Counts,
 }
 
@@ -83,7 +83,7 @@ pub(crate) fn no_desk(desk: Desk) -> DeskAnswer
 {
     DeskAnswer {
         desk,
-        number: 9,
+        refusal: 9,
         offset: 0,
         seat: 0,
     }
@@ -94,7 +94,7 @@ pub(crate) fn no_captured(desk: Desk) -> CapturedAnswer
 {
     CapturedAnswer {
         desk,
-        number: 9,
+        refusal: 9,
         counts: Counts {
             opened: 0,
             collected: 0,
@@ -110,7 +110,7 @@ fn open_answer(desk: Desk, answer: OpenAnswer) -> DeskAnswer
     match answer {
         OpenAnswer::Opened(seat) => DeskAnswer {
             desk,
-            number: 0,
+            refusal: 0,
             offset: 0,
             seat,
         },
@@ -118,7 +118,7 @@ fn open_answer(desk: Desk, answer: OpenAnswer) -> DeskAnswer
             let said = of_opening(refusal);
             DeskAnswer {
                 desk,
-                number: said.number,
+                refusal: said.number,
                 offset: said.offset,
                 seat: 0,
             }
@@ -132,7 +132,7 @@ fn reply_answer(desk: Desk, answer: ReplyAnswer) -> DeskAnswer
     match answer {
         ReplyAnswer::Taken(seat) => DeskAnswer {
             desk,
-            number: 0,
+            refusal: 0,
             offset: 0,
             seat,
         },
@@ -140,7 +140,7 @@ fn reply_answer(desk: Desk, answer: ReplyAnswer) -> DeskAnswer
             let said = of_reply(refusal);
             DeskAnswer {
                 desk,
-                number: said.number,
+                refusal: said.number,
                 offset: said.offset,
                 seat: 0,
             }
@@ -154,7 +154,7 @@ fn captured_answer(desk: Desk, answer: CaptureAnswer) -> CapturedAnswer
     match answer {
         CaptureAnswer::Taken(counts) => CapturedAnswer {
             desk,
-            number: 0,
+            refusal: 0,
             counts,
         },
         CaptureAnswer::NoDesk => no_captured(desk),
@@ -173,7 +173,7 @@ pub(crate) fn reset_row(row: [Seat; SEATS], desk: Desk) -> Out
         row,
         answer: DeskAnswer {
             desk: empty,
-            number: 0,
+            refusal: 0,
             offset: 0,
             seat: 0,
         },

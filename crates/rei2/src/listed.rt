@@ -7,7 +7,7 @@ ghost use Rattle.rei2.specs.Calls.{ListLent};
 // The size of the list, 0 where it was not written.
 #[repr(C)]
 pub struct ListedAnswer {
-    pub number: u32,
+    pub refusal: u32,
     pub size: usize,
 }
 
@@ -21,7 +21,7 @@ pub extern "C" fn rei2_list(
     ensures { λ r. ⌜ ListLent (now (cells .entry)) (now (marks .entry)) (now (capture .entry)) (now (out .entry)) r (now (cells .exit)) (now (marks .exit)) (now (out .exit)) ⌝ }
 {
     match list(capture, cells, marks, out) {
-        ListAnswer::Written(size) => ListedAnswer { number: 0, size },
-        ListAnswer::Room => ListedAnswer { number: 7, size: 0 },
+        ListAnswer::Written(size) => ListedAnswer { refusal: 0, size },
+        ListAnswer::Room => ListedAnswer { refusal: 7, size: 0 },
     }
 }

@@ -54,7 +54,7 @@ pub struct ReplyRecord {
 // The record is all zero where the frame was refused.
 #[repr(C)]
 pub struct ReplyAnswer {
-    pub number: u32,
+    pub refusal: u32,
     pub offset: u32,
     pub reply: ReplyRecord,
 }
@@ -68,14 +68,14 @@ pub extern "C" fn rei2_read_reply(frame: &[u8]) -> ReplyAnswer
     let record = read.reply;
     match verdict {
         ReadVerdict::Read => ReplyAnswer {
-            number: 0,
+            refusal: 0,
             offset: 0,
             reply: shown(record),
         },
         ReadVerdict::Refused(refusal) => {
             let said = of_reading(refusal);
             ReplyAnswer {
-                number: said.number,
+                refusal: said.number,
                 offset: said.offset,
                 reply: no_reply(),
             }
@@ -107,9 +107,9 @@ fn room_in(left: bool, size: usize) -> usize
 fn or_left(left: bool, answer: WrittenAnswer) -> WrittenAnswer
     ensures { λ r. ⌜ r ≡ orLeft left answer ⌝ }
 {
-    if left & (answer.number == 7) {
+    if left & (answer.refusal == 7) {
         return WrittenAnswer {
-            number: 6,
+            refusal: 6,
             offset: 50,
             size: 0,
         };

@@ -16,7 +16,7 @@ ghost use Rattle.rei2.specs.Frames.{requestAnswer, zeroRequest, writtenA
 // The record is all zero where the frame was refused.
 #[repr(C)]
 pub struct RequestAnswer {
-    pub number: u32,
+    pub refusal: u32,
     pub offset: u32,
     pub request: StaticRequest,
 }
@@ -24,7 +24,7 @@ pub struct RequestAnswer {
 // The size of the frame, 0 where it was not written.
 #[repr(C)]
 pub struct WrittenAnswer {
-    pub number: u32,
+    pub refusal: u32,
     pub offset: u32,
     pub size: usize,
 }
@@ -36,7 +36,7 @@ pub extern "C" fn rei2_read_request(frame: &[u8]) -> RequestAnswer
     match read_request(frame) {
         // Part by part: a copy as a whole would wait for what was stored in other pieces.
         RequestRead::Request(r) => RequestAnswer {
-            number: 0,
+            refusal: 0,
             offset: 0,
             request: StaticRequest {
                 requester: r.requester,
@@ -52,7 +52,7 @@ pub extern "C" fn rei2_read_request(frame: &[u8]) -> RequestAnswer
         RequestRead::Refused(refusal) => {
             let said = of_reading(refusal);
             RequestAnswer {
-                number: said.number,
+                refusal: said.number,
                 offset: said.offset,
                 request: no_request(),
             }
@@ -73,14 +73,14 @@ pub(crate) fn written(answer: WriteAnswer, size: usize) -> WrittenAnswer
 {
     match answer {
         WriteAnswer::Written => WrittenAnswer {
-            number: 0,
+            refusal: 0,
             offset: 0,
             size,
         },
         WriteAnswer::Refused(refusal) => {
             let said = of_writing(refusal);
             WrittenAnswer {
-                number: said.number,
+                refusal: said.number,
                 offset: said.offset,
                 size: 0,
             }

@@ -6,10 +6,10 @@ ghost use mathlib.Core.Path.{_≡_};
 ghost use Rattle.times.specs.Running.{runningTime};
 ghost use Rattle.rei2.specs.Calls.{runningAnswer};
 
-// The ticks are 0 where the number is not.
+// The ticks are 0 where the running time was refused.
 #[repr(C)]
 pub struct RunningAnswer {
-    pub number: u32,
+    pub refusal: u32,
     pub ticks: i64,
 }
 
@@ -18,9 +18,9 @@ pub extern "C" fn rei2_running_time(of: RunningOf) -> RunningAnswer
     ensures { λ r. ⌜ r ≡ runningAnswer (runningTime of) ⌝ }
 {
     match running_time(of) {
-        Running::Ticks(ticks) => RunningAnswer { number: 0, ticks },
+        Running::Ticks(ticks) => RunningAnswer { refusal: 0, ticks },
         Running::Time => RunningAnswer {
-            number: 8,
+            refusal: 8,
             ticks: 0,
         },
     }

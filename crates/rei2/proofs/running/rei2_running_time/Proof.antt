@@ -18,7 +18,7 @@ enum-told : tie.Need-enum-told
 enum-told c = search needs
 
 returns : tie.Need-returns
-returns c = let v = c .before .ticks .given .0 .0 in let r : toZ w64 (ofZ w64 v) ≡ v = search needs in let p : _≡_ {A = RunningAnswer} (record { number = 0; ticks = toZ w64 (ofZ w64 v) }) (record { number = 0; ticks = v }) = λ i. record { number = 0; ticks = r i } in p ∙ ap runningAnswer (rw (c .before .ticks .given .1) at (c .before .before .before .running-time .ensures))
+returns c = let v = c .before .ticks .given .0 .0 in let r : toZ w64 (ofZ w64 v) ≡ v = search needs in let p : _≡_ {A = RunningAnswer} (record { refusal = 0; ticks = toZ w64 (ofZ w64 v) }) (record { refusal = 0; ticks = v }) = λ i. record { refusal = 0; ticks = r i } in p ∙ ap runningAnswer (rw (c .before .ticks .given .1) at (c .before .before .before .running-time .ensures))
 
 returns-2 : tie.Need-returns-2
 returns-2 c = ap runningAnswer (rw (c .enum-told .given .1) at (c .before .before .running-time .ensures))
