@@ -42,7 +42,7 @@ use Rattle.rei2.specs.Cases.{FramesFound, CellsHeld, DeskCalls, Captures
 
 frames-found : FramesFound
 unfolding oneOf isLead walk piecesFrom foundFrom
-frames-found = record { nothing = refl; no-lead = refl; one = refl; cut-by-end = refl; cut-by-lead = refl; next-one = refl }
+frames-found = record { nothing = refl; no-lead = refl; past-the-end = refl; one = refl; no-more = refl; cut-by-end = refl; cut-by-lead = refl; next-one = refl }
 
 cells-held : CellsHeld
 unfolding first capacityOf nextHeld

@@ -15,11 +15,11 @@ use Rattle.rei2.specs.declared.running.RunningAnswer.{RunningAnswer}
 use Rattle.rei2.specs.declared.listed.ListedAnswer.{ListedAnswer}
 use Rattle.rei2.specs.Numbers.{numberIn, valueIn}
 
--- a cut frame ends where the next call starts
-abbrev pub frameAnswer : Found → FrameAnswer
-frameAnswer (Whole start end next) = record { kind = 1; start = start; end = end; next = next .at }
-frameAnswer (Cut start next) = record { kind = 2; start = start; end = next .at; next = next .at }
-frameAnswer Nothing = record { kind = 0; start = 0; end = 0; next = 0 }
+-- what is found in a capture of so many bytes: a cut frame ends where the next call starts, and where nothing is left that is the end of the capture
+abbrev pub frameAnswer : Found → ℕ → FrameAnswer
+frameAnswer (Whole start end next) size = record { kind = 1; start = start; end = end; next = next .at }
+frameAnswer (Cut start next) size = record { kind = 2; start = start; end = next .at; next = next .at }
+frameAnswer Nothing size = record { kind = 0; start = 0; end = 0; next = size }
 
 abbrev pub cellAnswer : Held → CellAnswer
 cellAnswer (Cell i) = record { found = 1; cell = i }

@@ -30,12 +30,14 @@ use Rattle.rei2.specs.Calls.{frameAnswer, cellAnswer, runningAnswer, lis
 -- ---- frames in a capture: a whole one, one that the end cuts, one that a lead byte cuts
 
 pub record FramesFound : Type 0 where
-  pub nothing : frameAnswer (foundFrom [] 0) ≡ record { kind = 0; start = 0; end = 0; next = 0 }
-  pub no-lead : frameAnswer (foundFrom (65 ∷ 13 ∷ []) 0) ≡ record { kind = 0; start = 0; end = 0; next = 0 }
-  pub one : frameAnswer (foundFrom (65 ∷ 17 ∷ 66 ∷ 13 ∷ 67 ∷ []) 0) ≡ record { kind = 1; start = 1; end = 4; next = 4 }
-  pub cut-by-end : frameAnswer (foundFrom (65 ∷ 18 ∷ 66 ∷ []) 0) ≡ record { kind = 2; start = 1; end = 3; next = 3 }
-  pub cut-by-lead : frameAnswer (foundFrom (65 ∷ 17 ∷ 66 ∷ 19 ∷ 13 ∷ []) 0) ≡ record { kind = 2; start = 1; end = 3; next = 3 }
-  pub next-one : frameAnswer (foundFrom (65 ∷ 17 ∷ 66 ∷ 19 ∷ 13 ∷ []) 3) ≡ record { kind = 1; start = 3; end = 5; next = 5 }
+  pub nothing : frameAnswer (foundFrom [] 0) 0 ≡ record { kind = 0; start = 0; end = 0; next = 0 }
+  pub no-lead : frameAnswer (foundFrom (65 ∷ 13 ∷ []) 0) 2 ≡ record { kind = 0; start = 0; end = 0; next = 2 }
+  pub past-the-end : frameAnswer (foundFrom (17 ∷ 13 ∷ []) 7) 2 ≡ record { kind = 0; start = 0; end = 0; next = 2 }
+  pub one : frameAnswer (foundFrom (65 ∷ 17 ∷ 66 ∷ 13 ∷ 67 ∷ []) 0) 5 ≡ record { kind = 1; start = 1; end = 4; next = 4 }
+  pub no-more : frameAnswer (foundFrom (65 ∷ 17 ∷ 66 ∷ 13 ∷ 67 ∷ []) 4) 5 ≡ record { kind = 0; start = 0; end = 0; next = 5 }
+  pub cut-by-end : frameAnswer (foundFrom (65 ∷ 18 ∷ 66 ∷ []) 0) 3 ≡ record { kind = 2; start = 1; end = 3; next = 3 }
+  pub cut-by-lead : frameAnswer (foundFrom (65 ∷ 17 ∷ 66 ∷ 19 ∷ 13 ∷ []) 0) 5 ≡ record { kind = 2; start = 1; end = 3; next = 3 }
+  pub next-one : frameAnswer (foundFrom (65 ∷ 17 ∷ 66 ∷ 19 ∷ 13 ∷ []) 3) 5 ≡ record { kind = 1; start = 3; end = 5; next = 5 }
 
 -- ---- held cells: three cells, the marks 4 5 4
 

@@ -3,6 +3,7 @@ pub mod Lent
 pub mod Frames
 pub mod Reply
 pub mod Calls
+pub mod Limits
 pub mod Tells
 pub mod Inside
 pub mod Unique

@@ -3,10 +3,12 @@ use finder::Cursor;
 use finder::Found;
 use finder::next;
 ghost use mathlib.Core.Path.{_≡_};
+ghost use lib.ListN.{length};
 ghost use Rattle.finder.specs.Pieces.{foundFrom};
 ghost use Rattle.rei2.specs.Calls.{frameAnswer};
 
-// 1 a whole frame, 2 a cut one, 0 none with zeros beside it. The frame is the bytes from start up to end; the next call starts at next.
+// 1 a whole frame, 2 a cut one, 0 none. The frame is the bytes from start up to end, 0 and 0 where there is none. The next call starts at next,
+// which is the length of the capture where nothing is left.
 #[repr(C)]
 pub struct FrameAnswer {
     pub kind: u32,
@@ -17,7 +19,7 @@ pub struct FrameAnswer {
 
 #[no_mangle]
 pub extern "C" fn rei2_next_frame(capture: &[u8], at: usize) -> FrameAnswer
-    ensures { λ r. ⌜ r ≡ frameAnswer (foundFrom (now (capture .entry)) at) ⌝ }
+    ensures { λ r. ⌜ r ≡ frameAnswer (foundFrom (now (capture .entry)) at) (length (now (capture .entry))) ⌝ }
 {
     match next(capture, Cursor { at }) {
         Found::Whole { start, end, next } => FrameAnswer {
@@ -36,7 +38,7 @@ pub extern "C" fn rei2_next_frame(capture: &[u8], at: usize) -> FrameAnswer
             kind: 0,
             start: 0,
             end: 0,
-            next: 0,
+            next: capture.len(),
         },
     }
 }

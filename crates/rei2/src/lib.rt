@@ -3,6 +3,7 @@ pub mod dynamic;
 pub mod found;
 pub mod held;
 pub mod lent;
+pub mod limits;
 pub mod listed;
 mod refusal;
 pub mod reply;
