@@ -61,19 +61,15 @@ static void end_line(void) {
 
 /* ---- frames */
 
-/* By number, as in enum rei2_refusal. */
-static const char *const names[] = {
-    "DONE", "KIND", "LENGTH", "END", "ADDRESS", "FIELD", "RECORD", "ROOM", "TIME", "DESK",
-    "NO_ANSWER_DUE", "IN_USE", "NO_SEAT", "STRAY", "ENDED", "OUT_OF_PLACE", "FULL",
-};
-
 /* Says what a refused frame was refused for. */
-static void refused(const char *what, uint32_t number, uint32_t offset) {
+static void refused(const char *what, uint32_t refusal, uint32_t offset) {
+    uint8_t name[REI2_NAME_SIZE];
+    rei2_refusal_name(refusal, name, sizeof name);
     counts.refused++;
     put(what);
     put(" refused, ");
-    put(names[number]);
-    if (number == REI2_FIELD) {
+    put((const char *)name);
+    if (refusal == REI2_FIELD) {
         put(" at ");
         put_number(offset, 1);
     }
@@ -82,8 +78,8 @@ static void refused(const char *what, uint32_t number, uint32_t offset) {
 /* Goes on with the state that a call gave, and says what it answered. */
 static void answered(rei2_desk_answer answer, const char *what, const char *done, size_t *count) {
     desk = answer.desk;
-    if (answer.number != REI2_DONE) {
-        refused(what, answer.number, answer.offset);
+    if (answer.refusal != REI2_DONE) {
+        refused(what, answer.refusal, answer.offset);
         return;
     }
     ++*count;
@@ -94,8 +90,8 @@ static void answered(rei2_desk_answer answer, const char *what, const char *done
 
 static void dynamic(const uint8_t *frame, size_t size) {
     rei2_dynamic_answer answer = rei2_read_dynamic(frame, size);
-    if (answer.number != REI2_DONE) {
-        refused("dynamic request", answer.number, answer.offset);
+    if (answer.refusal != REI2_DONE) {
+        refused("dynamic request", answer.refusal, answer.offset);
         return;
     }
     counts.dynamic++;
@@ -202,14 +198,28 @@ static void tell_end(void) {
     end_line();
 }
 
+/* The arrays are as long as the header says. The library says for itself what it takes. */
+static int is_made_for_it(void) {
+    rei2_limits_answer limits = rei2_limits();
+    return limits.seats == REI2_SEATS && limits.cells == sizeof cells && limits.marks == REI2_CELLS;
+}
+
+static int tell_error(const char *text) {
+    used = 0;
+    put("watch: ");
+    put(text);
+    put("\n");
+    unwritten |= write(2, line, used) < 0;
+    return 1;
+}
+
 int main(int words, char **word) {
-    static const char unread[] = "watch: the input cannot be read\n";
+    if (!is_made_for_it()) {
+        return tell_error("the library is not the one of its header");
+    }
     int file = words > 1 ? open(word[1], O_RDONLY) : 0;
     desk = rei2_reset(seats, REI2_SEATS, desk).desk;
     ssize_t ended = watch(file);
     tell_end();
-    if (ended < 0) {
-        unwritten |= write(2, unread, sizeof unread - 1) < 0;
-    }
-    return ended < 0 || unwritten;
+    return ended < 0 ? tell_error("the input cannot be read") : unwritten;
 }

@@ -38,7 +38,8 @@ use Rattle.listing.specs.Listing.{seatsText, listText, listOf}
 use Rattle.rei2.specs.declared.lent.CapturedAnswer.{CapturedAnswer}
 use Rattle.rei2.specs.Lent.{stateIn, captureAnswer, capturedOf}
 use Rattle.rei2.specs.Reply.{timingOf, leftOver, wrongInC}
-use Rattle.rei2.specs.Cases.{FramesFound, CellsHeld, DeskCalls, CapturesTaken, FramesRead, FramesWritten, TimingNumbered, OtherCalls, Worked}
+use Rattle.rei2.specs.Names.{names, nameOf}
+use Rattle.rei2.specs.Cases.{FramesFound, CellsHeld, DeskCalls, CapturesTaken, FramesRead, FramesWritten, TimingNumbered, OtherCalls, NamesWritten, Worked}
 
 frames-found : FramesFound
 unfolding oneOf isLead walk piecesFrom foundFrom
@@ -146,6 +147,10 @@ other-calls : OtherCalls
 unfolding inRange runningTime digits T.width T.decimal recordsOf piecesFrom walk fates afterAll howMany seatsText listText listOf T.endText
 other-calls = record { running = refl; not-running = refl; list = refl; no-room = refl }
 
+names-written : NamesWritten
+unfolding names nameOf
+names-written = record { written = refl; bytes = refl; no-room = refl }
+
 pub worked : Worked
 worked = record {
   frames-found = frames-found;
@@ -156,4 +161,6 @@ worked = record {
   frames-written = frames-written;
   timing-numbered = timing-numbered;
   other-calls = other-calls;
+  names-written = names-written;
+  lends = record { limits-are = refl };
 }

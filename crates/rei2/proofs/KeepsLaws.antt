@@ -1,6 +1,6 @@
 -- A call that is turned away changes nothing. Assumes nothing.
-use Prim.Native.Nat.{ℕ}
-use mathlib.Core.List.{List, []}
+use Prim.Native.Nat.{ℕ, suc}
+use mathlib.Core.List.{List, [], _∷_, _++_}
 use mathlib.Core.Path.{_≡_, refl, ap, _∙_}
 use lib.ListN.{length}
 use Rattle.digits.specs.Told.{Told, gives, refuses}
@@ -20,6 +20,7 @@ use Rattle.rei2.specs.declared.listed.ListedAnswer.{ListedAnswer}
 use Rattle.rei2.specs.Numbers.{numberIn}
 use Rattle.rei2.specs.Lent.{stateIn, Lent, LentCall}
 use Rattle.rei2.specs.Reply.{recordOf, triedInC}
+use Rattle.rei2.specs.Names.{nameTried}
 use Rattle.rei2.specs.Keeps.{Refusing, RefusedKeeps}
 
 -- what refuses by a number is a refusal
@@ -84,6 +85,8 @@ refused-keeps = record {
       h .bytes ∙ output-kept (writeTried (wrongIn k r) (k .size) (length out)) (frameOf k r) (k .size) out (λ z. n (ap (λ (x : WrittenAnswer). x .refusal) (h .told) ∙ z));
   writing-reply = λ c out answer out′ h n.
       h .bytes ∙ output-kept (triedInC c out) (frameOf reply (recordOf c)) 51 out (λ z. n (ap (λ (x : WrittenAnswer). x .refusal) (h .told) ∙ z));
+  naming = λ name out answer out′ h n.
+      h .bytes ∙ output-kept (nameTried name out) (name ++ (0 ∷ [])) (suc (length name)) out (λ z. n (ap (λ (x : WrittenAnswer). x .refusal) (h .told) ∙ z));
   listing = λ cells marks capture out answer cells′ marks′ out′ h n.
       let k = list-kept cells marks capture out (λ z. n (ap (λ (x : ListedAnswer). x .refusal) (h .told) ∙ z)) in
       (h .cells ∙ k .0, (h .marks ∙ k .1 .0, h .bytes ∙ k .1 .1));

@@ -4,6 +4,7 @@ pub mod Steps
 pub mod Outs
 pub mod LentLaws
 pub mod NumberLaws
+pub mod NameLaws
 pub mod TimingLaws
 pub mod Tells
 pub mod Unique

@@ -4,7 +4,7 @@ use mathlib.Core.Bool.{not}
 use mathlib.Core.Path.{_≡_, refl, ap}
 use native.Mathlib.Omega.{arith}
 use lib.ListN.{length}
-use lib.Dec.{eqb, leb}
+use lib.Dec.{eqb, leb, ltb}
 use lib.IntN.{pos, _-ℤ_}
 use Rattle.digits.specs.Told.{Told, gives, refuses, Sure}
 use Rattle.digits.proofs.Sure.{never-0, sure-gives, sure-tried}
@@ -45,6 +45,7 @@ numbers-tell = record {
   opening = sure-opens;
   reply = sure-replies;
   capture = λ m s. sure-tried (isDesk m) DESK 0 _ (λ _. refl) (sure-gives (countsOf (fates m (pieces s))));
+  naming = λ name out. sure-tried (ltb (length name) (length out)) ROOM 0 _ (λ _. refl) (sure-gives tt);
   listing = λ cells marks s out. sure-tried (fits cells marks s out) ROOM 0 _ (λ _. refl) (sure-gives (length (listOf cells marks s)));
   told = told-by;
 }

@@ -29,4 +29,5 @@ one-outcome = record {
   rei2-write-dynamic = wrote-once _;
   rei2-list = λ cells marks capture out a b h k.
       λ i. ((h .told ∙ sym (k .told)) i, ((h .cells ∙ sym (k .cells)) i, ((h .marks ∙ sym (k .marks)) i, (h .bytes ∙ sym (k .bytes)) i)));
+  rei2-refusal-name = λ name out a b h k. λ i. ((h .told ∙ sym (k .told)) i, (h .bytes ∙ sym (k .bytes)) i);
 }

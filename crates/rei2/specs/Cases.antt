@@ -7,7 +7,7 @@ use lib.ListN.{replicate}
 use Rattle.digits.specs.Text.{codes}
 use Rattle.times.specs.Running.{runningTime}
 use Rattle.frames.specs.declared.timing.Timing.the-variants.{Clock, Net, Raw}
-use Rattle.frames.specs.Kind.{read, wrongIn, writeTried}
+use Rattle.frames.specs.Kind.{read, wrongIn, writeTried, outputAfter}
 use Rattle.frames.specs.Request.{request}
 use Rattle.frames.specs.Reply.{reply}
 use Rattle.frames.specs.Dynamic.{dynamic}
@@ -26,6 +26,8 @@ use Rattle.rei2.specs.Lent.{answerOf, capturedOf}
 use Rattle.rei2.specs.Frames.{requestAnswer, dynamicAnswer, writtenAnswer}
 use Rattle.rei2.specs.Reply.{numbersOf, replyAnswer, wrongInC, triedInC}
 use Rattle.rei2.specs.Calls.{frameAnswer, cellAnswer, runningAnswer, listAnswer}
+use Rattle.rei2.specs.Names.{nameOf, nameTried}
+use Rattle.rei2.specs.Limits.{limits}
 
 -- ---- frames in a capture: a whole one, one that the end cuts, one that a lead byte cuts
 
@@ -159,6 +161,18 @@ pub record OtherCalls : Type 0 where
   pub list : listAnswer (listed [] [] [] (replicate 100 0)) ≡ record { refusal = 0; size = 74 }
   pub no-room : listAnswer (listed [] [] [] []) ≡ record { refusal = 7; size = 0 }
 
+-- ---- a refusal's name on an output: STRAY, and with one byte less
+
+pub record NamesWritten : Type 0 where
+  pub written : writtenAnswer 5 (nameTried (nameOf 13) (replicate 7 0)) ≡ record { refusal = 0; offset = 0; size = 5 }
+  pub bytes : outputAfter (nameTried (nameOf 13) (replicate 7 1)) (nameOf 13 ++ (0 ∷ [])) 6 (replicate 7 1) ≡ 83 ∷ 84 ∷ 82 ∷ 65 ∷ 89 ∷ 0 ∷ 1 ∷ []
+  pub no-room : writtenAnswer 5 (nameTried (nameOf 13) (replicate 5 0)) ≡ record { refusal = 7; offset = 0; size = 0 }
+
+-- ---- what a host must lend
+
+pub record Lends : Type 0 where
+  pub limits-are : limits ≡ record { seats = 16; cells = 13056; marks = 256; «cell_size» = 51; «most_input» = 32768; «longest_list» = 14170 }
+
 pub record Worked : Type 0 where
   pub frames-found : FramesFound
   pub cells-held : CellsHeld
@@ -168,3 +182,5 @@ pub record Worked : Type 0 where
   pub frames-written : FramesWritten
   pub timing-numbered : TimingNumbered
   pub other-calls : OtherCalls
+  pub names-written : NamesWritten
+  pub lends : Lends

@@ -14,6 +14,7 @@ use Rattle.rei2.specs.Lent.{ResetLent, OpenLent, ReplyLent, CaptureLent}
 use Rattle.rei2.specs.Frames.{WroteLent}
 use Rattle.rei2.specs.Reply.{WroteReplyLent}
 use Rattle.rei2.specs.Calls.{ListLent}
+use Rattle.rei2.specs.Names.{NamedLent}
 
 -- the number of an answer is a refusal's
 abbrev pub Refusing : ℕ → Type 0
@@ -49,6 +50,7 @@ pub record RefusedKeeps : Type 1 where
   -- request and dynamic request
   pub writing : {R : Type 0} (k : Kind R) (r : R) → WriteKeeps (WroteLent k r)
   pub writing-reply : (c : ReplyRecord) → WriteKeeps (WroteReplyLent c)
+  pub naming : (name : List ℕ) → WriteKeeps (NamedLent name)
   pub listing : (cells marks capture out : List ℕ) (answer : ListedAnswer) (cells′ marks′ out′ : List ℕ)
       → ListLent cells marks capture out answer cells′ marks′ out′ → Refusing (answer .refusal)
       → (cells′ ≡ cells) × ((marks′ ≡ marks) × (out′ ≡ out))

@@ -4,6 +4,7 @@ pub mod Frames
 pub mod Reply
 pub mod Calls
 pub mod Limits
+pub mod Names
 pub mod Tells
 pub mod Inside
 pub mod Unique

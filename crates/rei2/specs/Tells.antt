@@ -10,6 +10,7 @@ use Rattle.desk.specs.Memory.{Memory}
 use Rattle.desk.specs.Calls.{resets, opens, replies}
 use Rattle.desk.specs.Capture.{captures}
 use Rattle.listing.specs.Listing.{listed}
+use Rattle.rei2.specs.Names.{nameTried}
 use Rattle.rei2.specs.Numbers.{numberIn, offsetIn, valueIn}
 
 pub record NumbersTell : Type 1 where
@@ -20,6 +21,7 @@ pub record NumbersTell : Type 1 where
   pub opening : (m : Memory) (f : List ℕ) → Sure (opens m f .answer)
   pub reply : (m : Memory) (f : List ℕ) → Sure (replies m f .answer)
   pub capture : (m : Memory) (s : List ℕ) → Sure (captures m s .answer)
+  pub naming : (name out : List ℕ) → Sure (nameTried name out)
   pub listing : (cells marks s out : List ℕ) → Sure (listed cells marks s out)
   -- so number, offset and value tell an answer
   pub told : {A : Type 0} (zero : A) (t t′ : Told A) → Sure t → Sure t′ → numberIn t ≡ numberIn t′ → offsetIn t ≡ offsetIn t′ → valueIn zero t ≡ valueIn zero t′ → t ≡ t′

@@ -17,6 +17,7 @@ use Rattle.rei2.specs.Lent.{ResetLent, OpenLent, ReplyLent, CaptureLent}
 use Rattle.rei2.specs.Frames.{WroteLent}
 use Rattle.rei2.specs.Reply.{WroteReplyLent}
 use Rattle.rei2.specs.Calls.{ListLent}
+use Rattle.rei2.specs.Names.{NamedLent}
 
 pub record OneOutcome : Type 0 where
   pub rei2-reset : (seats : List Seat) (desk : Desk) → Once λ (o : DeskAnswer × List Seat). ResetLent seats desk (o .0) (o .1)
@@ -31,3 +32,4 @@ pub record OneOutcome : Type 0 where
   pub rei2-write-dynamic : (r : DynamicRequest) (out : List ℕ) → Once λ (o : WrittenAnswer × List ℕ). WroteLent dynamic r out (o .0) (o .1)
   pub rei2-list : (cells marks capture out : List ℕ)
       → Once λ (o : ListedAnswer × (List ℕ × (List ℕ × List ℕ))). ListLent cells marks capture out (o .0) (o .1 .0) (o .1 .1 .0) (o .1 .1 .1)
+  pub rei2-refusal-name : (name out : List ℕ) → Once λ (o : WrittenAnswer × List ℕ). NamedLent name out (o .0) (o .1)

@@ -5,6 +5,7 @@ pub mod held;
 pub mod lent;
 pub mod limits;
 pub mod listed;
+pub mod names;
 mod refusal;
 pub mod reply;
 pub mod request;

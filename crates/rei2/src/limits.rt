@@ -10,7 +10,7 @@ ghost use Rattle.rei2.specs.Limits.{limits};
 // The seats of a row; the bytes of cells and the marks that the largest desk uses, more are left alone; the bytes of a cell; the longest capture
 // that is listed; and an output that every list fits.
 #[repr(C)]
-pub struct Limits {
+pub struct LimitsAnswer {
     pub seats: usize,
     pub cells: usize,
     pub marks: usize,
@@ -20,10 +20,10 @@ pub struct Limits {
 }
 
 #[no_mangle]
-pub extern "C" fn rei2_limits() -> Limits
+pub extern "C" fn rei2_limits() -> LimitsAnswer
     ensures { λ r. ⌜ r ≡ limits ⌝ }
 {
-    Limits {
+    LimitsAnswer {
         seats: SEATS,
         cells: CELLS * CELL_SIZE,
         marks: CELLS,
