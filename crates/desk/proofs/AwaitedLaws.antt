@@ -8,17 +8,17 @@ use lib.ListN.{length}
 use lib.Dec.{ltb}
 use borrow.Author.Tests.{ltb-true, ltb-false}
 use Rattle.digits.specs.Told.{Told, gives, refuses}
-use Rattle.desk.specs.declared.call.Call.{Call}
+use Rattle.frames.specs.declared.reply.ReplyLabel.{ReplyLabel}
 use Rattle.desk.specs.Limits.{seatCount}
 use Rattle.desk.specs.Below.{countBelow}
-use Rattle.desk.specs.Key.{seatKey, sameKey}
-use Rattle.desk.specs.Call.{heard, hasKey}
+use Rattle.desk.specs.Key.{keyIn, seatKey, sameKey}
+use Rattle.desk.specs.Hearing.{heard, hasKey}
 use Rattle.desk.specs.Seats.{seatAt, usedBit, keyed, keyedAt, seatWith}
 use Rattle.desk.specs.Memory.{Memory}
 use Rattle.desk.specs.Mix.{Event, toOpen, toReply, addressed, framesTo, seated, expected, repliesTo, awaited, RepliesAreAwaited}
 use Rattle.digits.proofs.Tests.{by-test}
 use Rattle.desk.proofs.Below.{and-false-r, count-ext, count-none, count-one}
-use Rattle.desk.proofs.TestLaws.{Facts, desk-facts}
+use Rattle.desk.proofs.ClauseLaws.{Facts, desk-facts}
 use Rattle.desk.proofs.StepLaws.{found-keyed, fresh-below}
 use Rattle.desk.proofs.RuleLaws.{addressed-heard}
 use Rattle.desk.proofs.MixLaws.{one-seat}
@@ -28,8 +28,8 @@ module _ (m : Memory) where
   abbrev own : Event → ℕ → Bool
   own e i = usedBit (m .bits) i && addressed (seatKey (seatAt (m .row) i)) e
 
-  abbrev ownCall : Told Call → ℕ → Bool
-  ownCall got i = usedBit (m .bits) i && hasKey (seatKey (seatAt (m .row) i)) got
+  abbrev ownLabel : Told ReplyLabel → ℕ → Bool
+  ownLabel got i = usedBit (m .bits) i && hasKey (seatKey (seatAt (m .row) i)) got
 
   one-more : (e : Event) (es : List Event) (n : ℕ) → awaited m (e ∷ es) n ≡ countBelow n (own e) + awaited m es n
   unfolding awaited countBelow framesTo
@@ -46,24 +46,24 @@ module _ (m : Memory) where
   none-awaited (suc n) = let h = none-awaited n in by-test (usedBit (m .bits) n) (λ u. rw u (omega (arith, h))) (λ u. rw u (omega (arith, h)))
 
   -- on a desk a reply is addressed to one open request at most
-  one-call : Facts m → (got : Told Call) → countBelow seatCount (ownCall got) ≡ cond (seated m got) 1 0
+  one-label : Facts m → (got : Told ReplyLabel) → countBelow seatCount (ownLabel got) ≡ cond (seated m got) 1 0
   unfolding keyed
-  one-call d (gives c) =
-      by-test (ltb (seatWith (m .row) (m .bits) (c .key)) seatCount)
+  one-label d (gives c) =
+      by-test (ltb (seatWith (m .row) (m .bits) (keyIn c)) seatCount)
       (λ y.
       let l = ltb-true _ seatCount y in
-      rw y (count-one seatCount (seatWith (m .row) (m .bits) (c .key)) (keyedAt (m .row) (m .bits) (c .key)) l
-      (found-keyed (m .row) (m .bits) (c .key) l)
-      (λ k j q. sym (one-seat m (c .key) k d j q))))
+      rw y (count-one seatCount (seatWith (m .row) (m .bits) (keyIn c)) (keyedAt (m .row) (m .bits) (keyIn c)) l
+      (found-keyed (m .row) (m .bits) (keyIn c) l)
+      (λ k j q. sym (one-seat m (keyIn c) k d j q))))
       (λ n.
       let l = ltb-false _ seatCount n in
-      rw n (count-none seatCount (keyedAt (m .row) (m .bits) (c .key)) (fresh-below (m .row) (m .bits) (c .key) l)))
-  one-call d (refuses number offset) = count-none seatCount _ (λ k l. and-false-r (usedBit (m .bits) k) refl)
+      rw n (count-none seatCount (keyedAt (m .row) (m .bits) (keyIn c)) (fresh-below (m .row) (m .bits) (keyIn c) l)))
+  one-label d (refuses why) = count-none seatCount _ (λ k l. and-false-r (usedBit (m .bits) k) refl)
 
   one-own : Facts m → (e : Event) → countBelow seatCount (own e) ≡ cond (expected m e) 1 0
   unfolding addressed
   one-own d (toOpen f) = count-none seatCount _ (λ k l. and-false-r (usedBit (m .bits) k) refl)
-  one-own d (toReply f) = count-ext seatCount (own (toReply f)) (ownCall (heard f)) (λ i l. rw (addressed-heard (seatKey (seatAt (m .row) i)) f)) ∙ one-call d (heard f)
+  one-own d (toReply f) = count-ext seatCount (own (toReply f)) (ownLabel (heard f)) (λ i l. rw (addressed-heard (seatKey (seatAt (m .row) i)) f)) ∙ one-label d (heard f)
 
   all-awaited : Facts m → (es : List Event) → repliesTo m es ≡ awaited m es seatCount
   unfolding repliesTo

@@ -5,7 +5,7 @@ use mathlib.Core.Path.{_≡_, refl, ap, sym, _∙_, subst}
 use lib.Arith.{lt-one}
 use lib.Count.{ones, ones-step, trailingZeros, under}
 use lib.Dec.{eqb}
-use lib.Pow.{shr-shr, pow-lt, shl-exact}
+use lib.Pow.{shr-shr, shl-exact}
 use native.Mathlib.Nat.{div-one, pow-suc, pow-zero, zero-div}
 use native.Mathlib.Omega.{arith}
 use native.Mathlib.Numerals.{one-add}
@@ -145,9 +145,6 @@ shl-one s l =
     let h = shl-exact {a = 1} 1 s 64 a (omega arith) in
     let o : 1 * 2 ^ s ≡ 2 ^ s = omega arith in
     h ∙ o
-
-pub bit-below : (s k : ℕ) → s < k → 2 ^ s < 2 ^ k
-bit-below s k l = pow-lt l
 
 pub trailing-most : (k b : ℕ) → b < 2 ^ k → trailingZeros k (2 ^ k - 1 - b) ≤ k
 trailing-most k b l = lowest k b l .most

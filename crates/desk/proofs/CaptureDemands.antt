@@ -66,15 +66,15 @@ not-dynamic f n = rw (← head-kind 19 46 f (omega arith) n)
 
 given-fate : (t : Told DynamicRequest) → isDynamic (dynamicFate t) ≡ isGiven t
 given-fate (gives r) = refl
-given-fate (refuses number offset) = refl
+given-fate (refuses why) = refl
 
 no-opening : (t : Told ℕ) → isDynamic (fateBy Opened t) ≡ false
 no-opening (gives s) = refl
-no-opening (refuses number offset) = refl
+no-opening (refuses why) = refl
 
 no-reply : (t : Told ℕ) → isDynamic (fateBy Collected t) ≡ false
 no-reply (gives s) = refl
-no-reply (refuses number offset) = refl
+no-reply (refuses why) = refl
 
 other-lead : (f : List ℕ) (lead : ℕ) → eqb (getD f 0 0) lead ≡ true → (lead ≡ 19 → ⊥) → getD f 0 0 ≡ 19 → ⊥
 other-lead f lead e n h = n (sym (eqb-true (getD f 0 0) lead e) ∙ h)
@@ -98,7 +98,7 @@ all-dynamic m (cut start f ∷ ps) = all-dynamic m ps
 
 pub counts-are-right : CountsAreRight
 counts-are-right m s c h =
-    let t = tried-gives (isDesk m) _ _ _ c h in
+    let t = tried-gives (isDesk m) _ _ c h in
     let g = t .1 in
     let is : countsOf (fates m (pieces s)) ≡ c = cc in
     rw (t .0, ← is)

@@ -11,16 +11,9 @@ use borrow.Author.Tests.{eq-eqb, ne-eqb}
 use Rattle.digits.specs.Told.{Told, gives}
 use Rattle.frames.specs.Kind.{read}
 use Rattle.frames.specs.Dynamic.{dynamic}
-use Rattle.frames.specs.Refusals.{readRefused}
-use Rattle.frames.specs.declared.refusals.ReadRefusal.{ReadRefusal}
 use Rattle.finder.specs.Pieces.{Piece, whole, cut, pieces, piecesFrom}
 use Rattle.finder.proofs.Demands.{frames-are-leads}
 use Rattle.finder.proofs.Step.{part-is}
-use Rattle.frames.proofs.RefusalLaws.{read-refuses}
-use Rattle.desk.specs.declared.opening.OpenRefusal.{OpenRefusal}
-use Rattle.desk.specs.declared.opening.OpenRefusal.the-variants.{Desk as open-no-desk, Frame as open-frame, NoAnswerDue, InUse, NoSeat}
-use Rattle.desk.specs.declared.reply.ReplyRefusal.{ReplyRefusal}
-use Rattle.desk.specs.declared.reply.ReplyRefusal.the-variants.{Desk as no-desk, Frame, Stray, Ended, OutOfPlace, Full}
 use Rattle.desk.specs.declared.capture.Fate.{Fate}
 use Rattle.desk.specs.declared.capture.Fate.the-variants.{Opened, Collected, Dynamic, Refused}
 use Rattle.desk.specs.declared.capture.Counts.{Counts}
@@ -29,34 +22,11 @@ use Rattle.desk.specs.declared.capture.Met.{Met}
 use Rattle.desk.specs.Limits.{seatCount}
 use Rattle.desk.specs.Memory.{Memory, memory}
 use Rattle.desk.specs.Desk.{isDesk}
-use Rattle.desk.specs.Calls.{openRefused, replyRefused, opens, replies, Did}
+use Rattle.desk.specs.Calls.{opens, replies, Did}
 use Rattle.desk.specs.Capture.{fateBy, dynamicFate, Step, openLead, replyLead, meets, meetsPiece, fates, afterAll, isOpened, isCollected, isDynamic, isRefused, howMany, countsOf, TookCapture, CountsAddUp}
-use Rattle.desk.specs.Inside.{Meets, oneMore}
+use Rattle.desk.specs.inside.Capture.{Meets, oneMore}
 use Rattle.digits.proofs.Tests.{by-test}
 use Rattle.desk.proofs.MixLaws.{stays-desk}
-
--- ---- a refusal is a refused frame
-
-pub dynamic-refused : (g : ReadRefusal) → Refused ≡ dynamicFate (readRefused g)
-dynamic-refused g = sym (ap dynamicFate (read-refuses g))
-
-read-fate : (good : Fate) (g : ReadRefusal) → Refused ≡ fateBy good (readRefused g)
-read-fate good g = sym (ap (fateBy good) (read-refuses g))
-
-pub opening-refused : (g : OpenRefusal) → Refused ≡ fateBy Opened (openRefused g)
-opening-refused open-no-desk = refl
-opening-refused (open-frame g) = read-fate Opened g
-opening-refused NoAnswerDue = refl
-opening-refused InUse = refl
-opening-refused NoSeat = refl
-
-pub answer-refused : (g : ReplyRefusal) → Refused ≡ fateBy Collected (replyRefused g)
-answer-refused no-desk = refl
-answer-refused (Frame g) = read-fate Collected g
-answer-refused Stray = refl
-answer-refused Ended = refl
-answer-refused OutOfPlace = refl
-answer-refused Full = refl
 
 -- ---- one frame, by its lead byte
 

@@ -45,15 +45,15 @@ module _ (size : Memory → ℕ) (test : Fate → Bool) (one : (m : Memory) (p :
 
 open-cells : (m : Memory) (t : Told Opening) → openOutcome m t .after .count ≡ m .count + cond (isCollected (fateBy Opened (openOutcome m t .answer))) 1 0
 open-cells m (gives o) = omega arith
-open-cells m (refuses number offset) = omega arith
+open-cells m (refuses why) = omega arith
 
 reply-cells : (m : Memory) (f : List ℕ) (t : Told Taking) → replyOutcome m f t .after .count ≡ m .count + cond (isCollected (fateBy Collected (replyOutcome m f t .answer))) 1 0
 reply-cells m f (gives t) = refl
-reply-cells m f (refuses number offset) = omega arith
+reply-cells m f (refuses why) = omega arith
 
 dynamic-cells : (m : Memory) (t : Told DynamicRequest) → m .count ≡ m .count + cond (isCollected (dynamicFate t)) 1 0
 dynamic-cells m (gives r) = omega arith
-dynamic-cells m (refuses number offset) = omega arith
+dynamic-cells m (refuses why) = omega arith
 
 meets-cells : (m : Memory) (f : List ℕ) → meets m f .after .count ≡ m .count + cond (isCollected (meets m f .fate)) 1 0
 unfolding opens replies
@@ -79,15 +79,15 @@ more-seats m f o k =
 
 open-seats : (m : Memory) (f : List ℕ) (t : Told Opening) → openTried m f ≡ t → seatsInUse (openOutcome m t .after .bits) ≡ seatsInUse (m .bits) + cond (isOpened (fateBy Opened (openOutcome m t .answer))) 1 0
 open-seats m f (gives o) e = more-seats m f o (opens-taken m f o e)
-open-seats m f (refuses number offset) e = omega arith
+open-seats m f (refuses why) e = omega arith
 
 reply-seats : (m : Memory) (f : List ℕ) (t : Told Taking) → seatsInUse (replyOutcome m f t .after .bits) ≡ seatsInUse (m .bits) + cond (isOpened (fateBy Collected (replyOutcome m f t .answer))) 1 0
 reply-seats m f (gives t) = omega arith
-reply-seats m f (refuses number offset) = omega arith
+reply-seats m f (refuses why) = omega arith
 
 dynamic-seats : (m : Memory) (t : Told DynamicRequest) → seatsInUse (m .bits) ≡ seatsInUse (m .bits) + cond (isOpened (dynamicFate t)) 1 0
 dynamic-seats m (gives r) = omega arith
-dynamic-seats m (refuses number offset) = omega arith
+dynamic-seats m (refuses why) = omega arith
 
 meets-seats : (m : Memory) (f : List ℕ) → seatsInUse (meets m f .after .bits) ≡ seatsInUse (m .bits) + cond (isOpened (meets m f .fate)) 1 0
 unfolding opens replies

@@ -9,23 +9,23 @@ use lib.ListN.{length, take, drop, length-set, length-append, length-drop, lengt
 use lib.Seq.{getD-set-same, getD-set-other, take-append-le, drop-append-le, take-at, drop-at, length-take-le}
 use lib.Dec.{eqb, ltb}
 use borrow.Author.Tests.{eq-eqb, ne-eqb, lt-ltb}
-use Rattle.desk.specs.declared.call.Key.{Key}
+use Rattle.desk.specs.declared.key.Key.{Key}
 use Rattle.desk.specs.declared.opening.Opening.{Opening}
 use Rattle.desk.specs.declared.reply.Taking.{Taking}
-use Rattle.desk.specs.Limits.{seatCount}
+use Rattle.desk.specs.Limits.{seatCount, cellSize}
 use Rattle.desk.specs.Below.{countBelow}
-use Rattle.desk.specs.Key.{seatKey, sameKey, isKey}
-use Rattle.desk.specs.Call.{heard, endedIn}
+use Rattle.desk.specs.Key.{keyIn, seatKey, sameKey, isKey}
+use Rattle.desk.specs.Hearing.{heard, endedIn}
 use Rattle.desk.specs.Seats.{zeroSeat, seatAt, usedBit, keyed}
 use Rattle.desk.specs.Memory.{Memory, capacity, capacityOf, cellAt, markAt, recordsOf, heldBy}
 use Rattle.desk.specs.Desk.{isZero, apartAt, markNames, markGood, cellKeyed, named, lastEnds}
 use Rattle.desk.specs.Calls.{newSeat, opened, grown, withCell, taken, emptyRow, emptied}
-use Rattle.desk.specs.Inside.{takes, takenAt}
+use Rattle.desk.specs.inside.Clauses.{takes, takenAt}
 use Rattle.digits.proofs.Tests.{and-r, and-true, by-test}
 use Rattle.desk.proofs.Below.{never, below-case, eq-case, count-ext, count-more}
 use Rattle.desk.proofs.Bits.{set-own, set-other, set-below, none-used}
-use Rattle.desk.proofs.CallLaws.{same-key, own-key}
-use Rattle.desk.proofs.TestLaws.{Facts}
+use Rattle.desk.proofs.KeyLaws.{same-key, own-key}
+use Rattle.desk.proofs.ClauseLaws.{Facts}
 use Rattle.desk.proofs.StepLaws.{Took, took-used, took-key, Room, took-room, Opens}
 
 -- ---- rows that stay
@@ -49,38 +49,38 @@ module _ (cells marks cells′ marks′ : List ℕ) where
 
 -- ---- a cell that is written
 
-front : (a r : List ℕ) (k : ℕ) → k + 51 ≤ length a → take 51 (drop k (a ++ r)) ≡ take 51 (drop k a)
+front : (a r : List ℕ) (k : ℕ) → k + cellSize ≤ length a → take cellSize (drop k (a ++ r)) ≡ take cellSize (drop k a)
 front a r k h =
     let l : k ≤ length a = omega arith in
-    let n : 51 ≤ length (drop k a) = simp length-drop (omega arith) in
-    ap (take 51) (drop-append-le k a r l) ∙ take-append-le 51 (drop k a) r n
+    let n : cellSize ≤ length (drop k a) = simp length-drop (omega arith) in
+    ap (take cellSize) (drop-append-le k a r l) ∙ take-append-le cellSize (drop k a) r n
 
-module _ (d : List ℕ) (at : ℕ) (f : List ℕ) (room : at + 51 ≤ length d) (full : length f ≡ 51) where
+module _ (d : List ℕ) (at : ℕ) (f : List ℕ) (room : at + cellSize ≤ length d) (full : length f ≡ cellSize) where
   head-length : length (take at d) ≡ at
   head-length = length-take-le at d (omega arith)
 
-  cell-before : (k : ℕ) → k + 51 ≤ at → take 51 (drop k (withCell d at f)) ≡ take 51 (drop k d)
+  cell-before : (k : ℕ) → k + cellSize ≤ at → take cellSize (drop k (withCell d at f)) ≡ take cellSize (drop k d)
   cell-before k h =
       let e = head-length in
-      let a : k + 51 ≤ length (take at d) = omega arith in
-      let b : k + 51 ≤ length (take at d ++ f) = simp length-append (omega arith) in
-      front (take at d ++ f) (drop (at + 51) d) k b
+      let a : k + cellSize ≤ length (take at d) = omega arith in
+      let b : k + cellSize ≤ length (take at d ++ f) = simp length-append (omega arith) in
+      front (take at d ++ f) (drop (at + cellSize) d) k b
       ∙ front (take at d) f k a
       ∙ sym (front (take at d) (drop at d) k a)
-      ∙ ap (λ (l : List ℕ). take 51 (drop k l)) (take-append-drop at d)
+      ∙ ap (λ (l : List ℕ). take cellSize (drop k l)) (take-append-drop at d)
 
-  cell-new : take 51 (drop at (withCell d at f)) ≡ f
+  cell-new : take cellSize (drop at (withCell d at f)) ≡ f
   cell-new =
-      ap (λ (l : List ℕ). take 51 (drop at l)) (append-assoc (take at d) f (drop (at + 51) d))
-      ∙ ap (take 51) (drop-at (take at d) (f ++ drop (at + 51) d) at head-length)
-      ∙ take-at f (drop (at + 51) d) 51 full
+      ap (λ (l : List ℕ). take cellSize (drop at l)) (append-assoc (take at d) f (drop (at + cellSize) d))
+      ∙ ap (take cellSize) (drop-at (take at d) (f ++ drop (at + cellSize) d) at head-length)
+      ∙ take-at f (drop (at + cellSize) d) cellSize full
 
   pub length-with : length (withCell d at f) ≡ length d
   length-with =
       let e = head-length in
-      let a = length-append (take at d ++ f) (drop (at + 51) d) in
+      let a = length-append (take at d ++ f) (drop (at + cellSize) d) in
       let b = length-append (take at d) f in
-      let c = length-drop (at + 51) d in
+      let c = length-drop (at + cellSize) d in
       omega arith
 
 -- ---- the memory after a taken reply
@@ -91,7 +91,7 @@ module _ (m : Memory) (f : List ℕ) (t : Taking) (k : Took m f t) where
 
   pub taken-own : seatAt (taken m f t .row) (t .seat) ≡ grown (seatAt (m .row) (t .seat)) (t .status)
   taken-own =
-      let l : t .seat < length (m .row) = let a = k .facts .sixteen in let b = k .below in omega arith in
+      let l : t .seat < length (m .row) = let a = k .facts .size in let b = k .below in omega arith in
       getD-set-same (m .row) (t .seat) (grown (seatAt (m .row) (t .seat)) (t .status)) zeroSeat l
 
   pub taken-other : (i : ℕ) → (i ≡ t .seat → ⊥) → seatAt (taken m f t .row) i ≡ seatAt (m .row) i
@@ -106,7 +106,7 @@ module _ (m : Memory) (f : List ℕ) (t : Taking) (k : Took m f t) where
 
   pub taken-capacity : capacity (taken m f t) ≡ capacity m
   taken-capacity =
-      ap₂ capacityOf (length-with (m .cells) (m .count * 51) f (room .cells) (room .frame)) (length-set (m .marks) (m .count) (t .seat))
+      ap₂ capacityOf (length-with (m .cells) (m .count * cellSize) f (room .cells) (room .frame)) (length-set (m .marks) (m .count) (t .seat))
 
   old-mark : (j : ℕ) → j < m .count → markAt (taken m f t .marks) j ≡ markAt (m .marks) j
   old-mark j l = getD-set-other (m .marks) (m .count) j (t .seat) 0 (λ e. omega arith)
@@ -115,10 +115,10 @@ module _ (m : Memory) (f : List ℕ) (t : Taking) (k : Took m f t) where
   new-mark = getD-set-same (m .marks) (m .count) (t .seat) 0 (room .marks)
 
   old-cell : (j : ℕ) → j < m .count → cellAt (taken m f t .cells) j ≡ cellAt (m .cells) j
-  old-cell j l = cell-before (m .cells) (m .count * 51) f (room .cells) (room .frame) (j * 51) (omega arith)
+  old-cell j l = cell-before (m .cells) (m .count * cellSize) f (room .cells) (room .frame) (j * cellSize) (omega arith)
 
   new-cell : cellAt (taken m f t .cells) (m .count) ≡ f
-  new-cell = cell-new (m .cells) (m .count * 51) f (room .cells) (room .frame)
+  new-cell = cell-new (m .cells) (m .count * cellSize) f (room .cells) (room .frame)
 
   old-named : (i n : ℕ) → n ≤ m .count → named (taken m f t .marks) i n ≡ named (m .marks) i n
   old-named i n l = named-same (m .cells) (m .marks) (taken m f t .cells) (taken m f t .marks) i n (λ j h. old-mark j (omega arith))
@@ -164,7 +164,7 @@ module _ (m : Memory) (f : List ℕ) (t : Taking) (k : Took m f t) where
   cell-facts i l =
       below-case i (m .count) (omega arith)
       (λ h. rw (old-mark i h, old-cell i h, taken-key (markAt (m .marks) i)) (k .facts .cells i h))
-      (λ e. rw (e, new-mark, new-cell, taken-key (t .seat), k .hears, took-key m f t k) (own-key (k .call .key)))
+      (λ e. rw (e, new-mark, new-cell, taken-key (t .seat), k .hears, took-key m f t k) (own-key (keyIn (k .label))))
 
   taken-facts : (i : ℕ) → i < m .count + 1 → takenAt (taken m f t .cells) (taken m f t .marks) i ≡ true
   unfolding takes
@@ -191,7 +191,7 @@ module _ (m : Memory) (f : List ℕ) (t : Taking) (k : Took m f t) where
 
   pub taken-desk : Facts (taken m f t)
   taken-desk = record {
-    sixteen = length-set (m .row) (t .seat) (grown (seatAt (m .row) (t .seat)) (t .status)) ∙ k .facts .sixteen;
+    size = length-set (m .row) (t .seat) (grown (seatAt (m .row) (t .seat)) (t .status)) ∙ k .facts .size;
     bits = k .facts .bits;
     keys = λ i l u. rw (taken-key i) (k .facts .keys i l u);
     apart = λ i l j h. same-apart i j ∙ k .facts .apart i l j h;
@@ -230,7 +230,7 @@ same-key-sym a b h = rw (same-key a b h) (own-key b)
 module _ (m : Memory) (f : List ℕ) (o : Opening) (k : Opens m f o) where
   pub opened-own : seatAt (opened m o .row) (o .seat) ≡ newSeat (o .key)
   opened-own =
-      let l : o .seat < length (m .row) = let a = k .facts .sixteen in let b = k .below in omega arith in
+      let l : o .seat < length (m .row) = let a = k .facts .size in let b = k .below in omega arith in
       getD-set-same (m .row) (o .seat) (newSeat (o .key)) zeroSeat l
 
   pub opened-other : (i : ℕ) → (i ≡ o .seat → ⊥) → seatAt (opened m o .row) i ≡ seatAt (m .row) i
@@ -316,7 +316,7 @@ module _ (m : Memory) (f : List ℕ) (o : Opening) (k : Opens m f o) where
 
   pub opened-desk : Facts (opened m o)
   opened-desk = record {
-    sixteen = length-set (m .row) (o .seat) (newSeat (o .key)) ∙ k .facts .sixteen;
+    size = length-set (m .row) (o .seat) (newSeat (o .key)) ∙ k .facts .size;
     bits = set-below seatCount (m .bits) (o .seat) (k .facts .bits) (k .below) (k .clear);
     keys = key-facts;
     apart = apart-facts;
@@ -337,7 +337,7 @@ empty-seat i l = getD-replicate seatCount i zeroSeat zeroSeat l
 pub emptied-desk : (m : Memory) → Facts (emptied m)
 unfolding isZero
 emptied-desk m = record {
-  sixteen = length-replicate seatCount zeroSeat;
+  size = length-replicate seatCount zeroSeat;
   bits = omega arith;
   keys = λ i l u. never (usedBit 0 i) u (none-used i);
   apart = λ i l j h. rw (none-used i);

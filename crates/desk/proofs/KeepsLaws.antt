@@ -1,19 +1,23 @@
 -- What a call leaves as it was. Assumes nothing.
 use Prim.Native.Nat.{ℕ, _+_, _*_, _-_, _<_, _≤_}
-use mathlib.Core.List.{List, [], _++_}
+use mathlib.Core.List.{List, _++_}
 use mathlib.Core.Bool.{Bool, true, false, cond}
 use mathlib.Core.Path.{_≡_, refl, sym, ap, _∙_}
 use native.Mathlib.Omega.{arith}
 use lib.ListN.{length, getD, take, drop, length-set, length-append}
 use lib.Seq.{getD-append-add, getD-drop, getD-take, getD-set-other, take-at, length-take-le}
+use Rattle.digits.specs.declared.refusal.Refusal.{Refusal}
+use Rattle.digits.specs.Refusals.{DESK}
 use Rattle.digits.specs.Told.{Told, gives, refuses, tried}
+use Rattle.digits.proofs.Sure.{not-refused}
 use Rattle.finder.specs.Pieces.{pieces}
 use Rattle.desk.specs.declared.opening.Opening.{Opening}
 use Rattle.desk.specs.declared.reply.Taking.{Taking}
+use Rattle.desk.specs.Limits.{cellSize}
 use Rattle.desk.specs.Memory.{Memory, markAt}
 use Rattle.desk.specs.declared.capture.Counts.{Counts}
-use Rattle.desk.specs.Desk.{isDesk, sixteenSeats}
-use Rattle.desk.specs.Calls.{DESK, Outcome, openTried, opens, withCell, replyTried, replies, emptied, resets}
+use Rattle.desk.specs.Desk.{isDesk, allSeats}
+use Rattle.desk.specs.Calls.{Outcome, openTried, opens, withCell, replyTried, replies, emptied, resets}
 use Rattle.desk.specs.Capture.{fates, afterAll, countsOf}
 use Rattle.desk.specs.Keeps.{RefusedKeeps, SameSeat, KeepsMemory}
 use Rattle.desk.proofs.StepLaws.{took, took-room, opens-taken}
@@ -23,77 +27,74 @@ use Rattle.desk.proofs.MixLaws.{after-taken, after-refused, after-opene
 getD-front : (a r : List ℕ) (j : ℕ) → j < length a → getD (a ++ r) j 0 ≡ getD a j 0
 getD-front a r j l = sym (getD-take (length a) (a ++ r) j 0 l) ∙ ap (λ (x : List ℕ). getD x j 0) (take-at a r (length a) refl)
 
-module _ (d : List ℕ) (at : ℕ) (f : List ℕ) (room : at + 51 ≤ length d) (full : length f ≡ 51) where
+module _ (d : List ℕ) (at : ℕ) (f : List ℕ) (room : at + cellSize ≤ length d) (full : length f ≡ cellSize) where
   before : (j : ℕ) → j < at → getD (withCell d at f) j 0 ≡ getD d j 0
   before j l =
       let e = length-take-le at d (omega arith) in
       let a : j < length (take at d ++ f) = simp length-append (omega arith) in
-      getD-front (take at d ++ f) (drop (at + 51) d) j a ∙ getD-front (take at d) f j (omega arith) ∙ getD-take at d j 0 l
+      getD-front (take at d ++ f) (drop (at + cellSize) d) j a ∙ getD-front (take at d) f j (omega arith) ∙ getD-take at d j 0 l
 
-  behind : (j : ℕ) → at + 51 ≤ j → getD (withCell d at f) j 0 ≡ getD d j 0
+  behind : (j : ℕ) → at + cellSize ≤ j → getD (withCell d at f) j 0 ≡ getD d j 0
   behind j l =
       let e = length-take-le at d (omega arith) in
       let a = length-append (take at d) f in
-      let n : length (take at d ++ f) + (j - (at + 51)) ≡ j = omega arith in
-      let k : at + 51 + (j - (at + 51)) ≡ j = omega arith in
+      let n : length (take at d ++ f) + (j - (at + cellSize)) ≡ j = omega arith in
+      let k : at + cellSize + (j - (at + cellSize)) ≡ j = omega arith in
       ap (λ (i : ℕ). getD (withCell d at f) i 0) (sym n)
-      ∙ getD-append-add (take at d ++ f) (drop (at + 51) d) (j - (at + 51)) 0
-      ∙ getD-drop (at + 51) d (j - (at + 51)) 0
+      ∙ getD-append-add (take at d ++ f) (drop (at + cellSize) d) (j - (at + cellSize)) 0
+      ∙ getD-drop (at + cellSize) d (j - (at + cellSize)) 0
       ∙ ap (λ (i : ℕ). getD d i 0) k
 
 -- ---- openings
 
 module _ (m : Memory) (f : List ℕ) where
-  not-both : {A : Type 0} (s number offset : ℕ) → gives s ≡ refuses number offset → A
-  not-both s number offset h = let z : _≡_ {A = ℕ} 0 1 = cc in absurd (omega arith)
-
-  not-opened : (number offset : ℕ) → opens m f .answer ≡ refuses number offset → (a : Told Opening) → openTried m f ≡ a → opens m f .after ≡ m
-  not-opened number offset h (gives o) e = not-both (o .seat) number offset (rw (after-opened m f o e) at h)
-  not-opened number offset h (refuses n o) e = rw (after-not-opened m f n o e)
+  not-opened : (why : Refusal) → opens m f .answer ≡ refuses why → (a : Told Opening) → openTried m f ≡ a → opens m f .after ≡ m
+  not-opened why h (gives o) e = absurd (not-refused (o .seat) why (rw (after-opened m f o e) at h))
+  not-opened why h (refuses g) e = rw (after-not-opened m f g e)
 
   lends-count : (a : Told Opening) → openTried m f ≡ a → opens m f .after .count ≡ m .count
   lends-count (gives o) e = rw (after-opened m f o e)
-  lends-count (refuses n o) e = rw (after-not-opened m f n o e)
+  lends-count (refuses why) e = rw (after-not-opened m f why e)
 
   lends-cells : (a : Told Opening) → openTried m f ≡ a → opens m f .after .cells ≡ m .cells
   lends-cells (gives o) e = rw (after-opened m f o e)
-  lends-cells (refuses n o) e = rw (after-not-opened m f n o e)
+  lends-cells (refuses why) e = rw (after-not-opened m f why e)
 
   lends-marks : (a : Told Opening) → openTried m f ≡ a → opens m f .after .marks ≡ m .marks
   lends-marks (gives o) e = rw (after-opened m f o e)
-  lends-marks (refuses n o) e = rw (after-not-opened m f n o e)
+  lends-marks (refuses why) e = rw (after-not-opened m f why e)
 
   -- ---- replies
 
-  not-taken : (number offset : ℕ) → replies m f .answer ≡ refuses number offset → (a : Told Taking) → replyTried m f ≡ a → replies m f .after ≡ m
-  not-taken number offset h (gives t) e = not-both (t .seat) number offset (rw (after-taken m f t e) at h)
-  not-taken number offset h (refuses n o) e = rw (after-refused m f n o e)
+  not-taken : (why : Refusal) → replies m f .answer ≡ refuses why → (a : Told Taking) → replyTried m f ≡ a → replies m f .after ≡ m
+  not-taken why h (gives t) e = absurd (not-refused (t .seat) why (rw (after-taken m f t e) at h))
+  not-taken why h (refuses g) e = rw (after-refused m f g e)
 
   same-bits : (a : Told Taking) → replyTried m f ≡ a → replies m f .after .bits ≡ m .bits
   same-bits (gives t) e = rw (after-taken m f t e)
-  same-bits (refuses n o) e = rw (after-refused m f n o e)
+  same-bits (refuses why) e = rw (after-refused m f why e)
 
   sizes : (a : Told Taking) → replyTried m f ≡ a → (length (replies m f .after .cells) ≡ length (m .cells)) × (length (replies m f .after .marks) ≡ length (m .marks))
   sizes (gives t) e =
       let r = took-room m f t (took m f t e) in
-      rw (after-taken m f t e) (length-with (m .cells) (m .count * 51) f (r .cells) (r .frame), length-set (m .marks) (m .count) (t .seat))
-  sizes (refuses n o) e = rw (after-refused m f n o e) (refl, refl)
+      rw (after-taken m f t e) (length-with (m .cells) (m .count * cellSize) f (r .cells) (r .frame), length-set (m .marks) (m .count) (t .seat))
+  sizes (refuses why) e = rw (after-refused m f why e) (refl, refl)
 
-  front-cells : (j : ℕ) → j < m .count * 51 → (a : Told Taking) → replyTried m f ≡ a → getD (replies m f .after .cells) j 0 ≡ getD (m .cells) j 0
+  front-cells : (j : ℕ) → j < m .count * cellSize → (a : Told Taking) → replyTried m f ≡ a → getD (replies m f .after .cells) j 0 ≡ getD (m .cells) j 0
   front-cells j l (gives t) e =
       let r = took-room m f t (took m f t e) in
-      rw (after-taken m f t e) (before (m .cells) (m .count * 51) f (r .cells) (r .frame) j l)
-  front-cells j l (refuses n o) e = rw (after-refused m f n o e)
+      rw (after-taken m f t e) (before (m .cells) (m .count * cellSize) f (r .cells) (r .frame) j l)
+  front-cells j l (refuses why) e = rw (after-refused m f why e)
 
-  back-cells : (j : ℕ) → m .count * 51 + 51 ≤ j → (a : Told Taking) → replyTried m f ≡ a → getD (replies m f .after .cells) j 0 ≡ getD (m .cells) j 0
+  back-cells : (j : ℕ) → m .count * cellSize + cellSize ≤ j → (a : Told Taking) → replyTried m f ≡ a → getD (replies m f .after .cells) j 0 ≡ getD (m .cells) j 0
   back-cells j l (gives t) e =
       let r = took-room m f t (took m f t e) in
-      rw (after-taken m f t e) (behind (m .cells) (m .count * 51) f (r .cells) (r .frame) j l)
-  back-cells j l (refuses n o) e = rw (after-refused m f n o e)
+      rw (after-taken m f t e) (behind (m .cells) (m .count * cellSize) f (r .cells) (r .frame) j l)
+  back-cells j l (refuses why) e = rw (after-refused m f why e)
 
   else-marks : (j : ℕ) → (j ≡ m .count → ⊥) → (a : Told Taking) → replyTried m f ≡ a → markAt (replies m f .after .marks) j ≡ markAt (m .marks) j
   else-marks j n (gives t) e = rw (after-taken m f t e) (getD-set-other (m .marks) (m .count) j (t .seat) 0 n)
-  else-marks j n (refuses k o) e = rw (after-refused m f k o e)
+  else-marks j n (refuses why) e = rw (after-refused m f why e)
 
   -- ---- the other seats
 
@@ -104,7 +105,7 @@ module _ (m : Memory) (f : List ℕ) where
       let q : o .seat ≡ s = cc in
       let x : i ≡ o .seat → ⊥ = λ y. n (y ∙ q) in
       rw (after-opened m f o e) (record { seat = opened-other m f o k i x; used = other-bit m f o k i x; held = refl })
-  opened-else s i n h (refuses k o) e = not-both s k o (sym (rw (after-not-opened m f k o e) at h))
+  opened-else s i n h (refuses why) e = absurd (not-refused s why (sym (rw (after-not-opened m f why e) at h)))
 
   taken-else : (s i : ℕ) → (i ≡ s → ⊥) → replies m f .answer ≡ gives s → (a : Told Taking) → replyTried m f ≡ a → SameSeat m (replies m f .after) i
   taken-else s i n h (gives t) e =
@@ -113,28 +114,28 @@ module _ (m : Memory) (f : List ℕ) where
       let q : t .seat ≡ s = cc in
       let x : i ≡ t .seat → ⊥ = λ y. n (y ∙ q) in
       rw (after-taken m f t e) (record { seat = taken-other m f t k i x; used = refl; held = records-other m f t k i x })
-  taken-else s i n h (refuses k o) e = not-both s k o (sym (rw (after-refused m f k o e) at h))
+  taken-else s i n h (refuses why) e = absurd (not-refused s why (sym (rw (after-refused m f why e) at h)))
 
 -- ---- reset and capture
 
 abbrev resetBy : Bool → Memory → Outcome
-resetBy b m = cond b (record { answer = gives 0; after = emptied m }) (record { answer = refuses DESK 0; after = m })
+resetBy b m = cond b (record { answer = gives 0; after = emptied m }) (record { answer = refuses DESK; after = m })
 
-not-reset : (b : Bool) (m : Memory) (number offset : ℕ) → resetBy b m .answer ≡ refuses number offset → resetBy b m .after ≡ m
-not-reset true m number offset h = not-both m [] 0 number offset h
-not-reset false m number offset h = refl
+not-reset : (b : Bool) (m : Memory) (why : Refusal) → resetBy b m .answer ≡ refuses why → resetBy b m .after ≡ m
+not-reset true m why h = absurd (not-refused 0 why h)
+not-reset false m why h = refl
 
-not-captured : (b : Bool) (m x : Memory) (c : Counts) (number offset : ℕ) → tried b DESK 0 (gives c) ≡ refuses number offset → cond b x m ≡ m
-not-captured true m x c number offset h = absurd (let z : _≡_ {A = ℕ} 0 1 = cc in omega arith)
-not-captured false m x c number offset h = refl
+not-captured : (b : Bool) (m x : Memory) (c : Counts) (why : Refusal) → tried b DESK (gives c) ≡ refuses why → cond b x m ≡ m
+not-captured true m x c why h = absurd (not-refused c why h)
+not-captured false m x c why h = refl
 
 pub refused-keeps : RefusedKeeps
 unfolding resets
 refused-keeps = record {
-  reset = λ m number offset h. not-reset (sixteenSeats m) m number offset h;
-  opening = λ m f number offset h. not-opened m f number offset h (openTried m f) refl;
-  reply = λ m f number offset h. not-taken m f number offset h (replyTried m f) refl;
-  capture = λ m s number offset h. not-captured (isDesk m) m (afterAll m (pieces s)) (countsOf (fates m (pieces s))) number offset h;
+  reset = λ m why h. not-reset (allSeats m) m why h;
+  opening = λ m f why h. not-opened m f why h (openTried m f) refl;
+  reply = λ m f why h. not-taken m f why h (replyTried m f) refl;
+  capture = λ m s why h. not-captured (isDesk m) m (afterAll m (pieces s)) (countsOf (fates m (pieces s))) why h;
 }
 
 pub keeps-memory : KeepsMemory

@@ -9,6 +9,7 @@ use lib.Seq.{drop-drop, drop-at, length-take-le}
 use Rattle.digits.specs.Told.{Told, gives, refuses}
 use Rattle.finder.specs.Pieces.{Piece, whole, cut}
 use Rattle.desk.specs.declared.reply.Taking.{Taking}
+use Rattle.desk.specs.Limits.{mostCells, cellSize, storeSize}
 use Rattle.desk.specs.Memory.{Memory}
 use Rattle.desk.specs.Desk.{isDesk}
 use Rattle.desk.specs.Calls.{opens, withCell, replyTried, replies}
@@ -18,12 +19,12 @@ use Rattle.desk.proofs.MixLaws.{after-taken, after-refused}
 use Rattle.desk.proofs.KeepsLaws.{keeps-memory}
 use Rattle.desk.proofs.CaptureLaws.{by-lead, meets-desk}
 
--- its length, and all behind 256 cells and 256 marks
+-- its length, and all behind the cells and marks that a desk can use
 pub record Leaves (m x : Memory) : Type 0 where
   pub cells : length (x .cells) ≡ length (m .cells)
   pub marks : length (x .marks) ≡ length (m .marks)
-  pub cells-behind : drop 13056 (x .cells) ≡ drop 13056 (m .cells)
-  pub marks-behind : drop 256 (x .marks) ≡ drop 256 (m .marks)
+  pub cells-behind : drop storeSize (x .cells) ≡ drop storeSize (m .cells)
+  pub marks-behind : drop mostCells (x .marks) ≡ drop mostCells (m .marks)
 
 same : (m : Memory) → Leaves m m
 same m = record { cells = refl; marks = refl; cells-behind = refl; marks-behind = refl }
@@ -35,15 +36,15 @@ drop-set (x ∷ l) (suc n) zero v h = refl
 drop-set (x ∷ l) (suc n) (suc i) v h = drop-set l n i v (omega arith)
 
 -- a cell that ends by n
-drop-cell : (d : List ℕ) (at : ℕ) (f : List ℕ) (n : ℕ) → at + 51 ≤ length d → length f ≡ 51 → at + 51 ≤ n → drop n (withCell d at f) ≡ drop n d
+drop-cell : (d : List ℕ) (at : ℕ) (f : List ℕ) (n : ℕ) → at + cellSize ≤ length d → length f ≡ cellSize → at + cellSize ≤ n → drop n (withCell d at f) ≡ drop n d
 drop-cell d at f n room full l =
     let t = length-take-le at d (omega arith) in
-    let a : length (take at d ++ f) ≡ at + 51 = length-append (take at d) f ∙ omega (arith, t, full) in
-    let k : (at + 51) + (n - (at + 51)) ≡ n = omega arith in
-    let e : drop (at + 51) (withCell d at f) ≡ drop (at + 51) d = drop-at (take at d ++ f) (drop (at + 51) d) (at + 51) a in
-    let x = drop-drop (n - (at + 51)) (at + 51) (withCell d at f) in
-    let y = drop-drop (n - (at + 51)) (at + 51) d in
-    rw k at (sym x ∙ ap (drop (n - (at + 51))) e ∙ y)
+    let a : length (take at d ++ f) ≡ at + cellSize = length-append (take at d) f ∙ omega (arith, t, full) in
+    let k : (at + cellSize) + (n - (at + cellSize)) ≡ n = omega arith in
+    let e : drop (at + cellSize) (withCell d at f) ≡ drop (at + cellSize) d = drop-at (take at d ++ f) (drop (at + cellSize) d) (at + cellSize) a in
+    let x = drop-drop (n - (at + cellSize)) (at + cellSize) (withCell d at f) in
+    let y = drop-drop (n - (at + cellSize)) (at + cellSize) d in
+    rw k at (sym x ∙ ap (drop (n - (at + cellSize))) e ∙ y)
 
 leaves-by : (m : Memory) (f : List ℕ) (a : Told Taking) → replyTried m f ≡ a → Leaves m (replies m f .after)
 leaves-by m f (gives t) e =
@@ -52,16 +53,16 @@ leaves-by m f (gives t) e =
     record {
       cells = s .0;
       marks = s .1;
-      cells-behind = rw (after-taken m f t e) (drop-cell (m .cells) (m .count * 51) f 13056 (r .cells) (r .frame) (omega (arith, r .count)));
-      marks-behind = rw (after-taken m f t e) (drop-set (m .marks) 256 (m .count) (t .seat) (r .count));
+      cells-behind = rw (after-taken m f t e) (drop-cell (m .cells) (m .count * cellSize) f storeSize (r .cells) (r .frame) (omega (arith, r .count)));
+      marks-behind = rw (after-taken m f t e) (drop-set (m .marks) mostCells (m .count) (t .seat) (r .count));
     }
-leaves-by m f (refuses n o) e = rw (after-refused m f n o e) (same m)
+leaves-by m f (refuses why) e = rw (after-refused m f why e) (same m)
 
 open-leaves : (m : Memory) (f : List ℕ) → Leaves m (opens m f .after)
 open-leaves m f =
     let c = keeps-memory .opening-cells m f in
     let k = keeps-memory .opening-marks m f in
-    record { cells = ap length c; marks = ap length k; cells-behind = ap (drop 13056) c; marks-behind = ap (drop 256) k }
+    record { cells = ap length c; marks = ap length k; cells-behind = ap (drop storeSize) c; marks-behind = ap (drop mostCells) k }
 
 meets-leaves : (m : Memory) (f : List ℕ) → Leaves m (meets m f .after)
 meets-leaves m f = by-lead (λ (x : Step). Leaves m (x .after)) m f (open-leaves m f) (leaves-by m f (replyTried m f) refl) (same m)

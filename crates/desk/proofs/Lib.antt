@@ -1,7 +1,8 @@
 pub mod Below
 pub mod Bits
-pub mod CallLaws
-pub mod TestLaws
+pub mod KeyLaws
+pub mod HearingLaws
+pub mod ClauseLaws
 pub mod StepLaws
 pub mod OutcomeLaws
 pub mod HeldLaws

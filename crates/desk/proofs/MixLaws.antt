@@ -6,28 +6,31 @@ use mathlib.Core.List.{List, [], _∷_, _++_, append-assoc, append-nil}
 use native.Mathlib.Omega.{arith}
 use lib.Dec.{eqb, ltb}
 use borrow.Author.Tests.{ne-eqb, lt-ltb}
+use Rattle.digits.specs.declared.refusal.Refusal.{Refusal}
+use Rattle.digits.specs.Refusals.{ENDED, OUT-OF-PLACE}
 use Rattle.digits.specs.Told.{Told, gives, refuses, tried}
 use Rattle.frames.specs.Kind.{read}
 use Rattle.frames.specs.Request.{request}
 use Rattle.frames.specs.declared.request.StaticRequest.{StaticRequest}
-use Rattle.desk.specs.declared.call.Key.{Key}
-use Rattle.desk.specs.declared.call.Call.{Call}
+use Rattle.frames.specs.declared.reply.ReplyLabel.{ReplyLabel}
+use Rattle.desk.specs.declared.key.Key.{Key}
 use Rattle.desk.specs.declared.opening.Opening.{Opening}
 use Rattle.desk.specs.declared.reply.Taking.{Taking}
 use Rattle.desk.specs.Limits.{seatCount}
 use Rattle.desk.specs.Below.{first}
-use Rattle.desk.specs.Key.{requestKey, seatKey, sameKey}
-use Rattle.desk.specs.Call.{heard, hasKey, ends, inPlace, endedBy, statusIn}
+use Rattle.desk.specs.Key.{requestKey, keyIn, seatKey, sameKey}
+use Rattle.desk.specs.Hearing.{heard, hasKey, ends, inPlace, endedBy, statusIn}
 use Rattle.desk.specs.Seats.{seatAt, usedBit, keyed, keyedAt, seatWith}
 use Rattle.desk.specs.Memory.{Memory, capacity, heldBy}
-use Rattle.desk.specs.Calls.{Outcome, over, newSeat, openTried, openOutcome, opens, opened, seatTried, callTried, replyTried, replyOutcome, replies, taken, emptied, ENDED, OUT-OF-PLACE}
+use Rattle.desk.specs.Calls.{Outcome, over, newSeat, openTried, openOutcome, opens, opened, seatTried, labelTried, replyTried, replyOutcome, replies, taken, emptied}
 use Rattle.desk.specs.Rule.{Frame}
 use Rattle.desk.specs.Mix.{Event, toOpen, toReply, run, openings, heardAll, Stretch, addressed, framesTo, answersTo, seated, expected, repliesTo, Sorted, SortsFromAnyDesk, SortsOpenedRequests, StaysDesk}
 use Rattle.digits.proofs.Tests.{and-true, by-test}
+use Rattle.digits.proofs.Sure.{not-refused}
 use Rattle.desk.proofs.Below.{never, false-or, first-at, first-ext}
-use Rattle.desk.proofs.CallLaws.{own-key}
+use Rattle.desk.proofs.KeyLaws.{own-key}
 use Rattle.desk.proofs.RuleLaws.{fits, endsIt, keeps, says, addressed-heard, keeps-kept, says-said}
-use Rattle.desk.proofs.TestLaws.{Facts, desk-facts, facts-desk}
+use Rattle.desk.proofs.ClauseLaws.{Facts, desk-facts, facts-desk}
 use Rattle.desk.proofs.StepLaws.{keyed-used, keyed-key, Took, took, took-key, opens-taken}
 use Rattle.desk.proofs.DeskLaws.{taken-own, taken-other, taken-key, taken-capacity, records-own, records-other, taken-desk, opened-own, opened-other, opened-bit, other-bit, used-other, opened-holds, opened-desk, emptied-desk}
 
@@ -38,17 +41,17 @@ module _ (m : Memory) (f : Frame) where
   unfolding replies
   after-taken t e = ap (replyOutcome m f) e
 
-  pub after-refused : (number offset : ℕ) → replyTried m f ≡ refuses number offset → replies m f ≡ record { answer = refuses number offset; after = m }
+  pub after-refused : (why : Refusal) → replyTried m f ≡ refuses why → replies m f ≡ record { answer = refuses why; after = m }
   unfolding replies
-  after-refused number offset e = ap (replyOutcome m f) e
+  after-refused why e = ap (replyOutcome m f) e
 
   pub after-opened : (o : Opening) → openTried m f ≡ gives o → opens m f ≡ record { answer = gives (o .seat); after = opened m o }
   unfolding opens
   after-opened o e = ap (openOutcome m) e
 
-  pub after-not-opened : (number offset : ℕ) → openTried m f ≡ refuses number offset → opens m f ≡ record { answer = refuses number offset; after = m }
+  pub after-not-opened : (why : Refusal) → openTried m f ≡ refuses why → opens m f ≡ record { answer = refuses why; after = m }
   unfolding opens
-  after-not-opened number offset e = ap (openOutcome m) e
+  after-not-opened why e = ap (openOutcome m) e
 
 -- ---- a desk stays a desk, with its keys and its cells
 
@@ -62,14 +65,14 @@ next-by : (m : Memory) (f : Frame) → Facts m → (a : Told Taking) → replyTr
 next-by m f d (gives t) e =
     let k = took m f t e in
     rw (after-taken m f t e) (record { facts = taken-desk m f t k; key = taken-key m f t k; bits = refl; cap = taken-capacity m f t k })
-next-by m f d (refuses n o) e = rw (after-refused m f n o e) (record { facts = d; key = λ i. refl; bits = refl; cap = refl })
+next-by m f d (refuses why) e = rw (after-refused m f why e) (record { facts = d; key = λ i. refl; bits = refl; cap = refl })
 
 next : (m : Memory) (f : Frame) → Facts m → Next m (replies m f .after)
 next m f d = next-by m f d (replyTried m f) refl
 
 open-by : (m : Memory) (f : Frame) → Facts m → (a : Told Opening) → openTried m f ≡ a → Facts (opens m f .after)
 open-by m f d (gives o) e = rw (after-opened m f o e) (opened-desk m f o (opens-taken m f o e))
-open-by m f d (refuses n o) e = rw (after-not-opened m f n o e) d
+open-by m f d (refuses why) e = rw (after-not-opened m f why e) d
 
 pub stays-desk : StaysDesk
 stays-desk = record {
@@ -102,9 +105,9 @@ with-same m x k n =
 
 -- ---- cells enough
 
-seated-same : (m x : Memory) (got : Told Call) → Next m x → seated x got ≡ seated m got
-seated-same m x (gives c) n = ap (λ (s : ℕ). ltb s seatCount) (with-same m x (c .key) n)
-seated-same m x (refuses number offset) n = refl
+seated-same : (m x : Memory) (got : Told ReplyLabel) → Next m x → seated x got ≡ seated m got
+seated-same m x (gives c) n = ap (λ (s : ℕ). ltb s seatCount) (with-same m x (keyIn c) n)
+seated-same m x (refuses why) n = refl
 
 expected-same : (m x : Memory) (e : Event) → Next m x → expected x e ≡ expected m e
 expected-same m x (toOpen f) n = refl
@@ -121,7 +124,7 @@ taken-expected m f t k = rw (k .hears, k .found) (lt-ltb (t .seat) seatCount (k 
 count-by : (m : Memory) (f : Frame) (es : List Event) (a : Told Taking) → replyTried m f ≡ a → replies m f .after .count + repliesTo m es ≤ m .count + repliesTo m (toReply f ∷ es)
 unfolding repliesTo
 count-by m f es (gives t) e = rw (after-taken m f t e, taken-expected m f t (took m f t e)) (omega arith)
-count-by m f es (refuses n o) e = rw (after-refused m f n o e) (omega arith)
+count-by m f es (refuses why) e = rw (after-refused m f why e) (omega arith)
 
 room-next : (m : Memory) (f : Frame) (es : List Event) → Facts m → m .count + repliesTo m (toReply f ∷ es) ≤ capacity m → replies m f .after .count + repliesTo (replies m f .after) es ≤ capacity (replies m f .after)
 room-next m f es d h =
@@ -138,14 +141,14 @@ record Kept (m x : Memory) (s : ℕ) : Type 0 where
   held : heldBy x s ≡ heldBy m s
 
 hears-own : (m : Memory) (f : Frame) (t : Taking) → Took m f t → addressed (seatKey (seatAt (m .row) (t .seat))) (toReply f) ≡ true
-hears-own m f t k = rw (addressed-heard (seatKey (seatAt (m .row) (t .seat))) f, k .hears, took-key m f t k) (own-key (k .call .key))
+hears-own m f t k = rw (addressed-heard (seatKey (seatAt (m .row) (t .seat))) f, k .hears, took-key m f t k) (own-key (keyIn (k .label)))
 
 else-by : (m : Memory) (f : Frame) (s : ℕ) → addressed (seatKey (seatAt (m .row) s)) (toReply f) ≡ false → (a : Told Taking) → replyTried m f ≡ a → Kept m (replies m f .after) s
 else-by m f s h (gives t) e =
     let k = took m f t e in
     let n : s ≡ t .seat → ⊥ = λ q. never _ (hears-own m f t k) (rw q at h) in
     rw (after-taken m f t e) (record { seat = taken-other m f t k s n; held = records-other m f t k s n })
-else-by m f s h (refuses n o) e = rw (after-refused m f n o e) (record { seat = refl; held = refl })
+else-by m f s h (refuses why) e = rw (after-refused m f why e) (record { seat = refl; held = refl })
 
 -- ---- a frame that is addressed to a seat is answered by it alone
 
@@ -156,8 +159,8 @@ abbrev overAt : Memory → ℕ → Bool
 overAt m s = over (seatAt (m .row) s)
 
 data Own (m : Memory) (f : Frame) (s : ℕ) : Type 0 where
-  late : overAt m s ≡ true → replies m f ≡ record { answer = refuses ENDED 0; after = m } → Own m f s
-  astray : overAt m s ≡ false → fits (anyAt m s) f ≡ false → replies m f ≡ record { answer = refuses OUT-OF-PLACE 0; after = m } → Own m f s
+  late : overAt m s ≡ true → replies m f ≡ record { answer = refuses ENDED; after = m } → Own m f s
+  astray : overAt m s ≡ false → fits (anyAt m s) f ≡ false → replies m f ≡ record { answer = refuses OUT-OF-PLACE; after = m } → Own m f s
   kept-one : (status : ℕ) → overAt m s ≡ false → fits (anyAt m s) f ≡ true → statusIn (heard f) ≡ status → Took m f (record { seat = s; status = status })
       → replies m f ≡ record { answer = gives s; after = taken m f (record { seat = s; status = status }) } → Own m f s
 
@@ -165,43 +168,43 @@ not-not : (b : Bool) → not (not b) ≡ b
 not-not true = refl
 not-not false = refl
 
-place-fits : (m : Memory) (f : Frame) (s : ℕ) (c : Call) → heard f ≡ gives c → inPlace (seatAt (m .row) s .held) (c .status) ≡ fits (anyAt m s) f
+place-fits : (m : Memory) (f : Frame) (s : ℕ) (c : ReplyLabel) → heard f ≡ gives c → inPlace (seatAt (m .row) s .held) (c .status) ≡ fits (anyAt m s) f
 unfolding inPlace
 place-fits m f s c e = rw (e, not-not (eqb (seatAt (m .row) s .held) 0))
 
 -- what is tried, where the seat is s
-own-tried : (m : Memory) (f : Frame) (s : ℕ) (c : Call) → Facts m → s < seatCount → usedBit (m .bits) s ≡ true → m .count < capacity m
-    → heard f ≡ gives c → sameKey (seatKey (seatAt (m .row) s)) (c .key) ≡ true
+own-tried : (m : Memory) (f : Frame) (s : ℕ) (c : ReplyLabel) → Facts m → s < seatCount → usedBit (m .bits) s ≡ true → m .count < capacity m
+    → heard f ≡ gives c → sameKey (seatKey (seatAt (m .row) s)) (keyIn c) ≡ true
     → replyTried m f ≡ seatTried (seatAt (m .row) s) true (record { seat = s; status = c .status })
-unfolding replyTried callTried keyed
+unfolding replyTried labelTried keyed
 own-tried m f s c d l u r e h =
-    rw (facts-desk m d, e, one-seat m (c .key) s d l (and-true u h), lt-ltb s seatCount l, lt-ltb (m .count) (capacity m) r)
+    rw (facts-desk m d, e, one-seat m (keyIn c) s d l (and-true u h), lt-ltb s seatCount l, lt-ltb (m .count) (capacity m) r)
 
-own-case : (m : Memory) (f : Frame) (s : ℕ) (c : Call) → heard f ≡ gives c
+own-case : (m : Memory) (f : Frame) (s : ℕ) (c : ReplyLabel) → heard f ≡ gives c
     → replyTried m f ≡ seatTried (seatAt (m .row) s) true (record { seat = s; status = c .status })
     → (a b : Bool) → overAt m s ≡ a → fits (anyAt m s) f ≡ b → Own m f s
 unfolding seatTried
-own-case m f s c e q true b ea eb = late ea (after-refused m f 14 0 (q ∙ rw ea))
-own-case m f s c e q false false ea eb = astray ea eb (after-refused m f 15 0 (q ∙ rw (ea, place-fits m f s c e, eb)))
+own-case m f s c e q true b ea eb = late ea (after-refused m f ENDED (q ∙ rw ea))
+own-case m f s c e q false false ea eb = astray ea eb (after-refused m f OUT-OF-PLACE (q ∙ rw (ea, place-fits m f s c e, eb)))
 own-case m f s c e q false true ea eb =
     let t : Taking = record { seat = s; status = c .status } in
     let p : replyTried m f ≡ gives t = q ∙ rw (ea, place-fits m f s c e, eb) in
     kept-one (c .status) ea eb (ap statusIn e) (took m f t p) (after-taken m f t p)
 
 own-heard : (m : Memory) (f : Frame) (s : ℕ) → Facts m → s < seatCount → usedBit (m .bits) s ≡ true → m .count < capacity m
-    → (got : Told Call) → heard f ≡ got → hasKey (seatKey (seatAt (m .row) s)) got ≡ true → Own m f s
+    → (got : Told ReplyLabel) → heard f ≡ got → hasKey (seatKey (seatAt (m .row) s)) got ≡ true → Own m f s
 own-heard m f s d l u r (gives c) e h = own-case m f s c e (own-tried m f s c d l u r e h) (overAt m s) (fits (anyAt m s) f) refl refl
-own-heard m f s d l u r (refuses n o) e h = never true refl (sym h)
+own-heard m f s d l u r (refuses why) e h = never true refl (sym h)
 
 own : (m : Memory) (f : Frame) (s : ℕ) → Facts m → s < seatCount → usedBit (m .bits) s ≡ true → m .count < capacity m
     → addressed (seatKey (seatAt (m .row) s)) (toReply f) ≡ true → Own m f s
 own m f s d l u r h = own-heard m f s d l u r (heard f) refl (rw (addressed-heard (seatKey (seatAt (m .row) s)) f) at h)
 
 -- a frame addressed to a used seat is one of those that are counted, so a cell is free
-own-seated : (m : Memory) (s : ℕ) → Facts m → s < seatCount → usedBit (m .bits) s ≡ true → (got : Told Call) → hasKey (seatKey (seatAt (m .row) s)) got ≡ true → seated m got ≡ true
+own-seated : (m : Memory) (s : ℕ) → Facts m → s < seatCount → usedBit (m .bits) s ≡ true → (got : Told ReplyLabel) → hasKey (seatKey (seatAt (m .row) s)) got ≡ true → seated m got ≡ true
 unfolding keyed
-own-seated m s d l u (gives c) h = rw (one-seat m (c .key) s d l (and-true u h)) (lt-ltb s seatCount l)
-own-seated m s d l u (refuses n o) h = h
+own-seated m s d l u (gives c) h = rw (one-seat m (keyIn c) s d l (and-true u h)) (lt-ltb s seatCount l)
+own-seated m s d l u (refuses why) h = h
 
 own-room : (m : Memory) (f : Frame) (s : ℕ) (es : List Event) → Facts m → s < seatCount → usedBit (m .bits) s ≡ true → addressed (seatKey (seatAt (m .row) s)) (toReply f) ≡ true
     → m .count + repliesTo m (toReply f ∷ es) ≤ capacity m → m .count < capacity m
@@ -235,10 +238,10 @@ own-ends : (m : Memory) (f : Frame) (es : List Event) (s : ℕ) (k : Key) → Ow
 unfolding keeps says
 own-ends m f es s k (late eo e) ih =
     let r = rw e at ih in
-    record { held = rw (eo, e) (rw eo at (r .held)); answers = rw (eo, e) (ap (λ (l : List (Told ℕ)). refuses ENDED 0 ∷ l) (rw eo at (r .answers))) }
+    record { held = rw (eo, e) (rw eo at (r .held)); answers = rw (eo, e) (ap (λ (l : List (Told ℕ)). refuses ENDED ∷ l) (rw eo at (r .answers))) }
 own-ends m f es s k (astray eo ef e) ih =
     let r = rw e at ih in
-    record { held = rw (eo, ef, e) (rw eo at (r .held)); answers = rw (eo, ef, e) (ap (λ (l : List (Told ℕ)). refuses OUT-OF-PLACE 0 ∷ l) (rw eo at (r .answers))) }
+    record { held = rw (eo, ef, e) (rw eo at (r .held)); answers = rw (eo, ef, e) (ap (λ (l : List (Told ℕ)). refuses OUT-OF-PLACE ∷ l) (rw eo at (r .answers))) }
 own-ends m f es s k (kept-one status eo ef st q e) ih =
     let t : Taking = record { seat = s; status = status } in
     let r = rw e at ih in
@@ -331,7 +334,7 @@ record Lent (m x : Memory) : Type 0 where
 
 lent-by : (m : Memory) (f : Frame) (a : Told Opening) → openTried m f ≡ a → Lent m (opens m f .after)
 lent-by m f (gives o) e = rw (after-opened m f o e) (record { count = refl; cells = refl; marks = refl })
-lent-by m f (refuses n o) e = rw (after-not-opened m f n o e) (record { count = refl; cells = refl; marks = refl })
+lent-by m f (refuses why) e = rw (after-not-opened m f why e) (record { count = refl; cells = refl; marks = refl })
 
 -- a request that was just opened, at seat s
 record Fresh (m : Memory) (s : ℕ) (k : Key) : Type 0 where
@@ -346,7 +349,7 @@ fresh-by m f s k h (gives o) e =
     let n = used-other m f o q s (h .used) in
     rw (after-opened m f o e)
     (record { below = h .below; used = other-bit m f o q s n ∙ h .used; seat = opened-other m f o q s n ∙ h .seat; held = h .held })
-fresh-by m f s k h (refuses n o) e = rw (after-not-opened m f n o e) h
+fresh-by m f s k h (refuses why) e = rw (after-not-opened m f why e) h
 
 record Ready (m x : Memory) : Type 0 where
   facts : Facts x
@@ -380,9 +383,8 @@ just-opened m f r s e (gives o) q h =
     let ek : o .key ≡ requestKey r = sym (k .key) ∙ ap requestKey er in
     rw (after-opened m f o q, ← es, ← ek)
     (record { below = k .below; used = opened-bit m f o k; seat = opened-own m f o k; held = opened-holds m f o k })
-just-opened m f r s e (refuses n o) q h =
-    let g : refuses n o ≡ gives s = rw (after-not-opened m f n o q) at h in
-    let z : _≡_ {A = ℕ} 0 1 = cc in absurd (omega arith)
+just-opened m f r s e (refuses why) q h =
+    absurd (not-refused s why (sym (rw (after-not-opened m f why q) at h)))
 
 pub sorts-opened-requests : SortsOpenedRequests
 unfolding run

@@ -15,7 +15,7 @@ use Rattle.desk.specs.Memory.{Memory, capacityOf, cellAt, markAt, record
 use Rattle.desk.specs.Calls.{heldCells, heldFrom, heldAnswer, nextHeld}
 use Rattle.desk.specs.ReadBack.{ReadBack, over, tells, ReadsBack}
 use Rattle.desk.proofs.Below.{eq-case, first-at, first-ext}
-use Rattle.desk.proofs.TestLaws.{desk-facts}
+use Rattle.desk.proofs.ClauseLaws.{desk-facts}
 use Rattle.desk.proofs.HeldLaws.{from-none, found-cell, none-found}
 
 -- ---- the records from a place on

@@ -3,22 +3,24 @@ use Prim.Native.Nat.{ℕ}
 use mathlib.Core.List.{List, [], _∷_}
 use mathlib.Core.Bool.{Bool, true, false, cond, not, _||_}
 use mathlib.Core.Path.{_≡_, refl, ap, _∙_}
+use Rattle.digits.specs.Refusals.{ENDED, OUT-OF-PLACE}
 use Rattle.digits.specs.Told.{Told, gives, refuses}
 use Rattle.frames.specs.Kind.{read}
-use Rattle.frames.specs.Reply.{reply}
+use Rattle.frames.specs.Timing.{isZ}
+use Rattle.frames.specs.Reply.{reply, labelled}
 use Rattle.frames.specs.declared.reply.StaticReply.{StaticReply}
-use Rattle.desk.specs.declared.call.Key.{Key}
+use Rattle.desk.specs.declared.key.Key.{Key}
 use Rattle.desk.specs.Key.{sameKey}
-use Rattle.desk.specs.Call as C
-use Rattle.desk.specs.Calls.{ENDED, OUT-OF-PLACE}
-use Rattle.desk.specs.Rule.{Frame, isTo, letterIn, isE, isZ, withoutZ, upToE, keptFirst, kept, saidEnded, saidAmong, saidFirst, said}
+use Rattle.desk.specs.Hearing as C
+
+use Rattle.desk.specs.Rule.{Frame, isTo, letterIn, hasStatusE, hasStatusZ, withoutZ, upToE, keptFirst, kept, saidEnded, saidAmong, saidFirst, said}
 use Rattle.desk.specs.Mix.{Event, toReply, addressed}
 
 -- ---- as the desk tries a frame
 
 -- a request that holds records takes no Z
 abbrev pub fits : Bool → Frame → Bool
-fits any f = not (C.isZ (C.statusIn (C.heard f))) || not any
+fits any f = not (isZ (C.statusIn (C.heard f))) || not any
 
 abbrev pub endsIt : Frame → Bool
 endsIt f = C.ends (C.statusIn (C.heard f))
@@ -30,23 +32,23 @@ keeps any false (f ∷ fs) = cond (fits any f) (f ∷ keeps true (endsIt f) fs) 
 
 unfoldable pub says : ℕ → Bool → Bool → List Frame → List (Told ℕ)
 says s any ended [] = []
-says s any true (f ∷ fs) = refuses ENDED 0 ∷ says s any true fs
-says s any false (f ∷ fs) = cond (fits any f) (gives s ∷ says s true (endsIt f) fs) (refuses OUT-OF-PLACE 0 ∷ says s any false fs)
+says s any true (f ∷ fs) = refuses ENDED ∷ says s any true fs
+says s any false (f ∷ fs) = cond (fits any f) (gives s ∷ says s true (endsIt f) fs) (refuses OUT-OF-PLACE ∷ says s any false fs)
 
 -- ---- status and key are the record's
 
-letter-told : (t : Told StaticReply) → C.statusIn (C.called t) ≡ letterIn t
+letter-told : (t : Told StaticReply) → C.statusIn (labelled t) ≡ letterIn t
 letter-told (gives r) = refl
-letter-told (refuses number offset) = refl
+letter-told (refuses why) = refl
 
 letter : (f : Frame) → C.statusIn (C.heard f) ≡ letterIn (read reply f)
 unfolding C.heard
 letter f = letter-told (read reply f)
 
-to-told : (k : Key) (t : Told StaticReply) → isTo k t ≡ C.hasKey k (C.called t)
+to-told : (k : Key) (t : Told StaticReply) → isTo k t ≡ C.hasKey k (labelled t)
 unfolding sameKey
 to-told k (gives r) = refl
-to-told k (refuses number offset) = refl
+to-told k (refuses why) = refl
 
 pub addressed-heard : (k : Key) (f : Frame) → addressed k (toReply f) ≡ C.hasKey k (C.heard f)
 unfolding addressed C.heard
@@ -59,7 +61,7 @@ unfolding keeps
 keeps-none any [] = refl
 keeps-none any (f ∷ fs) = keeps-none any fs
 
-among-by : (z e : Bool) (f : Frame) (fs : List Frame) → isE f ≡ e → keeps true false fs ≡ upToE (withoutZ fs)
+among-by : (z e : Bool) (f : Frame) (fs : List Frame) → hasStatusE f ≡ e → keeps true false fs ≡ upToE (withoutZ fs)
     → cond (not z || not true) (f ∷ keeps true (e || z) fs) (keeps true false fs) ≡ upToE (cond z (withoutZ fs) (f ∷ withoutZ fs))
 among-by true e f fs q h = h
 among-by false true f fs q h = rw q (ap (λ (l : List Frame). f ∷ l) (keeps-none true fs))
@@ -68,9 +70,9 @@ among-by false false f fs q h = rw q (ap (λ (l : List Frame). f ∷ l) h)
 keeps-among : (fs : List Frame) → keeps true false fs ≡ upToE (withoutZ fs)
 unfolding keeps C.ends
 keeps-among [] = refl
-keeps-among (f ∷ fs) = rw (letter f) (among-by (isZ f) (isE f) f fs refl (keeps-among fs))
+keeps-among (f ∷ fs) = rw (letter f) (among-by (hasStatusZ f) (hasStatusE f) f fs refl (keeps-among fs))
 
-first-by : (z e : Bool) (f : Frame) (fs : List Frame) → isE f ≡ e
+first-by : (z e : Bool) (f : Frame) (fs : List Frame) → hasStatusE f ≡ e
     → cond (not z || not false) (f ∷ keeps true (e || z) fs) (keeps false false fs) ≡ cond z (f ∷ []) (upToE (cond z (withoutZ fs) (f ∷ withoutZ fs)))
 first-by true true f fs q = ap (λ (l : List Frame). f ∷ l) (keeps-none true fs)
 first-by true false f fs q = ap (λ (l : List Frame). f ∷ l) (keeps-none true fs)
@@ -80,7 +82,7 @@ first-by false false f fs q = rw q (ap (λ (l : List Frame). f ∷ l) (keeps-amo
 keeps-first : (fs : List Frame) → keeps false false fs ≡ keptFirst fs
 unfolding keeps C.ends
 keeps-first [] = refl
-keeps-first (f ∷ fs) = rw (letter f) (first-by (isZ f) (isE f) f fs refl)
+keeps-first (f ∷ fs) = rw (letter f) (first-by (hasStatusZ f) (hasStatusE f) f fs refl)
 
 pub keeps-kept : (any ended : Bool) (fs : List Frame) → keeps any ended fs ≡ kept any ended fs
 keeps-kept any true fs = keeps-none any fs
@@ -93,23 +95,23 @@ module _ (s : ℕ) where
   says-ended : (any : Bool) (fs : List Frame) → says s any true fs ≡ saidEnded fs
   unfolding says
   says-ended any [] = refl
-  says-ended any (f ∷ fs) = ap (λ (l : List (Told ℕ)). refuses 14 0 ∷ l) (says-ended any fs)
+  says-ended any (f ∷ fs) = ap (λ (l : List (Told ℕ)). refuses ENDED ∷ l) (says-ended any fs)
 
-  said-among-by : (z e : Bool) (f : Frame) (fs : List Frame) → isE f ≡ e → says s true false fs ≡ saidAmong s fs
-      → cond (not z || not true) (gives s ∷ says s true (e || z) fs) (refuses OUT-OF-PLACE 0 ∷ says s true false fs)
-      ≡ cond z (refuses 15 0 ∷ saidAmong s fs) (gives s ∷ cond (isE f) (saidEnded fs) (saidAmong s fs))
-  said-among-by true e f fs q h = ap (λ (l : List (Told ℕ)). refuses 15 0 ∷ l) h
+  said-among-by : (z e : Bool) (f : Frame) (fs : List Frame) → hasStatusE f ≡ e → says s true false fs ≡ saidAmong s fs
+      → cond (not z || not true) (gives s ∷ says s true (e || z) fs) (refuses OUT-OF-PLACE ∷ says s true false fs)
+      ≡ cond z (refuses OUT-OF-PLACE ∷ saidAmong s fs) (gives s ∷ cond (hasStatusE f) (saidEnded fs) (saidAmong s fs))
+  said-among-by true e f fs q h = ap (λ (l : List (Told ℕ)). refuses OUT-OF-PLACE ∷ l) h
   said-among-by false true f fs q h = rw q (ap (λ (l : List (Told ℕ)). gives s ∷ l) (says-ended true fs))
   said-among-by false false f fs q h = rw q (ap (λ (l : List (Told ℕ)). gives s ∷ l) h)
 
   says-among : (fs : List Frame) → says s true false fs ≡ saidAmong s fs
   unfolding says C.ends
   says-among [] = refl
-  says-among (f ∷ fs) = rw (letter f) (said-among-by (isZ f) (isE f) f fs refl (says-among fs))
+  says-among (f ∷ fs) = rw (letter f) (said-among-by (hasStatusZ f) (hasStatusE f) f fs refl (says-among fs))
 
-  said-first-by : (z e : Bool) (f : Frame) (fs : List Frame) → isE f ≡ e
-      → cond (not z || not false) (gives s ∷ says s true (e || z) fs) (refuses OUT-OF-PLACE 0 ∷ says s false false fs)
-      ≡ cond z (gives s ∷ saidEnded fs) (cond z (refuses 15 0 ∷ saidAmong s fs) (gives s ∷ cond (isE f) (saidEnded fs) (saidAmong s fs)))
+  said-first-by : (z e : Bool) (f : Frame) (fs : List Frame) → hasStatusE f ≡ e
+      → cond (not z || not false) (gives s ∷ says s true (e || z) fs) (refuses OUT-OF-PLACE ∷ says s false false fs)
+      ≡ cond z (gives s ∷ saidEnded fs) (cond z (refuses OUT-OF-PLACE ∷ saidAmong s fs) (gives s ∷ cond (hasStatusE f) (saidEnded fs) (saidAmong s fs)))
   said-first-by true true f fs q = ap (λ (l : List (Told ℕ)). gives s ∷ l) (says-ended true fs)
   said-first-by true false f fs q = ap (λ (l : List (Told ℕ)). gives s ∷ l) (says-ended true fs)
   said-first-by false true f fs q = rw q (ap (λ (l : List (Told ℕ)). gives s ∷ l) (says-ended true fs))
@@ -118,7 +120,7 @@ module _ (s : ℕ) where
   says-first : (fs : List Frame) → says s false false fs ≡ saidFirst s fs
   unfolding says C.ends
   says-first [] = refl
-  says-first (f ∷ fs) = rw (letter f) (said-first-by (isZ f) (isE f) f fs refl)
+  says-first (f ∷ fs) = rw (letter f) (said-first-by (hasStatusZ f) (hasStatusE f) f fs refl)
 
   pub says-said : (any ended : Bool) (fs : List Frame) → says s any ended fs ≡ said s any ended fs
   says-said any true fs = says-ended any fs

@@ -7,29 +7,43 @@ use native.Mathlib.Omega.{arith}
 use lib.ListN.{length}
 use lib.Dec.{eqb, leb, ltb}
 use borrow.Author.Tests.{eqb-true, ltb-true, leb-true, not-true, not-false}
-use Rattle.digits.specs.Told.{gives}
+use Rattle.digits.specs.Told.{Told, gives, refuses}
 use Rattle.frames.specs.Kind.{read}
 use Rattle.frames.specs.Request.{request}
 use Rattle.frames.specs.declared.request.StaticRequest.{StaticRequest}
+use Rattle.frames.specs.declared.reply.ReplyLabel.{ReplyLabel}
 use Rattle.frames.proofs.HeadLaws.{tried-gives}
 use Rattle.desk.specs.declared.state.Seat.{Seat}
-use Rattle.desk.specs.declared.call.Key.{Key}
-use Rattle.desk.specs.declared.call.Call.{Call}
+use Rattle.desk.specs.declared.key.Key.{Key}
 use Rattle.desk.specs.declared.opening.Opening.{Opening}
 use Rattle.desk.specs.declared.reply.Taking.{Taking}
-use Rattle.desk.specs.Limits.{seatCount, mostCells}
-use Rattle.desk.specs.Key.{requestKey, seatKey, isKey}
-use Rattle.desk.specs.Call.{heard, inPlace}
+use Rattle.desk.specs.Limits.{seatCount, mostCells, cellSize}
+use Rattle.desk.specs.Key.{requestKey, keyIn, seatKey, isKey}
+use Rattle.desk.specs.Hearing.{heard, inPlace}
 use Rattle.desk.specs.Seats.{seatAt, usedBit, keyed, keyedAt, seatWith, clearAt, lowestClear}
 use Rattle.desk.specs.Memory.{Memory, capacity, capacityOf}
 use Rattle.desk.specs.Desk.{isDesk}
-use Rattle.desk.specs.Calls.{over, keyTried, requestTried, openTried, seatTried, callTried, replyTried}
+use Rattle.desk.specs.Calls.{over, keyTried, requestTried, whatIsGiven, openTried, seatTried, labelTried, replyTried}
 use Rattle.digits.proofs.Tests.{and-l, and-r}
 use Rattle.desk.proofs.Below.{first-sound, first-before, count-most}
-use Rattle.desk.proofs.CallLaws.{given, heard-long, same-key, request-legal}
-use Rattle.desk.proofs.TestLaws.{Facts, desk-facts}
+use Rattle.desk.proofs.KeyLaws.{same-key, request-legal}
+use Rattle.desk.proofs.HearingLaws.{heard-long}
+use Rattle.desk.proofs.ClauseLaws.{Facts, desk-facts}
 
--- the seat that is found is in use and has the key
+-- ---- answers that gave something
+
+module _ {A B : Type 0} where
+  record Given (x : Told A) (further : A → Told B) (b : B) : Type 0 where
+    one : A
+    is : x ≡ gives one
+    rest : further one ≡ gives b
+
+  given : (x : Told A) (further : A → Told B) (b : B) → whatIsGiven x further ≡ gives b → Given x further b
+  given (gives a) further b e = record { one = a; is = refl; rest = e }
+  given (refuses why) further b e = absurd (let z : _≡_ {A = ℕ} 0 1 = cc in omega arith)
+
+-- ---- the seat that is found is in use and has the key
+
 pub found-keyed : (row : List Seat) (bits : ℕ) (k : Key) → seatWith row bits k < seatCount → keyedAt row bits k (seatWith row bits k) ≡ true
 unfolding seatWith
 found-keyed row bits k l = first-sound seatCount (keyedAt row bits k) l
@@ -46,29 +60,29 @@ keyed-key row bits k s h = same-key (seatKey (seatAt row s)) k (and-r (usedBit b
 
 pub record Took (m : Memory) (f : List ℕ) (t : Taking) : Type 0 where
   pub facts : Facts m
-  pub call : Call
-  pub hears : heard f ≡ gives call
-  pub status : call .status ≡ t .status
-  pub found : seatWith (m .row) (m .bits) (call .key) ≡ t .seat
+  pub label : ReplyLabel
+  pub hears : heard f ≡ gives label
+  pub status : label .status ≡ t .status
+  pub found : seatWith (m .row) (m .bits) (keyIn label) ≡ t .seat
   pub below : t .seat < seatCount
   pub going : seatAt (m .row) (t .seat) .ended ≡ 0
   pub placed : inPlace (seatAt (m .row) (t .seat) .held) (t .status) ≡ true
   pub room : m .count < capacity m
 
-took-seat : (m : Memory) (f : List ℕ) (t : Taking) (c : Call) (s : ℕ) → Facts m → heard f ≡ gives c → seatWith (m .row) (m .bits) (c .key) ≡ s → s < seatCount
+took-seat : (m : Memory) (f : List ℕ) (t : Taking) (c : ReplyLabel) (s : ℕ) → Facts m → heard f ≡ gives c → seatWith (m .row) (m .bits) (keyIn c) ≡ s → s < seatCount
     → seatTried (seatAt (m .row) s) (ltb (m .count) (capacity m)) (record { seat = s; status = c .status }) ≡ gives t → Took m f t
 unfolding seatTried
 took-seat m f t c s facts h e l q =
-    let a = tried-gives (not (over (seatAt (m .row) s))) _ _ _ t q in
-    let b = tried-gives (inPlace (seatAt (m .row) s .held) (c .status)) _ _ _ t (a .1) in
-    let d = tried-gives (ltb (m .count) (capacity m)) _ _ _ t (b .1) in
+    let a = tried-gives (not (over (seatAt (m .row) s))) _ _ t q in
+    let b = tried-gives (inPlace (seatAt (m .row) s .held) (c .status)) _ _ t (a .1) in
+    let d = tried-gives (ltb (m .count) (capacity m)) _ _ t (b .1) in
     let g = d .1 in
     let is : record { seat = s; status = c .status } ≡ t = cc in
     let p : s ≡ t .seat = ap (λ (x : Taking). x .seat) is in
     let r : c .status ≡ t .status = ap (λ (x : Taking). x .status) is in
     record {
       facts = facts;
-      call = c;
+      label = c;
       hears = h;
       status = r;
       found = e ∙ p;
@@ -79,31 +93,31 @@ took-seat m f t c s facts h e l q =
     }
 
 pub took : (m : Memory) (f : List ℕ) (t : Taking) → replyTried m f ≡ gives t → Took m f t
-unfolding replyTried callTried
+unfolding replyTried labelTried
 took m f t q =
-    let d = tried-gives (isDesk m) _ _ _ t q in
-    let g = given (heard f) (callTried (m .row) (m .bits) (ltb (m .count) (capacity m))) t (d .1) in
-    let s = seatWith (m .row) (m .bits) (g .one .key) in
-    let l = tried-gives (ltb s seatCount) _ _ _ t (g .rest) in
+    let d = tried-gives (isDesk m) _ _ t q in
+    let g = given (heard f) (labelTried (m .row) (m .bits) (ltb (m .count) (capacity m))) t (d .1) in
+    let s = seatWith (m .row) (m .bits) (keyIn (g .one)) in
+    let l = tried-gives (ltb s seatCount) _ _ t (g .rest) in
     took-seat m f t (g .one) s (desk-facts m (d .0)) (g .is) refl (ltb-true s seatCount (l .0)) (l .1)
 
 module _ (m : Memory) (f : List ℕ) (t : Taking) (k : Took m f t) where
-  took-keyed : keyedAt (m .row) (m .bits) (k .call .key) (t .seat) ≡ true
-  took-keyed = rw (k .found) at (found-keyed (m .row) (m .bits) (k .call .key) (rw (k .found) (k .below)))
+  took-keyed : keyedAt (m .row) (m .bits) (keyIn (k .label)) (t .seat) ≡ true
+  took-keyed = rw (k .found) at (found-keyed (m .row) (m .bits) (keyIn (k .label)) (rw (k .found) (k .below)))
 
   pub took-used : usedBit (m .bits) (t .seat) ≡ true
-  took-used = keyed-used (m .row) (m .bits) (k .call .key) (t .seat) took-keyed
+  took-used = keyed-used (m .row) (m .bits) (keyIn (k .label)) (t .seat) took-keyed
 
-  pub took-key : seatKey (seatAt (m .row) (t .seat)) ≡ k .call .key
-  took-key = keyed-key (m .row) (m .bits) (k .call .key) (t .seat) took-keyed
+  pub took-key : seatKey (seatAt (m .row) (t .seat)) ≡ keyIn (k .label)
+  took-key = keyed-key (m .row) (m .bits) (keyIn (k .label)) (t .seat) took-keyed
 
 -- what the stores of a taken reply need
 pub record Room (m : Memory) (f : List ℕ) (t : Taking) : Type 0 where
   pub seat : t .seat < seatCount
   pub count : m .count < mostCells
   pub marks : m .count < length (m .marks)
-  pub cells : m .count * 51 + 51 ≤ length (m .cells)
-  pub frame : length f ≡ 51
+  pub cells : m .count * cellSize + cellSize ≤ length (m .cells)
+  pub frame : length f ≡ cellSize
   pub held : seatAt (m .row) (t .seat) .held ≤ m .count
 
 pub took-room : (m : Memory) (f : List ℕ) (t : Taking) → Took m f t → Room m f t
@@ -112,7 +126,7 @@ took-room m f t k =
     let r = k .room in
     let n = count-most (m .count) (λ i. eqb (lib.ListN.getD (m .marks) i 0) (t .seat)) in
     let h = k .facts .held (t .seat) (k .below) (took-used m f t k) in
-    record { seat = k .below; count = omega arith; marks = omega arith; cells = omega arith; frame = heard-long f (k .call) (k .hears); held = rw h n }
+    record { seat = k .below; count = omega arith; marks = omega arith; cells = omega arith; frame = heard-long f (k .label) (k .hears); held = rw h n }
 
 -- ---- an opening that is taken
 
@@ -137,8 +151,8 @@ lowest-is-clear bits l = not-true _ (first-sound 64 (clearAt bits) (omega arith)
 opens-key : (m : Memory) (f : List ℕ) (o : Opening) (r : StaticRequest) → Facts m → read request f ≡ gives r → keyTried (m .row) (m .bits) (requestKey r) ≡ gives o → Opens m f o
 unfolding keyTried
 opens-key m f o r facts e q =
-    let a = tried-gives (leb seatCount (seatWith (m .row) (m .bits) (requestKey r))) _ _ _ o q in
-    let b = tried-gives (ltb (lowestClear (m .bits)) seatCount) _ _ _ o (a .1) in
+    let a = tried-gives (leb seatCount (seatWith (m .row) (m .bits) (requestKey r))) _ _ o q in
+    let b = tried-gives (ltb (lowestClear (m .bits)) seatCount) _ _ o (a .1) in
     let g = b .1 in
     let is : record { seat = lowestClear (m .bits); key = requestKey r } ≡ o = cc in
     let p : lowestClear (m .bits) ≡ o .seat = ap (λ (x : Opening). x .seat) is in
@@ -158,7 +172,7 @@ opens-key m f o r facts e q =
 pub opens-taken : (m : Memory) (f : List ℕ) (o : Opening) → openTried m f ≡ gives o → Opens m f o
 unfolding openTried requestTried
 opens-taken m f o q =
-    let d = tried-gives (isDesk m) _ _ _ o q in
+    let d = tried-gives (isDesk m) _ _ o q in
     let g = given (read request f) (requestTried (m .row) (m .bits)) o (d .1) in
-    let a = tried-gives (not (eqb (g .one .information) 113)) _ _ _ o (g .rest) in
+    let a = tried-gives (not (eqb (g .one .information) 113)) _ _ o (g .rest) in
     opens-key m f o (g .one) (desk-facts m (d .0)) (g .is) (a .1)

@@ -1,87 +1,88 @@
--- The desk's calls refuse by numbers that are not 0. Assumes nothing.
+-- The desk's calls refuse by the table of refusals alone. Assumes nothing.
 use Prim.Native.Nat.{ℕ}
 use mathlib.Core.List.{List}
 use mathlib.Core.Bool.{Bool, true, false, cond, not}
 use mathlib.Core.Path.{refl}
 use lib.Dec.{eqb, ltb, leb}
+use Rattle.digits.specs.Refusals.{DESK, NO-ANSWER-DUE, IN-USE, NO-SEAT, STRAY, ENDED, OUT-OF-PLACE, FULL}
 use Rattle.digits.specs.Told.{Told, gives, refuses, Sure}
-use Rattle.digits.proofs.Sure.{sure-number, sure-gives, sure-tried}
+use Rattle.digits.proofs.Sure.{sure-refuses, sure-gives, sure-tried}
 use Rattle.frames.specs.Request.{request}
-use Rattle.frames.specs.Reply.{reply}
+use Rattle.frames.specs.Reply.{reply, labelOf, labelled}
 use Rattle.frames.specs.Kind.{read}
 use Rattle.frames.specs.declared.request.StaticRequest.{StaticRequest}
 use Rattle.frames.specs.declared.reply.StaticReply.{StaticReply}
+use Rattle.frames.specs.declared.reply.ReplyLabel.{ReplyLabel}
 use Rattle.frames.proofs.HeadLaws.{sure-read}
 use Rattle.desk.specs.declared.state.Seat.{Seat}
-use Rattle.desk.specs.declared.call.Key.{Key}
-use Rattle.desk.specs.declared.call.Call.{Call}
+use Rattle.desk.specs.declared.key.Key.{Key}
 use Rattle.desk.specs.declared.opening.Opening.{Opening}
 use Rattle.desk.specs.declared.reply.Taking.{Taking}
 use Rattle.desk.specs.Limits.{seatCount}
-use Rattle.desk.specs.Key.{requestKey}
+use Rattle.desk.specs.Key.{requestKey, keyIn}
 use Rattle.desk.specs.Seats.{seatWith, lowestClear}
-use Rattle.desk.specs.Call.{callOf, called, heard, inPlace}
+use Rattle.desk.specs.Hearing.{heard, inPlace}
 use Rattle.desk.specs.Memory.{Memory, capacity}
-use Rattle.desk.specs.Desk.{isDesk, sixteenSeats}
-use Rattle.desk.specs.Calls.{DESK, NO-ANSWER-DUE, IN-USE, NO-SEAT, STRAY, ENDED, OUT-OF-PLACE, FULL, Outcome, whatIsGiven, letterQ, over, keyTried, requestTried, openTried, openOutcome, opens, seatTried, callTried, replyTried, replyOutcome, replies, emptied, resets}
+use Rattle.desk.specs.Desk.{isDesk, allSeats}
+use Rattle.desk.specs.Calls.{Outcome, whatIsGiven, letterQ, over, keyTried, requestTried, openTried, openOutcome, opens, seatTried, labelTried, replyTried, replyOutcome, replies, emptied, resets}
 
 module _ {A B : Type 0} where
   sure-given : (t : Told A) (further : A → Told B) → Sure t → ((a : A) → Sure (further a)) → Sure (whatIsGiven t further)
   sure-given (gives a) further s f = f a
-  sure-given (refuses n o) further s f = sure-number n o (s n o refl)
+  sure-given (refuses why) further s f = sure-refuses why (s why refl)
 
-sure-called : (t : Told StaticReply) → Sure t → Sure (called t)
-sure-called (gives r) s = sure-gives (callOf r)
-sure-called (refuses n o) s = sure-number n o (s n o refl)
+sure-labelled : (t : Told StaticReply) → Sure t → Sure (labelled t)
+sure-labelled (gives r) s = sure-gives (labelOf r)
+sure-labelled (refuses why) s = sure-refuses why (s why refl)
 
 sure-opened : (m : Memory) (t : Told Opening) → Sure t → Sure (openOutcome m t .answer)
 sure-opened m (gives o) s = sure-gives (o .seat)
-sure-opened m (refuses n o) s = sure-number n o (s n o refl)
+sure-opened m (refuses why) s = sure-refuses why (s why refl)
 
 sure-taken : (m : Memory) (f : List ℕ) (t : Told Taking) → Sure t → Sure (replyOutcome m f t .answer)
 sure-taken m f (gives t) s = sure-gives (t .seat)
-sure-taken m f (refuses n o) s = sure-number n o (s n o refl)
+sure-taken m f (refuses why) s = sure-refuses why (s why refl)
 
 sure-key : (row : List Seat) (bits : ℕ) (k : Key) → Sure (keyTried row bits k)
 unfolding keyTried
 sure-key row bits k =
-    sure-tried (leb seatCount (seatWith row bits k)) IN-USE 0 _ (λ _. refl)
-    (sure-tried (ltb (lowestClear bits) seatCount) NO-SEAT 0 _ (λ _. refl)
+    sure-tried (leb seatCount (seatWith row bits k)) IN-USE _ (λ _. refl)
+    (sure-tried (ltb (lowestClear bits) seatCount) NO-SEAT _ (λ _. refl)
     (sure-gives (record { seat = lowestClear bits; key = k })))
 
 sure-request : (row : List Seat) (bits : ℕ) (r : StaticRequest) → Sure (requestTried row bits r)
 unfolding requestTried
-sure-request row bits r = sure-tried (not (eqb (r .information) letterQ)) NO-ANSWER-DUE 0 _ (λ _. refl) (sure-key row bits (requestKey r))
+sure-request row bits r = sure-tried (not (eqb (r .information) letterQ)) NO-ANSWER-DUE _ (λ _. refl) (sure-key row bits (requestKey r))
 
 sure-seat : (s : Seat) (free : Bool) (t : Taking) → Sure (seatTried s free t)
 unfolding seatTried
 sure-seat s free t =
-    sure-tried (not (over s)) ENDED 0 _ (λ _. refl)
-    (sure-tried (inPlace (s .held) (t .status)) OUT-OF-PLACE 0 _ (λ _. refl)
-    (sure-tried free FULL 0 _ (λ _. refl)
+    sure-tried (not (over s)) ENDED _ (λ _. refl)
+    (sure-tried (inPlace (s .held) (t .status)) OUT-OF-PLACE _ (λ _. refl)
+    (sure-tried free FULL _ (λ _. refl)
     (sure-gives t)))
 
-sure-call : (row : List Seat) (bits : ℕ) (free : Bool) (c : Call) → Sure (callTried row bits free c)
-unfolding callTried
-sure-call row bits free c = sure-tried (ltb (seatWith row bits (c .key)) seatCount) STRAY 0 _ (λ _. refl) (sure-seat _ free _)
+sure-label : (row : List Seat) (bits : ℕ) (free : Bool) (c : ReplyLabel) → Sure (labelTried row bits free c)
+unfolding labelTried
+sure-label row bits free c = sure-tried (ltb (seatWith row bits (keyIn c)) seatCount) STRAY _ (λ _. refl) (sure-seat _ free _)
 
 pub sure-opens : (m : Memory) (f : List ℕ) → Sure (opens m f .answer)
 unfolding opens openTried
 sure-opens m f =
     sure-opened m (openTried m f)
-    (sure-tried (isDesk m) DESK 0 _ (λ _. refl) (sure-given (read request f) (requestTried (m .row) (m .bits)) (sure-read request f) (sure-request (m .row) (m .bits))))
+    (sure-tried (isDesk m) DESK _ (λ _. refl) (sure-given (read request f) (requestTried (m .row) (m .bits)) (sure-read request f) (sure-request (m .row) (m .bits))))
 
 pub sure-replies : (m : Memory) (f : List ℕ) → Sure (replies m f .answer)
 unfolding replies replyTried heard
 sure-replies m f =
     let free = ltb (m .count) (capacity m) in
     sure-taken m f (replyTried m f)
-    (sure-tried (isDesk m) DESK 0 _ (λ _. refl) (sure-given (heard f) (callTried (m .row) (m .bits) free) (sure-called (read reply f) (sure-read reply f)) (sure-call (m .row) (m .bits) free)))
+    (sure-tried (isDesk m) DESK _ (λ _. refl) (sure-given (heard f) (labelTried (m .row) (m .bits) free) (sure-labelled (read reply f) (sure-read reply f)) (sure-label (m .row) (m .bits) free)))
 
-sure-reset : (b : Bool) (m : Memory) → Sure (cond {A = Outcome} b (record { answer = gives 0; after = emptied m }) (record { answer = refuses DESK 0; after = m }) .answer)
+sure-reset : (b : Bool) (m : Memory) → Sure (cond {A = Outcome} b (record { answer = gives 0; after = emptied m }) (record { answer = refuses DESK; after = m }) .answer)
 sure-reset true m = sure-gives 0
-sure-reset false m = sure-number DESK 0 refl
+sure-reset false m = sure-refuses DESK refl
 
 pub sure-resets : (m : Memory) → Sure (resets m .answer)
 unfolding resets
-sure-resets m = sure-reset (sixteenSeats m) m
+sure-resets m = sure-reset (allSeats m) m

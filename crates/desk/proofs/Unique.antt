@@ -1,9 +1,11 @@
 -- No second outcome meets the promise of an opening, of a reply or of a capture. Assumes nothing.
 use Prim.Native.Nat.{ℕ}
 use mathlib.Core.List.{List}
-use mathlib.Core.Bool.{cond}
+use mathlib.Core.Bool.{Bool, cond}
 use mathlib.Core.Path.{_≡_, refl, sym, ap, _∙_}
 use lib.Dec.{eqb}
+use Rattle.digits.specs.declared.refusal.Refusal.{Refusal}
+use Rattle.digits.specs.Refusals.{DESK, NO-ANSWER-DUE, IN-USE, NO-SEAT, STRAY, ENDED, OUT-OF-PLACE, FULL}
 use Rattle.digits.specs.Told.{Told, gives, refuses}
 use Rattle.frames.specs.declared.refusals.ReadRefusal.the-variants.{Kind, Length, End, Address, Field}
 use Rattle.frames.proofs.RefusalLaws.{readBack}
@@ -21,16 +23,19 @@ use Rattle.desk.specs.declared.capture.CaptureAnswer.the-variants.{Taken
 use Rattle.desk.specs.declared.capture.CaptureDone.{CaptureDone}
 use Rattle.desk.specs.Memory.{Memory, memory}
 use Rattle.desk.specs.Capture.{captureTold, TookCapture}
-use Rattle.desk.specs.Calls.{DESK, NO-ANSWER-DUE, IN-USE, STRAY, ENDED, OUT-OF-PLACE, FULL, openTold, replyTold, OpenDid, ReplyDid}
+use Rattle.desk.specs.Calls.{openTold, replyTold, OpenDid, ReplyDid}
 use Rattle.desk.specs.Unique.{OneOutcome}
 
 -- ---- what was told leads back to the answer: each refusal has a number and an offset of its own
 
+abbrev sameNumber : Refusal → Refusal → Bool
+sameNumber f g = eqb (f .number) (g .number)
+
 abbrev openBack : Told ℕ → OpenAnswer
 openBack (gives s) = Opened s
-openBack (refuses number offset) =
-    not-opened (cond (eqb number DESK) open-no-desk (cond (eqb number NO-ANSWER-DUE) NoAnswerDue (cond (eqb number IN-USE) InUse
-    (cond (eqb number 12) NoSeat (open-frame (readBack number offset))))))
+openBack (refuses f) =
+    not-opened (cond (sameNumber f DESK) open-no-desk (cond (sameNumber f NO-ANSWER-DUE) NoAnswerDue (cond (sameNumber f IN-USE) InUse
+    (cond (sameNumber f NO-SEAT) NoSeat (open-frame (readBack f))))))
 
 open-back : (a : OpenAnswer) → openBack (openTold a) ≡ a
 open-back (Opened s) = refl
@@ -46,9 +51,9 @@ open-back (not-opened NoSeat) = refl
 
 abbrev replyBack : Told ℕ → ReplyAnswer
 replyBack (gives s) = Taken s
-replyBack (refuses number offset) =
-    Refused (cond (eqb number DESK) no-desk (cond (eqb number STRAY) Stray (cond (eqb number ENDED) Ended
-    (cond (eqb number OUT-OF-PLACE) OutOfPlace (cond (eqb number FULL) Full (Frame (readBack number offset)))))))
+replyBack (refuses f) =
+    Refused (cond (sameNumber f DESK) no-desk (cond (sameNumber f STRAY) Stray (cond (sameNumber f ENDED) Ended
+    (cond (sameNumber f OUT-OF-PLACE) OutOfPlace (cond (sameNumber f FULL) Full (Frame (readBack f)))))))
 
 reply-back : (a : ReplyAnswer) → replyBack (replyTold a) ≡ a
 reply-back (Taken s) = refl
@@ -65,7 +70,7 @@ reply-back (Refused Full) = refl
 
 abbrev captureBack : Told Counts → CaptureAnswer
 captureBack (gives c) = All c
-captureBack (refuses number offset) = NoDesk
+captureBack (refuses f) = NoDesk
 
 capture-back : (a : CaptureAnswer) → captureBack (captureTold a) ≡ a
 capture-back (All c) = refl

@@ -5,16 +5,18 @@ use mathlib.Core.Bool.{Bool, cond, not, _&&_}
 use mathlib.Core.Path.{_≡_}
 use lib.ListN.{length, take, drop, set, replicate}
 use lib.Dec.{eqb, leb, ltb}
+use Rattle.digits.specs.declared.refusal.Refusal.{Refusal}
+use Rattle.digits.specs.Refusals.{DESK, NO-ANSWER-DUE, IN-USE, NO-SEAT, STRAY, ENDED, OUT-OF-PLACE, FULL}
 use Rattle.digits.specs.Told.{Told, gives, refuses, tried}
 use Rattle.frames.specs.Kind.{read}
 use Rattle.frames.specs.Request.{request}
 use Rattle.frames.specs.Refusals.{readRefused}
 use Rattle.frames.specs.declared.request.StaticRequest.{StaticRequest}
+use Rattle.frames.specs.declared.reply.ReplyLabel.{ReplyLabel}
 use Rattle.desk.specs.declared.state.Seat.{Seat}
 use Rattle.desk.specs.declared.state.Desk.{Desk}
 use Rattle.desk.specs.declared.state.Emptied.{Emptied}
-use Rattle.desk.specs.declared.call.Key.{Key}
-use Rattle.desk.specs.declared.call.Call.{Call}
+use Rattle.desk.specs.declared.key.Key.{Key}
 use Rattle.desk.specs.declared.held.Held.{Held}
 use Rattle.desk.specs.declared.held.Held.the-variants.{Cell, Nothing}
 use Rattle.desk.specs.declared.opening.Opening.{Opening}
@@ -31,45 +33,11 @@ use Rattle.desk.specs.declared.reply.ReplyDone.{ReplyDone}
 use Rattle.desk.specs.declared.reply.ReplyAnswer.the-variants.{Taken, Refused}
 use Rattle.desk.specs.Limits.{seatCount, cellSize}
 use Rattle.desk.specs.Below.{first, countBelow}
-use Rattle.desk.specs.Key.{requestKey}
-use Rattle.desk.specs.Call.{heard, inPlace, endedBy}
+use Rattle.desk.specs.Key.{requestKey, keyIn}
+use Rattle.desk.specs.Hearing.{heard, inPlace, endedBy}
 use Rattle.desk.specs.Seats.{zeroSeat, seatAt, usedBit, seatWith, lowestClear}
 use Rattle.desk.specs.Memory.{Memory, memory, capacity, capacityOf, markAt}
-use Rattle.desk.specs.Desk.{isDesk, sixteenSeats}
-
--- ---- refusals, by number
-
--- state and memory do not make a desk
-abbrev pub DESK : ℕ
-DESK = 9
-
--- an opening with information q
-abbrev pub NO-ANSWER-DUE : ℕ
-NO-ANSWER-DUE = 10
-
--- the key is already at a seat, ended or not
-abbrev pub IN-USE : ℕ
-IN-USE = 11
-
--- all seats are in use
-abbrev pub NO-SEAT : ℕ
-NO-SEAT = 12
-
--- no seat has the reply's key
-abbrev pub STRAY : ℕ
-STRAY = 13
-
--- that seat had its E or Z
-abbrev pub ENDED : ℕ
-ENDED = 14
-
--- a Z at a seat that holds records
-abbrev pub OUT-OF-PLACE : ℕ
-OUT-OF-PLACE = 15
-
--- no free cell
-abbrev pub FULL : ℕ
-FULL = 16
+use Rattle.desk.specs.Desk.{isDesk, allSeats}
 
 -- ---- what a call does
 
@@ -82,7 +50,7 @@ module _ {A B : Type 0} where
   -- a refusal stands, and what was given is tried further
   abbrev pub whatIsGiven : Told A → (A → Told B) → Told B
   whatIsGiven (gives a) further = further a
-  whatIsGiven (refuses number offset) further = refuses number offset
+  whatIsGiven (refuses f) further = refuses f
 
 -- ---- an opening
 
@@ -92,29 +60,26 @@ letterQ = 113
 
 unfoldable pub keyTried : List Seat → ℕ → Key → Told Opening
 keyTried row bits k =
-    tried (leb seatCount (seatWith row bits k)) IN-USE 0
-    (tried (ltb (lowestClear bits) seatCount) NO-SEAT 0
+    tried (leb seatCount (seatWith row bits k)) IN-USE
+    (tried (ltb (lowestClear bits) seatCount) NO-SEAT
     (gives (record { seat = lowestClear bits; key = k })))
 
 unfoldable pub requestTried : List Seat → ℕ → StaticRequest → Told Opening
-requestTried row bits r = tried (not (eqb (r .information) letterQ)) NO-ANSWER-DUE 0 (keyTried row bits (requestKey r))
+requestTried row bits r = tried (not (eqb (r .information) letterQ)) NO-ANSWER-DUE (keyTried row bits (requestKey r))
 
 unfoldable pub openTried : Memory → List ℕ → Told Opening
-openTried m f = tried (isDesk m) DESK 0 (whatIsGiven (read request f) (requestTried (m .row) (m .bits)))
+openTried m f = tried (isDesk m) DESK (whatIsGiven (read request f) (requestTried (m .row) (m .bits)))
 
 abbrev pub newSeat : Key → Seat
 newSeat k = record { requester = k .requester; number = k .number; held = 0; ended = 0 }
 
-abbrev pub openedRow : List Seat → Opening → List Seat
-openedRow row o = set row (o .seat) (newSeat (o .key))
-
 -- the seat gets the key, and its bit is set; all else stays
 abbrev pub opened : Memory → Opening → Memory
-opened m o = record { row = openedRow (m .row) o; bits = m .bits + 2 ^ (o .seat); count = m .count; cells = m .cells; marks = m .marks }
+opened m o = record { row = set (m .row) (o .seat) (newSeat (o .key)); bits = m .bits + 2 ^ (o .seat); count = m .count; cells = m .cells; marks = m .marks }
 
 abbrev pub openOutcome : Memory → Told Opening → Outcome
 openOutcome m (gives o) = record { answer = gives (o .seat); after = opened m o }
-openOutcome m (refuses number offset) = record { answer = refuses number offset; after = m }
+openOutcome m (refuses f) = record { answer = refuses f; after = m }
 
 unfoldable pub opens : Memory → List ℕ → Outcome
 opens m f = openOutcome m (openTried m f)
@@ -127,18 +92,18 @@ over s = not (eqb (s .ended) 0)
 
 unfoldable pub seatTried : Seat → Bool → Taking → Told Taking
 seatTried s free t =
-    tried (not (over s)) ENDED 0
-    (tried (inPlace (s .held) (t .status)) OUT-OF-PLACE 0
-    (tried free FULL 0
+    tried (not (over s)) ENDED
+    (tried (inPlace (s .held) (t .status)) OUT-OF-PLACE
+    (tried free FULL
     (gives t)))
 
-unfoldable pub callTried : List Seat → ℕ → Bool → Call → Told Taking
-callTried row bits free c =
-    tried (ltb (seatWith row bits (c .key)) seatCount) STRAY 0
-    (seatTried (seatAt row (seatWith row bits (c .key))) free (record { seat = seatWith row bits (c .key); status = c .status }))
+unfoldable pub labelTried : List Seat → ℕ → Bool → ReplyLabel → Told Taking
+labelTried row bits free l =
+    tried (ltb (seatWith row bits (keyIn l)) seatCount) STRAY
+    (seatTried (seatAt row (seatWith row bits (keyIn l))) free (record { seat = seatWith row bits (keyIn l); status = l .status }))
 
 unfoldable pub replyTried : Memory → List ℕ → Told Taking
-replyTried m f = tried (isDesk m) DESK 0 (whatIsGiven (heard f) (callTried (m .row) (m .bits) (ltb (m .count) (capacity m))))
+replyTried m f = tried (isDesk m) DESK (whatIsGiven (heard f) (labelTried (m .row) (m .bits) (ltb (m .count) (capacity m))))
 
 -- a seat with one record more
 abbrev pub grown : Seat → ℕ → Seat
@@ -148,17 +113,20 @@ grown s status = record { requester = s .requester; number = s .number; held = s
 abbrev pub withCell : List ℕ → ℕ → List ℕ → List ℕ
 withCell cells at f = take at cells ++ f ++ drop (at + cellSize) cells
 
-abbrev pub grownRow : List Seat → Taking → List Seat
-grownRow row t = set row (t .seat) (grown (seatAt row (t .seat)) (t .status))
-
 -- the frame goes to the next cell and its seat to the mark beside it; the seat has one record more; all else stays
 abbrev pub taken : Memory → List ℕ → Taking → Memory
 taken m f t =
-    record { row = grownRow (m .row) t; bits = m .bits; count = m .count + 1; cells = withCell (m .cells) (m .count * cellSize) f; marks = set (m .marks) (m .count) (t .seat) }
+    record {
+      row = set (m .row) (t .seat) (grown (seatAt (m .row) (t .seat)) (t .status));
+      bits = m .bits;
+      count = m .count + 1;
+      cells = withCell (m .cells) (m .count * cellSize) f;
+      marks = set (m .marks) (m .count) (t .seat);
+    }
 
 abbrev pub replyOutcome : Memory → List ℕ → Told Taking → Outcome
 replyOutcome m f (gives t) = record { answer = gives (t .seat); after = taken m f t }
-replyOutcome m f (refuses number offset) = record { answer = refuses number offset; after = m }
+replyOutcome m f (refuses why) = record { answer = refuses why; after = m }
 
 unfoldable pub replies : Memory → List ℕ → Outcome
 replies m f = replyOutcome m f (replyTried m f)
@@ -178,9 +146,9 @@ emptyDesk = record { desk = emptyState; row = emptyRow }
 abbrev pub emptied : Memory → Memory
 emptied m = memory emptyState emptyRow (m .cells) (m .marks)
 
--- refused only if the row is not of sixteen seats; it looks at nothing else
+-- refused only if the row is not of as many seats; it looks at nothing else
 unfoldable pub resets : Memory → Outcome
-resets m = cond (sixteenSeats m) (record { answer = gives 0; after = emptied m }) (record { answer = refuses DESK 0; after = m })
+resets m = cond (allSeats m) (record { answer = gives 0; after = emptied m }) (record { answer = refuses DESK; after = m })
 
 -- the ones of a number of 64 bits
 unfoldable pub seatsInUse : ℕ → ℕ
@@ -205,29 +173,28 @@ nextHeld count cells marks seat from =
 
 -- ---- what the answers of the code say on paper
 
-module _ {A : Type 0} where
-  abbrev pub openRefused : OpenRefusal → Told A
-  openRefused open-no-desk = refuses DESK 0
-  openRefused (open-frame f) = readRefused f
-  openRefused NoAnswerDue = refuses NO-ANSWER-DUE 0
-  openRefused InUse = refuses IN-USE 0
-  openRefused NoSeat = refuses NO-SEAT 0
+abbrev pub openRefused : OpenRefusal → Refusal
+openRefused open-no-desk = DESK
+openRefused (open-frame f) = readRefused f
+openRefused NoAnswerDue = NO-ANSWER-DUE
+openRefused InUse = IN-USE
+openRefused NoSeat = NO-SEAT
 
-  abbrev pub replyRefused : ReplyRefusal → Told A
-  replyRefused no-desk = refuses DESK 0
-  replyRefused (Frame f) = readRefused f
-  replyRefused Stray = refuses STRAY 0
-  replyRefused Ended = refuses ENDED 0
-  replyRefused OutOfPlace = refuses OUT-OF-PLACE 0
-  replyRefused Full = refuses FULL 0
+abbrev pub replyRefused : ReplyRefusal → Refusal
+replyRefused no-desk = DESK
+replyRefused (Frame f) = readRefused f
+replyRefused Stray = STRAY
+replyRefused Ended = ENDED
+replyRefused OutOfPlace = OUT-OF-PLACE
+replyRefused Full = FULL
 
 abbrev pub openTold : OpenAnswer → Told ℕ
 openTold (Opened s) = gives s
-openTold (not-opened f) = openRefused f
+openTold (not-opened f) = refuses (openRefused f)
 
 abbrev pub replyTold : ReplyAnswer → Told ℕ
 replyTold (Taken s) = gives s
-replyTold (Refused f) = replyRefused f
+replyTold (Refused f) = refuses (replyRefused f)
 
 -- what is promised of a call: its answer and all of the memory are the outcome's
 pub record Did (told : Told ℕ) (after : Memory) (o : Outcome) : Type 0 where

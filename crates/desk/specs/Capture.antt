@@ -5,6 +5,7 @@ use mathlib.Core.Bool.{Bool, true, false, cond}
 use mathlib.Core.Path.{_≡_}
 use lib.ListN.{getD}
 use lib.Dec.{eqb}
+use Rattle.digits.specs.Refusals.{DESK}
 use Rattle.digits.specs.Told.{Told, gives, refuses, tried}
 use Rattle.frames.specs.Kind.{read}
 use Rattle.frames.specs.Request.{request}
@@ -21,17 +22,17 @@ use Rattle.desk.specs.declared.capture.CaptureAnswer.{CaptureAnswer}
 use Rattle.desk.specs.declared.capture.CaptureAnswer.the-variants.{Taken, NoDesk}
 use Rattle.desk.specs.Memory.{Memory, memory}
 use Rattle.desk.specs.Desk.{isDesk}
-use Rattle.desk.specs.Calls.{DESK, opens, replies}
+use Rattle.desk.specs.Calls.{opens, replies}
 
 -- ---- one frame
 
 abbrev pub fateBy : Fate → Told ℕ → Fate
 fateBy good (gives s) = good
-fateBy good (refuses number offset) = Refused
+fateBy good (refuses f) = Refused
 
 abbrev pub dynamicFate : Told DynamicRequest → Fate
 dynamicFate (gives r) = Dynamic
-dynamicFate (refuses number offset) = Refused
+dynamicFate (refuses f) = Refused
 
 pub record Step : Type 0 where
   pub fate : Fate
@@ -104,7 +105,7 @@ countsOf l = record { opened = howMany isOpened l; collected = howMany isCollect
 
 abbrev pub captureTold : CaptureAnswer → Told Counts
 captureTold (Taken c) = gives c
-captureTold NoDesk = refuses DESK 0
+captureTold NoDesk = refuses DESK
 
 -- the counts or the refusal, and the memory after the call
 pub record Captured : Type 0 where
@@ -113,7 +114,7 @@ pub record Captured : Type 0 where
 
 abbrev pub captures : Memory → List ℕ → Captured
 captures m s =
-    record { answer = tried (isDesk m) DESK 0 (gives (countsOf (fates m (pieces s)))); after = cond (isDesk m) (afterAll m (pieces s)) m }
+    record { answer = tried (isDesk m) DESK (gives (countsOf (fates m (pieces s)))); after = cond (isDesk m) (afterAll m (pieces s)) m }
 
 -- what is promised of a capture s: the counts, and all of the memory
 pub record TookCapture (m : Memory) (s : List ℕ) (answer : CaptureAnswer) (after : Memory) : Type 0 where

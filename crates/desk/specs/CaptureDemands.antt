@@ -49,7 +49,7 @@ CaptureSorts =
 
 abbrev pub isGiven : Told DynamicRequest → Bool
 isGiven (gives r) = true
-isGiven (refuses number offset) = false
+isGiven (refuses f) = false
 
 -- the whole frames that the reader of dynamic requests takes
 unfoldable pub dynamicIn : List Piece → ℕ

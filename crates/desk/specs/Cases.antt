@@ -5,6 +5,7 @@ use mathlib.Core.List.{List, [], _∷_, _++_}
 use mathlib.Core.Path.{_≡_}
 use lib.ListN.{replicate}
 use Rattle.digits.specs.Text.{codes}
+use Rattle.digits.specs.Refusals.{plain, placed}
 use Rattle.digits.specs.Told.{Told, gives, refuses}
 use Rattle.desk.specs.Memory.{Memory, capacityOf, heldBy}
 use Rattle.desk.specs.Calls.{opens, replies, emptied, seatsInUse}
@@ -45,29 +46,29 @@ abbrev pub crowded : String → Memory
 crowded status = replies (replies asked (replying "R") .after) (replying status) .after
 
 pub record Worked : Type 0 where
-  pub no-desk-opens : opens (lending 102 2) (asking "1" "P") .answer ≡ refuses 9 0
-  pub no-desk-replies : replies (lending 102 2) (replying "R") .answer ≡ refuses 9 0
-  pub no-answer-due : opens bare (asking "1" "q") .answer ≡ refuses 10 0
+  pub no-desk-opens : opens (lending 102 2) (asking "1" "P") .answer ≡ refuses (plain 9)
+  pub no-desk-replies : replies (lending 102 2) (replying "R") .answer ≡ refuses (plain 9)
+  pub no-answer-due : opens bare (asking "1" "q") .answer ≡ refuses (plain 10)
   pub opened : opens bare (asking "1" "P") .answer ≡ gives 0
-  pub in-use : opens asked (asking "1" "P") .answer ≡ refuses 11 0
+  pub in-use : opens asked (asking "1" "P") .answer ≡ refuses (plain 11)
   pub next-seat : opens asked (asking "A" "P") .answer ≡ gives 1
-  pub no-seat : opens (run bare (openings sixteen)) (asking "B" "P") .answer ≡ refuses 12 0
-  pub stray : replies bare (replying "R") .answer ≡ refuses 13 0
+  pub no-seat : opens (run bare (openings sixteen)) (asking "B" "P") .answer ≡ refuses (plain 12)
+  pub stray : replies bare (replying "R") .answer ≡ refuses (plain 13)
   pub taken : replies asked (replying "R") .answer ≡ gives 0
-  pub ended : replies (replies asked (replying "E") .after) (replying "R") .answer ≡ refuses 14 0
-  pub ended-by-Z : replies (replies asked (replying "Z") .after) (replying "R") .answer ≡ refuses 14 0
-  pub out-of-place : replies (replies asked (replying "R") .after) (replying "Z") .answer ≡ refuses 15 0
-  pub full : replies (crowded "R") (replying "R") .answer ≡ refuses 16 0
+  pub ended : replies (replies asked (replying "E") .after) (replying "R") .answer ≡ refuses (plain 14)
+  pub ended-by-Z : replies (replies asked (replying "Z") .after) (replying "R") .answer ≡ refuses (plain 14)
+  pub out-of-place : replies (replies asked (replying "R") .after) (replying "Z") .answer ≡ refuses (plain 15)
+  pub full : replies (crowded "R") (replying "R") .answer ≡ refuses (plain 16)
   -- of two faults the one that is tried first is told
-  pub desk-before-frame : opens (lending 102 2) [] .answer ≡ refuses 9 0
-  pub frame-before-q : opens bare (asking "[" "q") .answer ≡ refuses 5 3
-  pub q-before-in-use : opens asked (asking "1" "q") .answer ≡ refuses 10 0
-  pub in-use-before-no-seat : opens (run bare (openings sixteen)) (asking "1" "P") .answer ≡ refuses 11 0
-  pub desk-before-reply : replies (lending 102 2) [] .answer ≡ refuses 9 0
-  pub stray-before-full : replies (crowded "R") (replyTo "R" "B" "00007" "00015") .answer ≡ refuses 13 0
-  pub ended-before-out-of-place : replies (crowded "E") (replying "Z") .answer ≡ refuses 14 0
-  pub ended-before-full : replies (crowded "E") (replying "R") .answer ≡ refuses 14 0
-  pub out-of-place-before-full : replies (crowded "R") (replying "Z") .answer ≡ refuses 15 0
+  pub desk-before-frame : opens (lending 102 2) [] .answer ≡ refuses (plain 9)
+  pub frame-before-q : opens bare (asking "[" "q") .answer ≡ refuses (placed 5 3)
+  pub q-before-in-use : opens asked (asking "1" "q") .answer ≡ refuses (plain 10)
+  pub in-use-before-no-seat : opens (run bare (openings sixteen)) (asking "1" "P") .answer ≡ refuses (plain 11)
+  pub desk-before-reply : replies (lending 102 2) [] .answer ≡ refuses (plain 9)
+  pub stray-before-full : replies (crowded "R") (replyTo "R" "B" "00007" "00015") .answer ≡ refuses (plain 13)
+  pub ended-before-out-of-place : replies (crowded "E") (replying "Z") .answer ≡ refuses (plain 14)
+  pub ended-before-full : replies (crowded "E") (replying "R") .answer ≡ refuses (plain 14)
+  pub out-of-place-before-full : replies (crowded "R") (replying "Z") .answer ≡ refuses (plain 15)
   -- how many cells a desk has: 51 bytes and a mark each, 256 at most
   pub cells-256 : capacityOf 13056 256 ≡ 256
   pub no-more-cells : capacityOf 26112 512 ≡ 256
@@ -110,7 +111,7 @@ answersOf m (e ∷ es) = happens m e .answer ∷ answersOf (happens m e .after) 
 
 pub record MixWorked : Type 0 where
   pub answers : answersOf three mixed
-      ≡ gives 1 ∷ gives 0 ∷ refuses 13 0 ∷ refuses 13 0 ∷ refuses 5 12 ∷ gives 2 ∷ refuses 15 0 ∷ gives 0 ∷ refuses 14 0 ∷ refuses 14 0 ∷ gives 1 ∷ gives 1 ∷ []
+      ≡ gives 1 ∷ gives 0 ∷ refuses (plain 13) ∷ refuses (plain 13) ∷ refuses (placed 5 12) ∷ gives 2 ∷ refuses (plain 15) ∷ gives 0 ∷ refuses (plain 14) ∷ refuses (plain 14) ∷ gives 1 ∷ gives 1 ∷ []
   pub marks : run three mixed .marks ≡ 1 ∷ 0 ∷ 2 ∷ 0 ∷ 1 ∷ 1 ∷ 0 ∷ 0 ∷ 0 ∷ []
   pub count : run three mixed .count ≡ 6
   pub bits : run three mixed .bits ≡ 7

@@ -4,11 +4,12 @@ use mathlib.Core.List.{List}
 use mathlib.Core.Bool.{Bool, true, cond, not, _&&_}
 use lib.ListN.{length}
 use lib.Dec.{eqb, leb, ltb}
+use Rattle.frames.specs.Timing.{isZ}
 use Rattle.desk.specs.declared.state.Seat.{Seat}
 use Rattle.desk.specs.Limits.{seatCount}
 use Rattle.desk.specs.Below.{allBelow, countBelow}
 use Rattle.desk.specs.Key.{seatKey, isKey}
-use Rattle.desk.specs.Call.{heard, hasKey, isZ, statusIn, endedIn}
+use Rattle.desk.specs.Hearing.{heard, hasKey, statusIn, endedIn}
 use Rattle.desk.specs.Seats.{seatAt, usedBit, keyedAt}
 use Rattle.desk.specs.Memory.{Memory, capacity, cellAt, markAt}
 
@@ -69,8 +70,8 @@ abbrev pub endedRight : List Seat → ℕ → ℕ → List ℕ → List ℕ → 
 endedRight row bits count cells marks s = cond (usedBit bits s) (eqb (seatAt row s .ended) (lastEnds cells marks s count)) true
 
 module _ (m : Memory) where
-  abbrev pub sixteenSeats : Bool
-  sixteenSeats = eqb (length (m .row)) seatCount
+  abbrev pub allSeats : Bool
+  allSeats = eqb (length (m .row)) seatCount
 
   abbrev pub noBitAbove : Bool
   noBitAbove = ltb (m .bits) (2 ^ seatCount)
@@ -104,7 +105,7 @@ module _ (m : Memory) where
 
   unfoldable pub isDesk : Bool
   isDesk =
-      sixteenSeats
+      allSeats
       && noBitAbove
       && keysLegal
       && noKeyShared

@@ -3,6 +3,7 @@ use Prim.Native.Nat.{ℕ, _+_, _*_, _<_, _≤_}
 use mathlib.Core.List.{List}
 use mathlib.Core.Path.{_≡_}
 use lib.ListN.{length, getD}
+use Rattle.digits.specs.declared.refusal.Refusal.{Refusal}
 use Rattle.digits.specs.Told.{gives, refuses}
 use Rattle.desk.specs.Limits.{cellSize}
 use Rattle.desk.specs.Seats.{seatAt, usedBit}
@@ -12,10 +13,10 @@ use Rattle.desk.specs.Capture.{captures}
 
 -- a call turned away hands all back as it came
 pub record RefusedKeeps : Type 0 where
-  pub reset : (m : Memory) (number offset : ℕ) → resets m .answer ≡ refuses number offset → resets m .after ≡ m
-  pub opening : (m : Memory) (f : List ℕ) (number offset : ℕ) → opens m f .answer ≡ refuses number offset → opens m f .after ≡ m
-  pub reply : (m : Memory) (f : List ℕ) (number offset : ℕ) → replies m f .answer ≡ refuses number offset → replies m f .after ≡ m
-  pub capture : (m : Memory) (s : List ℕ) (number offset : ℕ) → captures m s .answer ≡ refuses number offset → captures m s .after ≡ m
+  pub reset : (m : Memory) (why : Refusal) → resets m .answer ≡ refuses why → resets m .after ≡ m
+  pub opening : (m : Memory) (f : List ℕ) (why : Refusal) → opens m f .answer ≡ refuses why → opens m f .after ≡ m
+  pub reply : (m : Memory) (f : List ℕ) (why : Refusal) → replies m f .answer ≡ refuses why → replies m f .after ≡ m
+  pub capture : (m : Memory) (s : List ℕ) (why : Refusal) → captures m s .answer ≡ refuses why → captures m s .after ≡ m
 
 -- another seat than the one that a call took: its record, whether it is in use, and what it holds
 pub record SameSeat (m after : Memory) (i : ℕ) : Type 0 where

@@ -3,16 +3,16 @@ use mathlib.Core.Bool.{Bool, _&&_}
 use lib.Dec.{eqb, leb}
 use Rattle.frames.specs.Rules.{isRequester}
 use Rattle.frames.specs.declared.request.StaticRequest.{StaticRequest}
-use Rattle.frames.specs.declared.reply.StaticReply.{StaticReply}
+use Rattle.frames.specs.declared.reply.ReplyLabel.{ReplyLabel}
 use Rattle.desk.specs.declared.state.Seat.{Seat}
-use Rattle.desk.specs.declared.call.Key.{Key}
+use Rattle.desk.specs.declared.key.Key.{Key}
 
 abbrev pub requestKey : StaticRequest → Key
 requestKey r = record { requester = r .requester; number = r .number }
 
 -- a reply's number is compared whole: 00007 is a request's 007, and no request has one above 00999
-abbrev pub replyKey : StaticReply → Key
-replyKey r = record { requester = r .requester; number = r .number }
+abbrev pub keyIn : ReplyLabel → Key
+keyIn l = record { requester = l .requester; number = l .number }
 
 abbrev pub seatKey : Seat → Key
 seatKey s = record { requester = s .requester; number = s .number }

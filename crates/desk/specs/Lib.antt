@@ -1,7 +1,7 @@
 pub mod Limits
 pub mod Below
 pub mod Key
-pub mod Call
+pub mod Hearing
 pub mod Seats
 pub mod Memory
 pub mod Desk
@@ -15,4 +15,4 @@ pub mod ReadBack
 pub mod Unique
 pub mod Cases
 pub mod DeskCases
-pub mod Inside
+pub mod inside

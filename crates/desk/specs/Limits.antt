@@ -1,5 +1,5 @@
--- How many seats a desk has, how many cells it uses at most, and how long a cell is.
-use Prim.Native.Nat.{ℕ}
+-- How many seats a desk has, how many cells it uses at most, how long a cell is, and how long all of them are.
+use Prim.Native.Nat.{ℕ, _*_}
 
 abbrev pub seatCount : ℕ
 seatCount = 16
@@ -7,5 +7,9 @@ seatCount = 16
 abbrev pub mostCells : ℕ
 mostCells = 256
 
+-- a reply fills a cell
 abbrev pub cellSize : ℕ
 cellSize = 51
+
+abbrev pub storeSize : ℕ
+storeSize = mostCells * cellSize

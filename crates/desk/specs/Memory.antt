@@ -18,7 +18,7 @@ pub record Memory : Type 0 where
 abbrev pub memory : Desk → List Seat → List ℕ → List ℕ → Memory
 memory d row cells marks = record { row = row; bits = d .bits; count = d .count; cells = cells; marks = marks }
 
--- the least of 256, whole cells and marks
+-- the least of all cells that a desk can use, whole cells and marks
 unfoldable pub capacityOf : ℕ → ℕ → ℕ
 capacityOf cells marks = min mostCells (min (cells / cellSize) marks)
 

@@ -10,10 +10,11 @@ use Rattle.frames.specs.Kind.{read}
 use Rattle.frames.specs.Request.{request}
 use Rattle.frames.specs.Reply.{reply}
 use Rattle.frames.specs.declared.request.StaticRequest.{StaticRequest}
-use Rattle.desk.specs.declared.call.Key.{Key}
-use Rattle.desk.specs.declared.call.Call.{Call}
+use Rattle.frames.specs.declared.reply.ReplyLabel.{ReplyLabel}
+use Rattle.desk.specs.declared.key.Key.{Key}
 use Rattle.desk.specs.Limits.{seatCount}
-use Rattle.desk.specs.Call.{heard}
+use Rattle.desk.specs.Key.{keyIn}
+use Rattle.desk.specs.Hearing.{heard}
 use Rattle.desk.specs.Rule.{Frame, isTo, kept, said}
 use Rattle.desk.specs.Seats.{seatAt, usedBit, seatWith}
 use Rattle.desk.specs.Memory.{Memory, capacity, heldBy}
@@ -76,9 +77,9 @@ answersTo k m (e ∷ es) =
     cond (addressed k e) (happens m e .answer ∷ answersTo k (happens m e .after) es) (answersTo k (happens m e .after) es)
 
 -- a well formed reply with the key of an open request
-abbrev pub seated : Memory → Told Call → Bool
-seated m (gives c) = ltb (seatWith (m .row) (m .bits) (c .key)) seatCount
-seated m (refuses number offset) = false
+abbrev pub seated : Memory → Told ReplyLabel → Bool
+seated m (gives l) = ltb (seatWith (m .row) (m .bits) (keyIn l)) seatCount
+seated m (refuses f) = false
 
 abbrev pub expected : Memory → Event → Bool
 expected m (toOpen f) = false

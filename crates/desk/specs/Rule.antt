@@ -4,11 +4,12 @@ use Prim.Native.Nat.{ℕ}
 use mathlib.Core.List.{List, [], _∷_}
 use mathlib.Core.Bool.{Bool, true, false, cond, _&&_}
 use lib.Dec.{eqb}
+use Rattle.digits.specs.Refusals.{plain}
 use Rattle.digits.specs.Told.{Told, gives, refuses}
 use Rattle.frames.specs.Kind.{read}
 use Rattle.frames.specs.Reply.{reply}
 use Rattle.frames.specs.declared.reply.StaticReply.{StaticReply}
-use Rattle.desk.specs.declared.call.Key.{Key}
+use Rattle.desk.specs.declared.key.Key.{Key}
 
 abbrev pub Frame : Type 0
 Frame = List ℕ
@@ -17,34 +18,34 @@ Frame = List ℕ
 
 abbrev pub isTo : Key → Told StaticReply → Bool
 isTo k (gives r) = eqb (k .requester) (r .requester) && eqb (k .number) (r .number)
-isTo k (refuses number offset) = false
+isTo k (refuses f) = false
 
 -- ---- its status: R, E or Z
 
 abbrev pub letterIn : Told StaticReply → ℕ
 letterIn (gives r) = r .status
-letterIn (refuses number offset) = 0
+letterIn (refuses f) = 0
 
-abbrev pub isE : Frame → Bool
-isE f = eqb (letterIn (read reply f)) 69
+abbrev pub hasStatusE : Frame → Bool
+hasStatusE f = eqb (letterIn (read reply f)) 69
 
-abbrev pub isZ : Frame → Bool
-isZ f = eqb (letterIn (read reply f)) 90
+abbrev pub hasStatusZ : Frame → Bool
+hasStatusZ f = eqb (letterIn (read reply f)) 90
 
 -- ---- what the request keeps of its frames
 
 abbrev pub withoutZ : List Frame → List Frame
 withoutZ [] = []
-withoutZ (f ∷ fs) = cond (isZ f) (withoutZ fs) (f ∷ withoutZ fs)
+withoutZ (f ∷ fs) = cond (hasStatusZ f) (withoutZ fs) (f ∷ withoutZ fs)
 
 abbrev pub upToE : List Frame → List Frame
 upToE [] = []
-upToE (f ∷ fs) = f ∷ cond (isE f) [] (upToE fs)
+upToE (f ∷ fs) = f ∷ cond (hasStatusE f) [] (upToE fs)
 
 -- a first Z alone; otherwise all up to the first E, without the Zs
 abbrev pub keptFirst : List Frame → List Frame
 keptFirst [] = []
-keptFirst (f ∷ fs) = cond (isZ f) (f ∷ []) (upToE (withoutZ (f ∷ fs)))
+keptFirst (f ∷ fs) = cond (hasStatusZ f) (f ∷ []) (upToE (withoutZ (f ∷ fs)))
 
 -- `any` says that it holds records already, `ended` that it had its ending one
 abbrev pub kept : Bool → Bool → List Frame → List Frame
@@ -57,17 +58,17 @@ kept false false fs = keptFirst fs
 -- after the ending one each is ENDED, which is 14
 abbrev pub saidEnded : List Frame → List (Told ℕ)
 saidEnded [] = []
-saidEnded (f ∷ fs) = refuses 14 0 ∷ saidEnded fs
+saidEnded (f ∷ fs) = refuses (plain 14) ∷ saidEnded fs
 
 -- among records a Z is OUT OF PLACE, which is 15; any other is taken
 abbrev pub saidAmong : ℕ → List Frame → List (Told ℕ)
 saidAmong s [] = []
-saidAmong s (f ∷ fs) = cond (isZ f) (refuses 15 0 ∷ saidAmong s fs) (gives s ∷ cond (isE f) (saidEnded fs) (saidAmong s fs))
+saidAmong s (f ∷ fs) = cond (hasStatusZ f) (refuses (plain 15) ∷ saidAmong s fs) (gives s ∷ cond (hasStatusE f) (saidEnded fs) (saidAmong s fs))
 
 -- a first Z is taken, and ends
 abbrev pub saidFirst : ℕ → List Frame → List (Told ℕ)
 saidFirst s [] = []
-saidFirst s (f ∷ fs) = cond (isZ f) (gives s ∷ saidEnded fs) (saidAmong s (f ∷ fs))
+saidFirst s (f ∷ fs) = cond (hasStatusZ f) (gives s ∷ saidEnded fs) (saidAmong s (f ∷ fs))
 
 abbrev pub said : ℕ → Bool → Bool → List Frame → List (Told ℕ)
 said s any true fs = saidEnded fs

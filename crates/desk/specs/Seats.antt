@@ -5,7 +5,7 @@ use mathlib.Core.Bool.{Bool, not, _&&_}
 use lib.ListN.{getD}
 use lib.Dec.{eqb}
 use Rattle.desk.specs.declared.state.Seat.{Seat}
-use Rattle.desk.specs.declared.call.Key.{Key}
+use Rattle.desk.specs.declared.key.Key.{Key}
 use Rattle.desk.specs.Limits.{seatCount}
 use Rattle.desk.specs.Below.{first}
 use Rattle.desk.specs.Key.{seatKey, sameKey}

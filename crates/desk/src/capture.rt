@@ -4,9 +4,9 @@ use crate::opening::open_on_desk;
 use crate::reply::ReplyAnswer;
 use crate::reply::reply_on_desk;
 use crate::state::Desk;
-use crate::state::SEATS;
+use crate::limits::SEATS;
 use crate::state::Seat;
-use crate::test::is_desk;
+use crate::clauses::is_desk;
 use digits::byte_at;
 use finder::Cursor;
 use finder::Found;
@@ -24,7 +24,7 @@ ghost use Rattle.desk.specs.Memory.{memory};
 ghost use Rattle.desk.specs.Desk.{isDesk};
 ghost use Rattle.desk.specs.Calls.{openTold, replyTold};
 ghost use Rattle.desk.specs.Capture.{fateBy, dynamicFate, meets, TookCapture};
-ghost use Rattle.desk.specs.Inside.{oneMore, Meets};
+ghost use Rattle.desk.specs.inside.Capture.{oneMore, Meets};
 ghost use Rattle.desk.specs.declared.capture.Fate.the-variants.{Opened, Collected};
 
 // What becomes of a frame.

@@ -1,8 +1,10 @@
 // The desk: seats for open requests, and replies sorted to them. A module for the state, one for each call.
-mod call;
 pub mod capture;
+mod clauses;
+mod hearing;
 pub mod held;
+mod key;
+pub mod limits;
 pub mod opening;
 pub mod reply;
 pub mod state;
-mod test;

@@ -1,11 +1,11 @@
 // An opening: a static request takes a seat.
-use crate::call::Key;
-use crate::call::find;
+use crate::clauses::is_desk;
+use crate::key::Key;
+use crate::key::find;
 use crate::state::Desk;
-use crate::state::SEATS;
+use crate::limits::SEATS;
 use crate::state::Seat;
 use crate::state::with_seat;
-use crate::test::is_desk;
 use frames::refusals::ReadRefusal;
 use frames::request::RequestRead;
 use frames::request::StaticRequest;
@@ -16,13 +16,13 @@ ghost use lib.ListN.{set};
 ghost use Rattle.desk.specs.Limits.{seatCount};
 ghost use Rattle.desk.specs.Memory.{memory};
 ghost use Rattle.desk.specs.Key.{requestKey};
-ghost use Rattle.desk.specs.Seats.{lowestClear};
+ghost use Rattle.desk.specs.Seats.{usedBit, lowestClear};
 ghost use Rattle.desk.specs.Calls.{whatIsGiven, newSeat, opens, openTold, requestTried, keyTried, Did, OpenDid};
 ghost use Rattle.desk.specs.Desk.{isDesk};
 ghost use Rattle.frames.specs.Kind.{read};
 ghost use Rattle.frames.specs.Request.{request};
-ghost use mathlib.Core.Bool.{true};
-ghost use Rattle.desk.specs.Inside.{openJudged};
+ghost use mathlib.Core.Bool.{true, false};
+ghost use Rattle.desk.specs.inside.Judging.{openJudged};
 
 // In the order in which they are tried.
 pub enum OpenRefusal {
@@ -177,7 +177,7 @@ fn new_seat(key: Key) -> Seat
 }
 
 fn opened_state(desk: Desk, seat: usize) -> Desk
-    requires { ⌜ (seat < seatCount) × (desk .bits < 2 ^ seatCount) ⌝ }
+    requires { ⌜ (seat < seatCount) × ((desk .bits < 2 ^ seatCount) × (usedBit (desk .bits) seat ≡ false)) ⌝ }
     ensures { λ r. ⌜ (r .bits ≡ desk .bits + 2 ^ seat) × (r .count ≡ desk .count) ⌝ }
 {
     Desk {

@@ -1,29 +1,30 @@
 // A reply: sorted to the seat with its key, and kept.
-use crate::call::Call;
-use crate::call::Heard;
-use crate::call::ended_by;
-use crate::call::find;
-use crate::call::hear;
-use crate::call::in_place;
-use crate::state::CELL_SIZE;
+use crate::clauses::is_desk;
+use crate::hearing::ended_by;
+use crate::hearing::in_place;
+use crate::key::find;
+use crate::key::key_in;
+use crate::limits::CELL_SIZE;
 use crate::state::Desk;
-use crate::state::SEATS;
+use crate::limits::SEATS;
 use crate::state::Seat;
 use crate::state::capacity;
 use crate::state::with_seat;
-use crate::test::is_desk;
 use frames::refusals::ReadRefusal;
+use frames::reply::ReplyCheck;
+use frames::reply::ReplyLabel;
+use frames::reply::check_reply;
 ghost use mathlib.Core.Path.{_≡_};
 ghost use Prim.Native.Nat.{_+_, _≤_, _<_};
 ghost use lib.ListN.{length, set};
 ghost use lib.Seq.{paste};
-ghost use Rattle.desk.specs.Limits.{seatCount};
+ghost use Rattle.desk.specs.Limits.{seatCount, cellSize, mostCells};
 ghost use Rattle.desk.specs.Memory.{memory};
-ghost use Rattle.desk.specs.Calls.{whatIsGiven, grown, replies, replyTold, callTried, seatTried, Did, ReplyDid};
+ghost use Rattle.desk.specs.Calls.{whatIsGiven, grown, replies, replyTold, labelTried, seatTried, Did, ReplyDid};
 ghost use Rattle.desk.specs.Desk.{isDesk};
-ghost use Rattle.desk.specs.Call.{heard};
+ghost use Rattle.desk.specs.Hearing.{heard};
 ghost use mathlib.Core.Bool.{true};
-ghost use Rattle.desk.specs.Inside.{replyJudged};
+ghost use Rattle.desk.specs.inside.Judging.{replyJudged};
 
 // In the order in which they are tried.
 pub enum ReplyRefusal {
@@ -133,27 +134,21 @@ pub(crate) fn reply_on_desk(
 }
 
 fn judged(row: [Seat; SEATS], bits: u64, free: bool, frame: &[u8]) -> ReplyJudged
-    ensures { λ r. ⌜ replyJudged r ≡ whatIsGiven (heard (now (frame .entry))) (callTried row bits free) ⌝ }
+    ensures { λ r. ⌜ replyJudged r ≡ whatIsGiven (heard (now (frame .entry))) (labelTried row bits free) ⌝ }
 {
-    match hear(frame) {
-        Heard::Reply(call) => call_judged(row, bits, free, call),
-        Heard::Refused(refusal) => ReplyJudged::Refuses(ReplyRefusal::Frame(refusal)),
+    match check_reply(frame) {
+        ReplyCheck::Good(label) => label_judged(row, bits, free, label),
+        ReplyCheck::Refused(refusal) => ReplyJudged::Refuses(ReplyRefusal::Frame(refusal)),
     }
 }
 
-fn call_judged(row: [Seat; SEATS], bits: u64, free: bool, call: Call) -> ReplyJudged
-    ensures { λ r. ⌜ replyJudged r ≡ callTried row bits free call ⌝ }
+fn label_judged(row: [Seat; SEATS], bits: u64, free: bool, label: ReplyLabel) -> ReplyJudged
+    ensures { λ r. ⌜ replyJudged r ≡ labelTried row bits free label ⌝ }
 {
-    let seat = find(row, bits, call.key);
+    let status = label.status;
+    let seat = find(row, bits, key_in(label));
     if seat < SEATS {
-        seat_judged(
-            row[seat],
-            free,
-            Taking {
-                seat,
-                status: call.status,
-            },
-        )
+        seat_judged(row[seat], free, Taking { seat, status })
     } else {
         ReplyJudged::Refuses(ReplyRefusal::Stray)
     }
@@ -175,10 +170,10 @@ fn seat_judged(seat: Seat, free: bool, t: Taking) -> ReplyJudged
     }
 }
 
-// The 51 bytes of a frame, from a place on.
+// A frame, from a place on.
 fn put_cell(cells: &mut [u8], at: usize, frame: &[u8])
-    requires { ⌜ (length (now frame) ≡ 51) × (at + 51 ≤ length (now cells)) ⌝ }
-    ensures { λ _. ⌜ now (cells .exit) ≡ paste (now (cells .entry)) at (now (frame .entry)) 51 ⌝ }
+    requires { ⌜ (length (now frame) ≡ cellSize) × (at + cellSize ≤ length (now cells)) ⌝ }
+    ensures { λ _. ⌜ now (cells .exit) ≡ paste (now (cells .entry)) at (now (frame .entry)) cellSize ⌝ }
 {
     let mut j: usize = 0;
     while j < CELL_SIZE {
@@ -188,7 +183,7 @@ fn put_cell(cells: &mut [u8], at: usize, frame: &[u8])
 }
 
 fn grown_seat(seat: Seat, status: u8) -> Seat
-    requires { ⌜ seat .held < 65536 ⌝ }
+    requires { ⌜ seat .held < mostCells ⌝ }
     ensures { λ r. ⌜ r ≡ grown seat status ⌝ }
 {
     Seat {

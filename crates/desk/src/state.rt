@@ -1,18 +1,13 @@
 // The state of a desk: what goes by value, and what it is when empty.
-use crate::call::least;
+use crate::limits::CELLS;
+use crate::limits::CELL_SIZE;
+use crate::limits::SEATS;
 ghost use mathlib.Core.Path.{_≡_};
-ghost use Prim.Native.Nat.{_<_};
+ghost use Prim.Native.Nat.{_<_, min};
 ghost use lib.ListN.{set};
 ghost use Rattle.desk.specs.Limits.{seatCount};
 ghost use Rattle.desk.specs.Memory.{capacityOf};
 ghost use Rattle.desk.specs.Calls.{seatsInUse, emptyDesk};
-
-pub const SEATS: usize = 16;
-
-// Cells in use at most.
-pub const CELLS: usize = 256;
-
-pub const CELL_SIZE: usize = 51;
 
 // Four words and no padding. ended is 0 or 1.
 #[repr(C)]
@@ -73,4 +68,10 @@ pub fn capacity(cells: usize, marks: usize) -> usize
     ensures { λ r. ⌜ r ≡ capacityOf cells marks ⌝ }
 {
     least(CELLS, least(cells / CELL_SIZE, marks))
+}
+
+pub(crate) fn least(a: usize, b: usize) -> usize
+    ensures { λ r. ⌜ r ≡ min a b ⌝ }
+{
+    if a < b { a } else { b }
 }

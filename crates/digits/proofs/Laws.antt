@@ -36,7 +36,7 @@ last-apart s p (suc w) v =
 last-digit : (x : Number) (b n : ℕ) → x ≡ Is (n / 10) → b ≡ 48 + n % 10 → andThen x b ≡ Is n
 last-digit x b n e q = rw (e, inside 48 57 b (omega arith) (omega arith)) (ap Is (omega arith))
 
-value-of-digits : (w n : ℕ) (pre post : List ℕ) → n < 10 ^ w → numberFrom (pre ++ digits w n ++ post) (length pre) w 0 ≡ Is n
+pub value-of-digits : (w n : ℕ) (pre post : List ℕ) → n < 10 ^ w → numberFrom (pre ++ digits w n ++ post) (length pre) w 0 ≡ Is n
 unfolding digits numberFrom
 value-of-digits zero n pre post h = ap Is (omega (arith, pow-zero 10))
 value-of-digits (suc w) n pre post h =

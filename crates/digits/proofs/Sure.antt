@@ -1,35 +1,43 @@
--- What is told is sure if every number that it tries is. Assumes nothing.
+-- What is told is sure if every refusal that it tries is. Assumes nothing.
 use Prim.Native.Nat.{ℕ, zero, suc, _≤_}
 use mathlib.Core.Bool.{Bool, true, false, true≢false}
-use mathlib.Core.Path.{_≡_, refl, ap, ap₂, sym, _∙_}
+use mathlib.Core.Path.{_≡_, refl, ap, sym, _∙_}
 use native.Mathlib.Omega.{arith}
-use Rattle.digits.specs.Told.{Told, gives, refuses, tried, isRefusal, Sure}
+use Rattle.digits.specs.declared.refusal.Refusal.{Refusal}
+use Rattle.digits.specs.Refusals.{plain, placed, isRefusal}
+use Rattle.digits.specs.Told.{Told, gives, refuses, tried, Sure}
 
-pub never-0 : (n o : ℕ) → isRefusal n o ≡ true → 1 ≤ n
-never-0 zero o e = absurd (true≢false (sym e))
-never-0 (suc n) o e = omega arith
+pub never-0 : (f : Refusal) → isRefusal f ≡ true → 1 ≤ f .number
+never-0 f e = go (f .number) (f .offset) e
+  where
+    go : (n o : ℕ) → isRefusal (placed n o) ≡ true → 1 ≤ n
+    go zero o e = absurd (true≢false (sym e))
+    go (suc n) o e = omega arith
 
 module _ {A : Type 0} where
-  numberOr : Told A → ℕ → ℕ
-  numberOr (gives a) none = none
-  numberOr (refuses number offset) none = number
-
-  offsetOr : Told A → ℕ → ℕ
-  offsetOr (gives a) none = none
-  offsetOr (refuses number offset) none = offset
+  refusalOr : Told A → Refusal → Refusal
+  refusalOr (gives a) none = none
+  refusalOr (refuses f) none = f
 
   given : Told A → Bool
   given (gives a) = true
-  given (refuses number offset) = false
+  given (refuses f) = false
 
-  pub sure-number : (n o : ℕ) → isRefusal n o ≡ true → Sure {A = A} (refuses n o)
-  unfolding numberOr offsetOr
-  sure-number n o h number offset e = sym (ap₂ isRefusal (ap (λ (t : Told A). numberOr t 0) e) (ap (λ (t : Told A). offsetOr t 0) e)) ∙ h
+  -- a refusal is told from another, and from what is given
+  pub same-refusal : (f g : Refusal) → _≡_ {A = Told A} (refuses f) (refuses g) → f ≡ g
+  unfolding refusalOr
+  same-refusal f g e = ap (λ (t : Told A). refusalOr t (plain 0)) e
+
+  pub not-refused : (a : A) (f : Refusal) → gives a ≡ refuses f → ⊥
+  unfolding given
+  not-refused a f e = true≢false (ap given e)
+
+  pub sure-refuses : (f : Refusal) → isRefusal f ≡ true → Sure {A = A} (refuses f)
+  sure-refuses f h g e = sym (ap isRefusal (same-refusal f g e)) ∙ h
 
   pub sure-gives : (a : A) → Sure (gives a)
-  unfolding given
-  sure-gives a number offset e = absurd (true≢false (ap given e))
+  sure-gives a f e = absurd (not-refused a f e)
 
-  pub sure-tried : (b : Bool) (n o : ℕ) (rest : Told A) → (b ≡ false → isRefusal n o ≡ true) → Sure rest → Sure (tried b n o rest)
-  sure-tried true n o rest h s = s
-  sure-tried false n o rest h s = sure-number n o (h refl)
+  pub sure-tried : (b : Bool) (f : Refusal) (rest : Told A) → (b ≡ false → isRefusal f ≡ true) → Sure rest → Sure (tried b f rest)
+  sure-tried true f rest h s = s
+  sure-tried false f rest h s = sure-refuses f (h refl)

@@ -1,13 +1,14 @@
 -- Runs of stores, and a number stored from its last digit. Assumes nothing.
-use Prim.Native.Nat.{ℕ, zero, suc, _+_, _-_, _/_, _%_, _≤_, _<_}
+use Prim.Native.Nat.{ℕ, zero, suc, _+_, _-_, _/_, _%_, _≤_, _<_, min}
 use mathlib.Core.List.{List, [], _∷_, _++_}
 use mathlib.Core.Path.{_≡_, refl, sym, ap, _∙_}
 use native.Mathlib.Omega.{arith}
 use native.Mathlib.Nat.{add-zero, add-suc, suc-add}
 use native.Mathlib.Numerals.{add-one, sub-one}
-use lib.ListN.{length, set, length-append}
-use lib.Seq.{sets, set-comm}
+use lib.ListN.{length, getD, take, drop, set, length-append, take-append-drop}
+use lib.Seq.{sets, set-comm, set-out, take-suc, take-all, length-take-le, length-sets}
 use Rattle.digits.specs.Digits.{digits, numberText}
+use Rattle.digits.proofs.Tests.{by-less}
 use Rattle.digits.proofs.Reading.{inside, under, over}
 
 pub length-digits : (w n : ℕ) → length (digits w n) ≡ w
@@ -19,6 +20,30 @@ length-digits (suc w) n = length-append (digits w (n / 10)) _ ∙ rw (length-dig
 pub sets-append : (l : List ℕ) (i : ℕ) (xs ys : List ℕ) → sets l i (xs ++ ys) ≡ sets (sets l i xs) (i + length xs) ys
 sets-append l i [] ys = rw (add-zero i)
 sets-append l i (a ∷ xs) ys = sets-append (set l i a) (suc i) xs ys ∙ rw (add-suc i (length xs), suc-add i (length xs))
+
+-- a run from past the end stores nothing
+pub sets-beyond : (l : List ℕ) (i : ℕ) (vs : List ℕ) → length l ≤ i → sets l i vs ≡ l
+sets-beyond l i [] h = refl
+sets-beyond l i (b ∷ vs) h = rw (set-out l i b h) (sets-beyond l (suc i) vs (omega arith))
+
+-- a run, one byte longer
+pub run-more : (l : List ℕ) (at : ℕ) (vs : List ℕ) (i : ℕ) → i < length vs → set (sets l at (take i vs)) (at + i) (getD vs i 0) ≡ sets l at (take (i + 1) vs)
+run-more l at vs i h =
+    let n = length-take-le i vs (omega arith) in
+    sym (rw (add-one i, take-suc vs i 0 h) (sets-append l at (take i vs) (getD vs i 0 ∷ []) ∙ ap (λ (k : ℕ). set (sets l at (take i vs)) (at + k) (getD vs i 0)) n))
+
+-- the bytes of a run that fit are all that it stores
+pub run-whole : (l : List ℕ) (at : ℕ) (vs : List ℕ) (n : ℕ) → n ≡ min (length l - at) (length vs) → at < length l → sets l at (take n vs) ≡ sets l at vs
+run-whole l at vs n e h =
+    by-less n (length vs)
+    (λ k.
+    let t = length-take-le n vs (omega arith) in
+    let z = length-sets l at (take n vs) in
+    sym
+    (ap (sets l at) (sym (take-append-drop n vs))
+    ∙ sets-append l at (take n vs) (drop n vs)
+    ∙ sets-beyond (sets l at (take n vs)) (at + length (take n vs)) (drop n vs) (omega (arith, e, k, h, t, z))))
+    (λ k. ap (sets l at) (take-all n vs k))
 
 -- a store past a run may come first
 set-sets : (l : List ℕ) (i : ℕ) (vs : List ℕ) (j d : ℕ) → i + length vs ≤ j → sets (set l j d) i vs ≡ set (sets l i vs) j d
@@ -52,11 +77,11 @@ put-done l at (suc w) n h = absurd (omega arith)
 
 -- ---- widths
 
-pub some-text : (l : List ℕ) (at w n : ℕ) → 1 ≤ w → w ≤ 10 → putFrom l at w n ≡ sets l at (numberText w n)
-some-text l at w n h k = rw (inside 1 10 w h k) (putFrom-sets l at w n)
+pub some-text : (l : List ℕ) (at w n : ℕ) → 1 ≤ w → w ≤ 20 → putFrom l at w n ≡ sets l at (numberText w n)
+some-text l at w n h k = rw (inside 1 20 w h k) (putFrom-sets l at w n)
 
 pub none-text : (l : List ℕ) (at w n : ℕ) → w < 1 → l ≡ sets l at (numberText w n)
-none-text l at w n h = rw (under 1 10 w h)
+none-text l at w n h = rw (under 1 20 w h)
 
-pub over-text : (l : List ℕ) (at w n : ℕ) → 10 < w → l ≡ sets l at (numberText w n)
-over-text l at w n h = rw (over 1 10 w h)
+pub over-text : (l : List ℕ) (at w n : ℕ) → 20 < w → l ≡ sets l at (numberText w n)
+over-text l at w n h = rw (over 1 20 w h)

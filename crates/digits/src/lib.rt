@@ -1,6 +1,8 @@
 // Bytes and numbers at places of lent memory, read and written. Every function takes any slice, any place and any width.
+pub mod refusal;
+
 ghost use mathlib.Core.Path.{_≡_};
-ghost use Prim.Native.Nat.{_+_};
+ghost use Prim.Native.Nat.{_+_, min};
 ghost use lib.ListN.{getD, set};
 ghost use lib.Seq.{sets};
 ghost use Rattle.digits.specs.Digits.{numberAt, numberText};
@@ -81,14 +83,37 @@ pub fn put_byte(out: &mut [u8], at: usize, b: u8)
     }
 }
 
-// Stores the last `width` digits of n from a place on; past the end nothing, and nothing at all where the width is not 1 to 10.
+// Stores the bytes from a place on; past the end nothing.
+pub fn put_bytes(out: &mut [u8], at: usize, bytes: &[u8])
+    ensures { λ _. ⌜ now (out .exit) ≡ sets (now (out .entry)) at (now (bytes .entry)) ⌝ }
+{
+    if out.len() <= at {
+        return;
+    }
+    let n = least(out.len() - at, bytes.len());
+    let mut i: usize = 0;
+    while i < n {
+        let p = at + i;
+        out[p] = bytes[i];
+        i += 1;
+    }
+}
+
+// The smaller of two.
+pub fn least(a: usize, b: usize) -> usize
+    ensures { λ r. ⌜ r ≡ min a b ⌝ }
+{
+    if a < b { a } else { b }
+}
+
+// Stores the last `width` digits of n from a place on; past the end nothing, and nothing at all where the width is not 1 to 20.
 pub fn put_number(out: &mut [u8], at: usize, width: usize, n: u64)
     ensures { λ _. ⌜ now (out .exit) ≡ sets (now (out .entry)) at (numberText width n) ⌝ }
 {
     if width < 1 {
         return;
     }
-    if 10 < width {
+    if 20 < width {
         return;
     }
     let mut m = n;

@@ -7,9 +7,10 @@ use native.Mathlib.Omega.{arith}
 use lib.Dec.{eqb}
 use lib.ListN.{length, getD}
 use borrow.Author.Tests.{eq-eqb, ne-eqb, le-leb, lt-leb}
+use Rattle.digits.specs.declared.refusal.Refusal.{Refusal}
+use Rattle.digits.specs.Refusals.{KIND, LENGTH, END, ADDRESS, FIELD, RECORD, ROOM}
 use Rattle.digits.specs.Told.{Told, gives, refuses, tried, Sure}
-use Rattle.digits.proofs.Sure.{sure-number, sure-gives, sure-tried}
-use Rattle.frames.specs.Refusals.{KIND, LENGTH, END, ADDRESS, FIELD, RECORD, ROOM}
+use Rattle.digits.proofs.Sure.{sure-refuses, sure-gives, sure-tried}
 use Rattle.frames.specs.Rules.{isAddress}
 use Rattle.frames.specs.Layout.{firstWrong, values}
 use Rattle.frames.specs.Kind.{Kind, leadIs, letterR, CR, headTold, andThen, read, writeTried}
@@ -17,34 +18,34 @@ use Rattle.frames.specs.Kind.{Kind, leadIs, letterR, CR, headTold, andTh
 -- ---- answers that gave something
 
 module _ {A : Type 0} where
-  pub tried-gives : (t : Bool) (n o : ℕ) (rest : Told A) (a : A) → tried t n o rest ≡ gives a → (t ≡ true) × (rest ≡ gives a)
-  tried-gives true n o rest a e = (refl, e)
-  tried-gives false n o rest a e = absurd (let z : _≡_ {A = ℕ} 0 1 = cc in omega arith)
+  pub tried-gives : (t : Bool) (f : Refusal) (rest : Told A) (a : A) → tried t f rest ≡ gives a → (t ≡ true) × (rest ≡ gives a)
+  tried-gives true f rest a e = (refl, e)
+  tried-gives false f rest a e = absurd (let z : _≡_ {A = ℕ} 0 1 = cc in omega arith)
 
   pub then-gives : (t : Told (Unit {0})) (rest : Told A) (a : A) → andThen t rest ≡ gives a → (t ≡ gives tt) × (rest ≡ gives a)
   then-gives (gives x) rest a e = (refl, e)
-  then-gives (refuses n o) rest a e = absurd (let z : _≡_ {A = ℕ} 0 1 = cc in omega arith)
+  then-gives (refuses f) rest a e = absurd (let z : _≡_ {A = ℕ} 0 1 = cc in omega arith)
 
 -- ---- refusals have a number
 
 sure-then : {A : Type 0} (t : Told (Unit {0})) (rest : Told A) → Sure t → Sure rest → Sure (andThen t rest)
 sure-then (gives x) rest s s′ = s′
-sure-then (refuses n o) rest s s′ = sure-number n o (s n o refl)
+sure-then (refuses f) rest s s′ = sure-refuses f (s f refl)
 
 sure-head : (lead size : ℕ) (s : List ℕ) → Sure (headTold lead size s)
 unfolding headTold
 sure-head lead size s =
-    sure-tried (leadIs lead s) KIND 0 _ (λ _. refl)
-    (sure-tried (eqb (length s) size) LENGTH 0 _ (λ _. refl)
-    (sure-tried (eqb (getD s (size - 1) 0) CR) END 0 _ (λ _. refl)
-    (sure-tried (eqb (getD s 1 0) letterR && isAddress (getD s 2 0)) ADDRESS 0 _ (λ _. refl)
+    sure-tried (leadIs lead s) KIND _ (λ _. refl)
+    (sure-tried (eqb (length s) size) LENGTH _ (λ _. refl)
+    (sure-tried (eqb (getD s (size - 1) 0) CR) END _ (λ _. refl)
+    (sure-tried (eqb (getD s 1 0) letterR && isAddress (getD s 2 0)) ADDRESS _ (λ _. refl)
     (sure-gives tt))))
 
 pub sure-read : {R : Type 0} (k : Kind R) (s : List ℕ) → Sure (read k s)
 unfolding read
 sure-read k s =
     let wrong = firstWrong (k .fields) 3 s in
-    sure-then (headTold (k .lead) (k .size) s) _ (sure-head (k .lead) (k .size) s) (sure-tried (eqb wrong 0) FIELD wrong _ (λ e. ap not e) (sure-gives (k .ofValues (values (k .fields) 3 s))))
+    sure-then (headTold (k .lead) (k .size) s) _ (sure-head (k .lead) (k .size) s) (sure-tried (eqb wrong 0) (FIELD wrong) _ (λ e. ap not e) (sure-gives (k .ofValues (values (k .fields) 3 s))))
 
 -- ---- the head of a frame
 
@@ -54,28 +55,28 @@ lead-at lead [] h = sym (ne-eqb 0 lead (λ (e : 0 ≡ lead). omega arith))
 lead-at lead (b ∷ s) h = refl
 
 module _ (lead size : ℕ) (s : List ℕ) (some : 0 < lead) where
-  pub head-kind : (getD s 0 0 ≡ lead → ⊥) → refuses KIND 0 ≡ headTold lead size s
+  pub head-kind : (getD s 0 0 ≡ lead → ⊥) → refuses KIND ≡ headTold lead size s
   unfolding headTold
   head-kind k = rw (lead-at lead s some, ne-eqb (getD s 0 0) lead k)
 
   module _ (kind : getD s 0 0 ≡ lead) where
-    pub head-length : (length s ≡ size → ⊥) → refuses LENGTH 0 ≡ headTold lead size s
+    pub head-length : (length s ≡ size → ⊥) → refuses LENGTH ≡ headTold lead size s
     unfolding headTold
     head-length l = rw (lead-at lead s some, eq-eqb (getD s 0 0) lead kind, ne-eqb (length s) size l)
 
     module _ (long : length s ≡ size) where
-      pub head-end : (getD s (size - 1) 0 ≡ CR → ⊥) → refuses END 0 ≡ headTold lead size s
+      pub head-end : (getD s (size - 1) 0 ≡ CR → ⊥) → refuses END ≡ headTold lead size s
       unfolding headTold
       head-end e = rw (lead-at lead s some, eq-eqb (getD s 0 0) lead kind, eq-eqb (length s) size long, ne-eqb (getD s (size - 1) 0) CR e)
 
       module _ (ended : getD s (size - 1) 0 ≡ CR) where
-        pub head-letter : (getD s 1 0 ≡ letterR → ⊥) → refuses ADDRESS 0 ≡ headTold lead size s
+        pub head-letter : (getD s 1 0 ≡ letterR → ⊥) → refuses ADDRESS ≡ headTold lead size s
         unfolding headTold
         head-letter a =
             rw (lead-at lead s some, eq-eqb (getD s 0 0) lead kind, eq-eqb (length s) size long, eq-eqb (getD s (size - 1) 0) CR ended, ne-eqb (getD s 1 0) letterR a)
 
         module _ (letter : getD s 1 0 ≡ letterR) where
-          pub head-address : (getD s 2 0 ≡ 32 → ⊥) → refuses ADDRESS 0 ≡ headTold lead size s
+          pub head-address : (getD s 2 0 ≡ 32 → ⊥) → refuses ADDRESS ≡ headTold lead size s
           unfolding headTold
           head-address a =
               rw (lead-at lead s some, eq-eqb (getD s 0 0) lead kind, eq-eqb (length s) size long, eq-eqb (getD s (size - 1) 0) CR ended, eq-eqb (getD s 1 0) letterR letter, ne-eqb (getD s 2 0) 32 a)
@@ -88,11 +89,11 @@ module _ (lead size : ℕ) (s : List ℕ) (some : 0 < lead) where
 -- ---- the tests of writing
 
 module _ (wrong size room : ℕ) where
-  pub write-record : (wrong ≡ 0 → ⊥) → refuses RECORD wrong ≡ writeTried wrong size room
+  pub write-record : (wrong ≡ 0 → ⊥) → refuses (RECORD wrong) ≡ writeTried wrong size room
   unfolding writeTried
   write-record w = rw (ne-eqb wrong 0 w)
 
-  pub write-room : wrong ≡ 0 → room < size → refuses ROOM 0 ≡ writeTried wrong size room
+  pub write-room : wrong ≡ 0 → room < size → refuses ROOM ≡ writeTried wrong size room
   unfolding writeTried
   write-room w h = rw (eq-eqb wrong 0 w, lt-leb size room h)
 

@@ -7,6 +7,7 @@ use lib.Dec.{eqb, leb}
 use borrow.Author.Tests.{eqb-true, leb-true}
 use lib.ListN.{length, drop, length-append, length-drop}
 use lib.Seq.{drop-at}
+use Rattle.digits.specs.declared.refusal.Refusal.{Refusal}
 use Rattle.digits.specs.Told.{gives, refuses}
 use Rattle.frames.specs.declared.refusals.WriteAnswer.{WriteAnswer}
 use Rattle.frames.specs.Refusals.{writeTold}
@@ -22,9 +23,9 @@ use Rattle.frames.proofs.ReplyLaws.{length-reply}
 use Rattle.frames.proofs.DynamicLaws.{dynamic-plain}
 
 module _ {R : Type 0} (k : Kind R) (long : (r : R) → wrongIn k r ≡ 0 → length (frameOf k r) ≡ k .size) where
-  left : (r : R) (out out′ : List ℕ) (a : WriteAnswer) → Wrote k r out a out′ → (number offset : ℕ) → writeTold a ≡ refuses number offset → out′ ≡ out
-  left r out out′ a w number offset e =
-      let q : writeTried (wrongIn k r) (k .size) (length out) ≡ refuses number offset = sym (w .told) ∙ e in
+  left : (r : R) (out out′ : List ℕ) (a : WriteAnswer) → Wrote k r out a out′ → (f : Refusal) → writeTold a ≡ refuses f → out′ ≡ out
+  left r out out′ a w f e =
+      let q : writeTried (wrongIn k r) (k .size) (length out) ≡ refuses f = sym (w .told) ∙ e in
       rw q at (w .bytes)
 
   only-frame : (r : R) (out out′ : List ℕ) (a : WriteAnswer) → Wrote k r out a out′ → writeTold a ≡ gives tt
@@ -32,8 +33,8 @@ module _ {R : Type 0} (k : Kind R) (long : (r : R) → wrongIn k r ≡ 0 → len
   unfolding writeTried
   only-frame r out out′ a w e =
       let q : writeTried (wrongIn k r) (k .size) (length out) ≡ gives tt = sym (w .told) ∙ e in
-      let fine = tried-gives (eqb (wrongIn k r) 0) _ _ _ _ q in
-      let room = leb-true (k .size) (length out) (tried-gives (leb (k .size) (length out)) _ _ _ _ (fine .1) .0) in
+      let fine = tried-gives (eqb (wrongIn k r) 0) _ _ _ q in
+      let room = leb-true (k .size) (length out) (tried-gives (leb (k .size) (length out)) _ _ _ (fine .1) .0) in
       let size = long r (eqb-true (wrongIn k r) 0 (fine .0)) in
       let is : out′ ≡ frameOf k r ++ drop (k .size) out = rw q at (w .bytes) in
       let added : length (frameOf k r ++ drop (k .size) out) ≡ length out = length-append (frameOf k r) (drop (k .size) out) ∙ omega (arith, size, room, length-drop (k .size) out) in

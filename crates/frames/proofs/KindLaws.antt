@@ -9,6 +9,8 @@ use lib.Dec.{eqb, leb}
 use borrow.Author.Tests.{eqb-true, leb-true}
 use lib.ListN.{length, getD, take, drop, length-append}
 use lib.Seq.{getD-at, take-at, take-suc, take-all, sets, sets-eq}
+use Rattle.digits.specs.declared.refusal.Refusal.{Refusal}
+use Rattle.digits.specs.Refusals.{FIELD}
 use Rattle.digits.specs.Told.{Told, gives, refuses, tried}
 use Rattle.frames.specs.declared.refusals.ReadRefusal.{ReadRefusal}
 use Rattle.frames.specs.declared.refusals.ReadRefusal.the-variants.{Kind as kind, Length, End, Address, Field}
@@ -18,7 +20,7 @@ use Rattle.frames.specs.declared.refusals.WriteRefusal.{WriteRefusal}
 use Rattle.frames.specs.declared.refusals.WriteRefusal.the-variants.{Record, Room}
 use Rattle.frames.specs.declared.refusals.WriteAnswer.{WriteAnswer}
 use Rattle.frames.specs.declared.refusals.WriteAnswer.the-variants.{Written, Refused}
-use Rattle.frames.specs.Refusals.{FIELD, readRefused, verdictTold, writeTold}
+use Rattle.frames.specs.Refusals.{readRefused, verdictTold, writeTold}
 use Rattle.frames.specs.Layout.{firstWrong, values, recordWrong, write, Sound}
 use Rattle.frames.specs.Kind.{Kind, leadIs, letterR, CR, headTold, andThen, read, wrongIn, frameOf, writeTried, Wrote}
 use Rattle.frames.specs.Demand2.{Faithful}
@@ -42,10 +44,10 @@ lead-is lead (b ∷ s) e = eqb-true b lead e
 passed : (lead size : ℕ) (s : List ℕ) → headTold lead size s ≡ gives tt → Passed lead size s
 unfolding headTold
 passed lead size s e =
-    let a = tried-gives (leadIs lead s) _ _ _ _ e in
-    let b = tried-gives (eqb (length s) size) _ _ _ _ (a .1) in
-    let c = tried-gives (eqb (getD s (size - 1) 0) CR) _ _ _ _ (b .1) in
-    let d = tried-gives (eqb (getD s 1 0) letterR && eqb (getD s 2 0) 32) _ _ _ _ (c .1) in
+    let a = tried-gives (leadIs lead s) _ _ _ e in
+    let b = tried-gives (eqb (length s) size) _ _ _ (a .1) in
+    let c = tried-gives (eqb (getD s (size - 1) 0) CR) _ _ _ (b .1) in
+    let d = tried-gives (eqb (getD s 1 0) letterR && eqb (getD s 2 0) 32) _ _ _ (c .1) in
     let f = and-eq-true-iff (eqb (getD s 1 0) letterR) (eqb (getD s 2 0) 32) .0 (d .0) in
     record { first = lead-is lead s (a .0); long = eqb-true _ _ (b .0); last = eqb-true _ _ (c .0); letter = eqb-true _ _ (f .0); address = eqb-true _ _ (f .1) }
 
@@ -105,7 +107,7 @@ module _ {R : Type 0} {k : Kind R} {Whole : R → Type 0} (g : SoundKind k Whole
   unfolding read wrongIn frameOf
   frame-again s r e =
       let h = then-gives (headTold (k .lead) (k .size) s) _ r e in
-      let f = tried-gives (eqb (firstWrong (k .fields) 3 s) 0) _ _ _ r (h .1) in
+      let f = tried-gives (eqb (firstWrong (k .fields) 3 s) 0) _ _ r (h .1) in
       let is : k .ofValues (values (k .fields) 3 s) ≡ r = let g = f .1 in cc in
       let p : Passed (k .lead) (g .bytes + 4) s = rw (g .size) at (passed (k .lead) (k .size) s (h .0)) in
       let z = eqb-true (firstWrong (k .fields) 3 s) 0 (f .0) in
@@ -119,9 +121,9 @@ module _ {R : Type 0} {k : Kind R} {Whole : R → Type 0} (g : SoundKind k Whole
   room-enough : (r : R) → wrongIn k r ≡ 0 → (out : List ℕ) → k .size ≤ length out → gives tt ≡ writeTried (wrongIn k r) (k .size) (length out)
   room-enough r e out h = write-done (wrongIn k r) (k .size) (length out) e h
 
-  answered : (s : List ℕ) → ((r : R) → Whole r → wrongIn k r ≡ 0 → frameOf k r ≡ s → ⊥) → (t : Told R) → read k s ≡ t → (number : ℕ) × (offset : ℕ) × (read k s ≡ refuses number offset)
+  answered : (s : List ℕ) → ((r : R) → Whole r → wrongIn k r ≡ 0 → frameOf k r ≡ s → ⊥) → (t : Told R) → read k s ≡ t → (f : Refusal) × (read k s ≡ refuses f)
   answered s none (gives r) e = let o = frame-again s r e in absurd (none r (o .has) (o .fine) (o .bytes))
-  answered s none (refuses number offset) e = (number, offset, e)
+  answered s none (refuses f) e = (f, e)
 
   pub faithful : Faithful k Whole
   faithful = record {
@@ -133,7 +135,7 @@ module _ {R : Type 0} {k : Kind R} {Whole : R → Type 0} (g : SoundKind k Whole
         let q = room-enough r (o .fine) out h in
         (sym q, rw (← q, o .bytes));
     turned-away = λ s. (
-      λ w r has fine bytes. let g : read k s ≡ gives r = rw (← bytes) (frame-back r has fine) in let b = w .2 in let z : _≡_ {A = ℕ} 0 1 = cc in omega arith,
+      λ w r has fine bytes. let g : read k s ≡ gives r = rw (← bytes) (frame-back r has fine) in let b = w .1 in let z : _≡_ {A = ℕ} 0 1 = cc in omega arith,
       λ none. answered s none (read k s) refl,
     );
   }
@@ -142,17 +144,17 @@ module _ {R : Type 0} {k : Kind R} {Whole : R → Type 0} (g : SoundKind k Whole
 
   module _ (none : NoneRefused (k .fields)) (s : List ℕ) (w : ℕ) (r : R)
       (wrong : w ≡ recordWrong (k .fields) (held (k .fields) 3 s)) (is : w ≡ 0 → r ≡ k .ofValues (held (k .fields) 3 s)) where
-    fields-told : tried (eqb w 0) FIELD w (gives r) ≡ tried (eqb (firstWrong (k .fields) 3 s) 0) FIELD (firstWrong (k .fields) 3 s) (gives (k .ofValues (values (k .fields) 3 s)))
+    fields-told : tried (eqb w 0) (FIELD w) (gives r) ≡ tried (eqb (firstWrong (k .fields) 3 s) 0) (FIELD (firstWrong (k .fields) 3 s)) (gives (k .ofValues (values (k .fields) 3 s)))
     fields-told = let a = as-held (g .sound) 3 s none in rw (a .wrong, ← wrong) (by-wrong (eqb w 0) refl)
       where
-        by-wrong : (t : Bool) → eqb w 0 ≡ t → tried t FIELD w (gives r) ≡ tried t FIELD w (gives (k .ofValues (values (k .fields) 3 s)))
+        by-wrong : (t : Bool) → eqb w 0 ≡ t → tried t (FIELD w) (gives r) ≡ tried t (FIELD w) (gives (k .ofValues (values (k .fields) 3 s)))
         by-wrong true q =
             let a = as-held (g .sound) 3 s none in
             let z = eqb-true w 0 q in
             rw (is z, a .same (a .wrong ∙ sym wrong ∙ z))
         by-wrong false q = refl
 
-    pub read-fields : (h : ReadVerdict) (t : Told R) → h ≡ Read → verdictTold h ≡ headTold (k .lead) (k .size) s → t ≡ tried (eqb w 0) FIELD w (gives r) → t ≡ read k s
+    pub read-fields : (h : ReadVerdict) (t : Told R) → h ≡ Read → verdictTold h ≡ headTold (k .lead) (k .size) s → t ≡ tried (eqb w 0) (FIELD w) (gives r) → t ≡ read k s
     unfolding read
     read-fields h t q e f = rw (← e, q) (f ∙ fields-told)
 
@@ -180,21 +182,13 @@ module _ {R : Type 0} {k : Kind R} (g : Plain k) where
   plain-length = length-frame plain-sound
 
   pub plain-read : (s : List ℕ) (r : R) → r ≡ k .ofValues (held (k .fields) 3 s) → (h : ReadVerdict) (t : Told R) → h ≡ Read → verdictTold h ≡ headTold (k .lead) (k .size) s
-      → t ≡ tried (eqb (wrongIn k r) 0) FIELD (wrongIn k r) (gives r) → t ≡ read k s
+      → t ≡ tried (eqb (wrongIn k r) 0) (FIELD (wrongIn k r)) (gives r) → t ≡ read k s
   unfolding wrongIn
   plain-read s r is = read-fields plain-sound (g .none) s (wrongIn k r) r (ap (recordWrong (k .fields)) (ap (k .valuesOf) is ∙ g .holding s)) (λ z. is)
 
-module _ {A : Type 0} where
-  pub refused-then : (f : ReadRefusal) (rest : Told A) → andThen (readRefused f) rest ≡ readRefused f
-  refused-then kind rest = refl
-  refused-then Length rest = refl
-  refused-then End rest = refl
-  refused-then Address rest = refl
-  refused-then (Field p) rest = refl
-
-pub read-head : {R : Type 0} (k : Kind R) (s : List ℕ) (h : ReadVerdict) (f : ReadRefusal) → h ≡ turned f → verdictTold h ≡ headTold (k .lead) (k .size) s → readRefused f ≡ read k s
+pub read-head : {R : Type 0} (k : Kind R) (s : List ℕ) (h : ReadVerdict) (f : ReadRefusal) → h ≡ turned f → verdictTold h ≡ headTold (k .lead) (k .size) s → refuses (readRefused f) ≡ read k s
 unfolding read
-read-head k s h f is e = rw (← e, is) (sym (refused-then f _))
+read-head k s h f is e = rw (← e, is)
 
 -- ---- what a writer owes
 
@@ -205,8 +199,8 @@ module _ {R : Type 0} (k : Kind R) (r : R) (out : List ℕ) (long : wrongIn k r 
   unfolding writeTried
   wrote-text text out′ own w e =
       let q : writeTried (wrongIn k r) (k .size) (length out) ≡ gives tt = sym is ∙ ap writeTold w in
-      let b = tried-gives (eqb (wrongIn k r) 0) _ _ _ _ q in
-      let c = tried-gives (leb (k .size) (length out)) _ _ _ _ (b .1) in
+      let b = tried-gives (eqb (wrongIn k r) 0) _ _ _ q in
+      let c = tried-gives (leb (k .size) (length out)) _ _ _ (b .1) in
       let z = eqb-true _ _ (b .0) in
       let l = long z in
       let h : 0 + length (frameOf k r) ≤ length out = omega (arith, leb-true (k .size) (length out) (c .0)) in

@@ -13,6 +13,8 @@ use Rattle.digits.specs.declared.Number.the-variants.{Is}
 use Rattle.digits.specs.Text.{oneOf}
 use Rattle.digits.specs.Digits.{digits, numberAt}
 use Rattle.digits.specs.Form.{Inverse, byte}
+use Rattle.digits.specs.declared.refusal.Refusal.{Refusal}
+use Rattle.digits.specs.Refusals.{FIELD}
 use Rattle.digits.specs.Told.{gives, refuses, tried}
 use Rattle.digits.proofs.Writing.{sets-append, length-digits}
 use Rattle.digits.proofs.Forms.{byte-lawful}
@@ -32,7 +34,7 @@ use Rattle.frames.specs.declared.timing.Timing.the-variants.{Clock, Net,
 use Rattle.frames.specs.declared.reply.StaticReply.{StaticReply}
 use Rattle.frames.specs.declared.reply.ReplyRead.{ReplyRead}
 use Rattle.frames.specs.declared.reply.Head.{Head}
-use Rattle.frames.specs.Refusals.{FIELD, readRefused, verdictTold}
+use Rattle.frames.specs.Refusals.{readRefused, verdictTold}
 use Rattle.frames.specs.Rules.{between, upTo, isRaw, isRequester}
 use Rattle.frames.specs.Layout.{Mark, first, further, Layout, unless, valueOf, Sound, field-sound, end-sound, firstWrong, values, recordWrong, write}
 use Rattle.frames.specs.Kind.{headTold, read, wrongIn, frameOf}
@@ -42,7 +44,6 @@ use Rattle.frames.specs.Reply.{isStatus, isLetter, isChannel, leastRun, 
 use Rattle.frames.specs.Inside.{held, timingWrong, refusedBy, judgedAs, headAt, headIn, headWrong, seenIn, replyAt, wrongAt, fieldsRead, fieldsChecked, headText, timingText, replyText}
 use Rattle.frames.proofs.RuleLaws.{up-to, in-range, none-in-range, or-cases, or-one, to-240}
 use Rattle.frames.proofs.LayoutLaws.{unless-none, values-fine, NoneRefused, none-field, none-end, byte-sound, number-sound, clock-sound}
-use Rattle.frames.proofs.RefusalLaws.{read-refuses}
 use Rattle.frames.proofs.KindLaws as K
 use Rattle.frames.proofs.KindLaws.{SoundKind, faithful, length-frame}
 use Rattle.frames.proofs.TimingLaws.{timing-wrong-is, seen-wrong-is, seen-tail-is}
@@ -348,15 +349,8 @@ reply-stores r l =
 pub refused-as : (s : List ℕ) (h : ReadVerdict) (f : ReadRefusal) (a : ReplyRead) → h ≡ Refused f → verdictTold h ≡ headTold 18 51 s → a ≡ refusedBy f → ReadAs s a
 unfolding read
 refused-as s h f a is e q =
-    let t : readRefused f ≡ read reply s = K.read-head reply s h f is e in
-    rw q (record { told = t; beside = rw (← t) (sym (zero-beside f)) })
-  where
-    zero-beside : (f : ReadRefusal) → orZero (readRefused f) ≡ zeroReply
-    zero-beside kind-wrong = refl
-    zero-beside Length = refl
-    zero-beside End = refl
-    zero-beside Address = refl
-    zero-beside (Field p) = refl
+    let t : refuses (readRefused f) ≡ read reply s = K.read-head reply s h f is e in
+    rw q (record { told = t; beside = rw (← t) })
 
 seen-held : (s : List ℕ) → wrongAt s ≡ recordWrong replyFields (held replyFields 3 s)
 unfolding replyFields held
@@ -368,23 +362,23 @@ seen-record : (s : List ℕ) → wrongAt s ≡ 0 → replyAt s ≡ reply .ofValu
 unfolding replyFields held
 seen-record s e = ap (withTail (held replyFields 3 s)) (seen-tail-is (timingKind (getD s 5 0) (getD s 29 0)) s (head-none (headAt s) (seenIn s .wrong) e))
 
-judged-told : (r : StaticReply) (w : ℕ) → toldBy (judgedAs r w .verdict) (judgedAs r w .reply) ≡ tried (eqb w 0) FIELD w (gives r)
+judged-told : (r : StaticReply) (w : ℕ) → toldBy (judgedAs r w .verdict) (judgedAs r w .reply) ≡ tried (eqb w 0) (FIELD w) (gives r)
 unfolding judgedAs
 judged-told r w = go (eqb w 0)
   where
-    go : (t : Bool) → toldBy (cond t (record { verdict = Read; reply = r }) (refusedBy (Field (record { field = w }))) .verdict) (cond t (record { verdict = Read; reply = r }) (refusedBy (Field (record { field = w }))) .reply) ≡ tried t FIELD w (gives r)
+    go : (t : Bool) → toldBy (cond t (record { verdict = Read; reply = r }) (refusedBy (Field (record { field = w }))) .verdict) (cond t (record { verdict = Read; reply = r }) (refusedBy (Field (record { field = w }))) .reply) ≡ tried t (FIELD w) (gives r)
     go true = refl
     go false = refl
 
-judged-beside : (r : StaticReply) (w : ℕ) → judgedAs r w .reply ≡ orZero (tried (eqb w 0) FIELD w (gives r))
+judged-beside : (r : StaticReply) (w : ℕ) → judgedAs r w .reply ≡ orZero (tried (eqb w 0) (FIELD w) (gives r))
 unfolding judgedAs
 judged-beside r w = go (eqb w 0)
   where
-    go : (t : Bool) → cond t (record { verdict = Read; reply = r }) (refusedBy (Field (record { field = w }))) .reply ≡ orZero (tried t FIELD w (gives r))
+    go : (t : Bool) → cond t (record { verdict = Read; reply = r }) (refusedBy (Field (record { field = w }))) .reply ≡ orZero (tried t (FIELD w) (gives r))
     go true = refl
     go false = refl
 
-fields-told : (s : List ℕ) (h : ReadVerdict) → h ≡ Read → verdictTold h ≡ headTold 18 51 s → tried (eqb (wrongAt s) 0) FIELD (wrongAt s) (gives (replyAt s)) ≡ read reply s
+fields-told : (s : List ℕ) (h : ReadVerdict) → h ≡ Read → verdictTold h ≡ headTold 18 51 s → tried (eqb (wrongAt s) 0) (FIELD (wrongAt s)) (gives (replyAt s)) ≡ read reply s
 fields-told s h is e = K.read-fields reply-sound none-refused s (wrongAt s) (replyAt s) (seen-held s) (seen-record s) h _ is e refl
 
 pub read-as : (s : List ℕ) (h : ReadVerdict) (a : ReplyRead) → h ≡ Read → verdictTold h ≡ headTold 18 51 s → a ≡ fieldsRead s → ReadAs s a
@@ -395,22 +389,22 @@ read-as s h a is e q =
 
 -- ---- the check: as reading, with the label in place of the record
 
-labelled-tried : (t : Bool) (number offset : ℕ) (r : StaticReply) → tried t number offset (gives (labelOf r)) ≡ labelled (tried t number offset (gives r))
-labelled-tried true number offset r = refl
-labelled-tried false number offset r = refl
+labelled-tried : (t : Bool) (f : Refusal) (r : StaticReply) → tried t f (gives (labelOf r)) ≡ labelled (tried t f (gives r))
+labelled-tried true f r = refl
+labelled-tried false f r = refl
 
 module _ (s : List ℕ) (w : ℕ) (is : w ≡ wrongAt s) where
   pub checked-good : (h : Head) → h ≡ headAt s → w ≡ 0 → gives (record { status = h .status; requester = h .requester; number = h .number }) ≡ fieldsChecked s
   unfolding fieldsChecked
   checked-good h e z = rw (e, ← is, eq-eqb w 0 z)
 
-  pub checked-bad : (w ≡ 0 → ⊥) → refuses FIELD w ≡ fieldsChecked s
+  pub checked-bad : (w ≡ 0 → ⊥) → refuses (FIELD w) ≡ fieldsChecked s
   unfolding fieldsChecked
   checked-bad z = rw (← is, ne-eqb w 0 z)
 
 pub check-as : (s : List ℕ) (h : ReadVerdict) → h ≡ Read → verdictTold h ≡ headTold 18 51 s → fieldsChecked s ≡ labelled (read reply s)
 unfolding fieldsChecked
-check-as s h is e = labelled-tried (eqb (wrongAt s) 0) FIELD (wrongAt s) (replyAt s) ∙ ap labelled (fields-told s h is e)
+check-as s h is e = labelled-tried (eqb (wrongAt s) 0) (FIELD (wrongAt s)) (replyAt s) ∙ ap labelled (fields-told s h is e)
 
-pub check-refused : (s : List ℕ) (h : ReadVerdict) (f : ReadRefusal) → h ≡ Refused f → verdictTold h ≡ headTold 18 51 s → readRefused f ≡ labelled (read reply s)
-check-refused s h f is e = read-refuses f ∙ ap labelled (sym (read-refuses f) ∙ K.read-head reply s h f is e)
+pub check-refused : (s : List ℕ) (h : ReadVerdict) (f : ReadRefusal) → h ≡ Refused f → verdictTold h ≡ headTold 18 51 s → refuses (readRefused f) ≡ labelled (read reply s)
+check-refused s h f is e = ap labelled (K.read-head reply s h f is e)

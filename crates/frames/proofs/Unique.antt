@@ -7,9 +7,10 @@ use native.Mathlib.Omega.{arith}
 use lib.Dec.{eqb}
 use lib.ListN.{replicate}
 use Rattle.digits.specs.Once.{Once}
+use Rattle.digits.specs.Refusals.{RECORD}
 use Rattle.digits.specs.Told.{Told, gives, refuses}
+use Rattle.digits.proofs.Sure.{same-refusal as same-told, not-refused}
 use Rattle.frames.specs.declared.refusals.ReadRefusal.{ReadRefusal}
-use Rattle.frames.specs.declared.refusals.ReadRefusal.the-variants.{Kind as kind}
 use Rattle.frames.specs.declared.refusals.ReadVerdict.{ReadVerdict}
 use Rattle.frames.specs.declared.refusals.ReadVerdict.the-variants.{Read, Refused as turned}
 use Rattle.frames.specs.declared.refusals.WriteRefusal.the-variants.{Record, Room}
@@ -26,30 +27,22 @@ use Rattle.frames.specs.declared.reply.ReplyFrame.{ReplyFrame}
 use Rattle.frames.specs.declared.reply.ReplyLabel.{ReplyLabel}
 use Rattle.frames.specs.declared.reply.ReplyCheck.{ReplyCheck}
 use Rattle.frames.specs.declared.reply.ReplyCheck.the-variants.{Good, Refused as rejected}
-use Rattle.frames.specs.Refusals.{RECORD, readRefused, writeTold}
+use Rattle.frames.specs.Refusals.{readRefused, writeTold}
 use Rattle.frames.specs.Kind.{Kind, Wrote}
 use Rattle.frames.specs.Request.{request, requestTold}
 use Rattle.frames.specs.Dynamic.{dynamic, dynamicTold}
 use Rattle.frames.specs.Reply.{reply, toldBy, ReadAs, checkTold}
 use Rattle.frames.specs.Unique.{OneOutcome}
-use Rattle.frames.proofs.RefusalLaws.{numberOf, offsetOf, read-refuses, readBack, read-back}
+use Rattle.frames.proofs.RefusalLaws.{same-read-refusal}
 
 -- ---- what was told leads back to the refusal
 
 module _ (A : Type 0) where
-  refusalIn : Told A → ReadRefusal
-  refusalIn (gives a) = kind
-  refusalIn (refuses number offset) = readBack number offset
+  same-refusal : (f g : ReadRefusal) → _≡_ {A = Told A} (refuses (readRefused f)) (refuses (readRefused g)) → f ≡ g
+  same-refusal f g e = same-read-refusal f g (same-told (readRefused f) (readRefused g) e)
 
-  refusal-in : (f : ReadRefusal) → refusalIn (readRefused f) ≡ f
-  unfolding refusalIn
-  refusal-in f = ap refusalIn (read-refuses f) ∙ read-back f
-
-  same-refusal : (f g : ReadRefusal) → readRefused {A = A} f ≡ readRefused g → f ≡ g
-  same-refusal f g e = sym (refusal-in f) ∙ ap refusalIn e ∙ refusal-in g
-
-  not-given : (a : A) (f : ReadRefusal) → gives a ≡ readRefused f → ⊥
-  not-given a f e = let h : gives a ≡ refuses (numberOf f) (offsetOf f) = e ∙ read-refuses f in let z : _≡_ {A = ℕ} 0 1 = cc in omega arith
+  not-given : (a : A) (f : ReadRefusal) → gives a ≡ refuses (readRefused f) → ⊥
+  not-given a f e = not-refused a (readRefused f) e
 
 -- ---- readers
 
@@ -88,7 +81,7 @@ one-reply s a b p q =
 
 abbrev writeOf : Told (Unit {0}) → WriteAnswer
 writeOf (gives _) = Written
-writeOf (refuses number offset) = cond (eqb number RECORD) (Refused (Record offset)) (Refused Room)
+writeOf (refuses f) = cond (eqb (f .number) (RECORD 0 .number)) (Refused (Record (f .offset))) (Refused Room)
 
 write-of : (a : WriteAnswer) → writeOf (writeTold a) ≡ a
 write-of Written = refl

@@ -7,6 +7,7 @@ use lib.IntN.{pos, negsuc}
 use lib.ListN.{set}
 use Rattle.digits.specs.declared.Number.the-variants.{Is}
 use Rattle.digits.specs.Text.{codes}
+use Rattle.digits.specs.Refusals.{plain, placed}
 use Rattle.digits.specs.Told.{Told, gives, refuses}
 use Rattle.times.specs.Clock.{clock}
 use Rattle.times.specs.Running.{runningTime}
@@ -25,7 +26,7 @@ Good {R} k s = (r : R) × (read k s ≡ gives r)
 
 -- a frame is turned away by FIELD, which is 5, with this offset
 abbrev pub FieldAt : {R : Type 0} → Kind R → List ℕ → ℕ → Type 0
-FieldAt k s at = read k s ≡ refuses 5 at
+FieldAt k s at = read k s ≡ refuses (placed 5 at)
 
 -- the answers to a frame with n bytes in turn, from a place on, each made 7Fh, which no field takes
 abbrev pub damaged : {R : Type 0} → Kind R → List ℕ → ℕ → ℕ → List (Told R)
@@ -35,7 +36,7 @@ damaged k s at (suc n) = read k (set s at 127) ∷ damaged k s (suc at) n
 -- FIELD with each of these offsets
 abbrev pub fieldsAt : {R : Type 0} → List ℕ → List (Told R)
 fieldsAt [] = []
-fieldsAt (at ∷ more) = refuses 5 at ∷ fieldsAt more
+fieldsAt (at ∷ more) = refuses (placed 5 at) ∷ fieldsAt more
 
 -- a request with this requester, letter, channel and run
 abbrev pub asking : String → String → String → String → List ℕ
@@ -94,12 +95,12 @@ pub record Worked : Type 0 where
   pub period-A : FieldAt dynamic (running "A" "00041" "00000") 39
   pub period-B : FieldAt dynamic (running "B" "00041" "00000") 39
   -- 9. nothing, and a lead byte alone
-  pub empty-request : read request [] ≡ refuses 1 0
-  pub empty-reply : read reply [] ≡ refuses 1 0
-  pub empty-dynamic : read dynamic [] ≡ refuses 1 0
-  pub lead-alone : read request (17 ∷ []) ≡ refuses 2 0
-  pub lead-to-reply : read reply (17 ∷ []) ≡ refuses 1 0
-  pub lead-to-dynamic : read dynamic (17 ∷ []) ≡ refuses 1 0
+  pub empty-request : read request [] ≡ refuses (plain 1)
+  pub empty-reply : read reply [] ≡ refuses (plain 1)
+  pub empty-dynamic : read dynamic [] ≡ refuses (plain 1)
+  pub lead-alone : read request (17 ∷ []) ≡ refuses (plain 2)
+  pub lead-to-reply : read reply (17 ∷ []) ≡ refuses (plain 1)
+  pub lead-to-dynamic : read dynamic (17 ∷ []) ≡ refuses (plain 1)
   -- 10. a sign between Z and a
   pub bracket : FieldAt request (asking "[" "1" "255" "001") 3
   -- 11. the lowest running time
@@ -109,15 +110,15 @@ pub record Worked : Type 0 where
   pub bib-60000 : FieldAt reply (replying "60000" "255" "1" "0001125400" "+0000000") 12
   pub running-60000 : Good dynamic (running "A" "60000" "00001")
   -- the refusals that no numbered case has: END, ADDRESS, RECORD with its offset, ROOM, TIME
-  pub line-feed : read request (17 ∷ (codes "R A012000411255001000S" ++ (10 ∷ []))) ≡ refuses 3 0
-  pub address-1 : read request (17 ∷ (codes "R1A012000411255001000S" ++ (13 ∷ []))) ≡ refuses 4 0
-  pub address-S : read reply (18 ∷ (codes "S SOEA000120004100000101525510001125400+0000000  " ++ (13 ∷ []))) ≡ refuses 4 0
-  pub record-251 : writeTried (wrongIn request (asked 251)) 24 24 ≡ refuses 6 16
-  pub room-23 : writeTried (wrongIn request (asked 250)) 24 23 ≡ refuses 7 0
+  pub line-feed : read request (17 ∷ (codes "R A012000411255001000S" ++ (10 ∷ []))) ≡ refuses (plain 3)
+  pub address-1 : read request (17 ∷ (codes "R1A012000411255001000S" ++ (13 ∷ []))) ≡ refuses (plain 4)
+  pub address-S : read reply (18 ∷ (codes "S SOEA000120004100000101525510001125400+0000000  " ++ (13 ∷ []))) ≡ refuses (plain 4)
+  pub record-251 : writeTried (wrongIn request (asked 251)) 24 24 ≡ refuses (placed 6 16)
+  pub room-23 : writeTried (wrongIn request (asked 250)) 24 23 ≡ refuses (plain 7)
   pub room-24 : writeTried (wrongIn request (asked 250)) 24 24 ≡ gives tt
   -- of two faults the one that is tried first is told (KIND before LENGTH and LENGTH before END are among the cases of a lead byte alone)
-  pub end-before-address : read request (17 ∷ (codes "S A012000411255001000S" ++ (10 ∷ []))) ≡ refuses 3 0
-  pub address-before-field : read request (17 ∷ (codes "S [012000411255001000S" ++ (13 ∷ []))) ≡ refuses 4 0
-  pub first-field : read request (17 ∷ (codes "R [012000411255251000x" ++ (13 ∷ []))) ≡ refuses 5 3
-  pub record-before-room : writeTried (wrongIn request (asked 251)) 24 0 ≡ refuses 6 16
-  pub time-of-none : runningTime (record { bib = 0; tnow = 0; tev = 1; sign = 0; days = 0; time = 0 }) ≡ refuses 8 0
+  pub end-before-address : read request (17 ∷ (codes "S A012000411255001000S" ++ (10 ∷ []))) ≡ refuses (plain 3)
+  pub address-before-field : read request (17 ∷ (codes "S [012000411255001000S" ++ (13 ∷ []))) ≡ refuses (plain 4)
+  pub first-field : read request (17 ∷ (codes "R [012000411255251000x" ++ (13 ∷ []))) ≡ refuses (placed 5 3)
+  pub record-before-room : writeTried (wrongIn request (asked 251)) 24 0 ≡ refuses (placed 6 16)
+  pub time-of-none : runningTime (record { bib = 0; tnow = 0; tev = 1; sign = 0; days = 0; time = 0 }) ≡ refuses (plain 8)

@@ -4,6 +4,7 @@ use mathlib.Core.List.{List, _++_}
 use mathlib.Core.Logic.{_↔_}
 use mathlib.Core.Path.{_≡_}
 use lib.ListN.{length, take, drop}
+use Rattle.digits.specs.declared.refusal.Refusal.{Refusal}
 use Rattle.digits.specs.Told.{gives, refuses}
 use Rattle.frames.specs.Kind.{Kind, read, wrongIn, frameOf, writeTried, outputAfter}
 
@@ -20,4 +21,4 @@ pub record Faithful {R : Type 0} (k : Kind R) (Whole : R → Type 0) : Type 0 wh
       → (writeTried (wrongIn k r) (k .size) (length out) ≡ gives tt) × (outputOf k r out ≡ s ++ drop (k .size) out)
   -- a frame is turned away exactly if no well formed record writes it
   pub turned-away : (s : List ℕ)
-      → ((number : ℕ) × (offset : ℕ) × (read k s ≡ refuses number offset)) ↔ ((r : R) → Whole r → wrongIn k r ≡ 0 → frameOf k r ≡ s → ⊥)
+      → ((f : Refusal) × (read k s ≡ refuses f)) ↔ ((r : R) → Whole r → wrongIn k r ≡ 0 → frameOf k r ≡ s → ⊥)

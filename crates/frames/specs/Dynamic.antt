@@ -7,7 +7,7 @@ use lib.ListN.{getD}
 use lib.Dec.{leb, eqb}
 use Rattle.digits.specs.Text.{codes, oneOf}
 use Rattle.digits.specs.Form.{byte, number}
-use Rattle.digits.specs.Told.{Told, gives}
+use Rattle.digits.specs.Told.{Told, gives, refuses}
 use Rattle.times.specs.Clock.{clock, isTime}
 use Rattle.frames.specs.declared.dynamic.DynamicRequest.{DynamicRequest}
 use Rattle.frames.specs.declared.dynamic.DynamicRead.{DynamicRead}
@@ -64,7 +64,7 @@ dynamic = record {
 -- what the reader's answer says on paper
 abbrev pub dynamicTold : DynamicRead → Told DynamicRequest
 dynamicTold (Request r) = gives r
-dynamicTold (Refused f) = readRefused f
+dynamicTold (Refused f) = refuses (readRefused f)
 
 -- what is promised of reading s
 abbrev pub DynamicAs : List ℕ → DynamicRead → Type 0

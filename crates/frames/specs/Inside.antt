@@ -7,6 +7,7 @@ use lib.IntN.{ℤ}
 use lib.ListN.{getD, replicate}
 use Rattle.digits.specs.declared.Number.{Number}
 use Rattle.digits.specs.declared.Number.the-variants.{Is as number-is, Wrong as number-wrong}
+use Rattle.digits.specs.Refusals.{FIELD}
 use Rattle.digits.specs.Told.{Told, gives, tried}
 use Rattle.digits.specs.Digits.{digits, numberAt}
 use Rattle.times.specs.declared.net.NetParts.{NetParts}
@@ -27,7 +28,6 @@ use Rattle.frames.specs.declared.timing.TimingKind.the-variants.{Clock a
 use Rattle.frames.specs.declared.timing.Timing.{Timing}
 use Rattle.frames.specs.declared.timing.Timing.the-variants.{Clock, Net, Raw}
 use Rattle.frames.specs.declared.timing.Seen.{Seen}
-use Rattle.frames.specs.Refusals.{FIELD}
 use Rattle.frames.specs.Rules.{between, upTo, isRaw, isRequester}
 use Rattle.frames.specs.Layout.{Layout, piece, end, unless}
 use Rattle.frames.specs.Timing.{timingKind, isSign, netOf, signOf, bytesOf}
@@ -187,7 +187,7 @@ unfoldable pub fieldsRead : List ℕ → ReplyRead
 fieldsRead s = judgedAs (replyAt s) (wrongAt s)
 
 unfoldable pub fieldsChecked : List ℕ → Told ReplyLabel
-fieldsChecked s = tried (eqb (wrongAt s) 0) FIELD (wrongAt s) (gives (labelOf (replyAt s)))
+fieldsChecked s = tried (eqb (wrongAt s) 0) (FIELD (wrongAt s)) (gives (labelOf (replyAt s)))
 
 abbrev pub headText : StaticReply → List ℕ
 headText r =

@@ -5,9 +5,10 @@ use mathlib.Core.Bool.{Bool, false, _&&_}
 use mathlib.Core.Path.{_≡_}
 use lib.ListN.{length, getD, drop}
 use lib.Dec.{eqb, leb}
+use Rattle.digits.specs.Refusals.{KIND, LENGTH, END, ADDRESS, FIELD, RECORD, ROOM}
 use Rattle.digits.specs.Told.{Told, gives, refuses, tried}
 use Rattle.frames.specs.declared.refusals.WriteAnswer.{WriteAnswer}
-use Rattle.frames.specs.Refusals.{KIND, LENGTH, END, ADDRESS, FIELD, RECORD, ROOM, writeTold}
+use Rattle.frames.specs.Refusals.{writeTold}
 use Rattle.frames.specs.Rules.{isAddress}
 use Rattle.frames.specs.Layout.{Layout, firstWrong, values, recordWrong, write}
 
@@ -35,24 +36,24 @@ leadIs lead (b ∷ s) = eqb b lead
 -- the refusals that go by lead byte, length and frame marks, in their order
 unfoldable pub headTold : ℕ → ℕ → List ℕ → Told (Unit {0})
 headTold lead size s =
-    tried (leadIs lead s) KIND 0
-    (tried (eqb (length s) size) LENGTH 0
-    (tried (eqb (getD s (size - 1) 0) CR) END 0
-    (tried (eqb (getD s 1 0) letterR && isAddress (getD s 2 0)) ADDRESS 0
+    tried (leadIs lead s) KIND
+    (tried (eqb (length s) size) LENGTH
+    (tried (eqb (getD s (size - 1) 0) CR) END
+    (tried (eqb (getD s 1 0) letterR && isAddress (getD s 2 0)) ADDRESS
     (gives tt))))
 
 module _ {A : Type 0} where
   -- a refusal stands, and after none the rest is tried
   abbrev pub andThen : Told (Unit {0}) → Told A → Told A
   andThen (gives _) rest = rest
-  andThen (refuses number offset) rest = refuses number offset
+  andThen (refuses f) rest = refuses f
 
 module _ {R : Type 0} (k : Kind R) where
   -- the head, then the fields
   unfoldable pub read : List ℕ → Told R
   read s =
       andThen (headTold (k .lead) (k .size) s)
-      (tried (eqb (firstWrong (k .fields) 3 s) 0) FIELD (firstWrong (k .fields) 3 s)
+      (tried (eqb (firstWrong (k .fields) 3 s) 0) (FIELD (firstWrong (k .fields) 3 s))
       (gives (k .ofValues (values (k .fields) 3 s))))
 
   -- ---- writing
@@ -67,12 +68,12 @@ module _ {R : Type 0} (k : Kind R) where
 
 -- the refusals of writing, in their order
 unfoldable pub writeTried : ℕ → ℕ → ℕ → Told (Unit {0})
-writeTried wrong size room = tried (eqb wrong 0) RECORD wrong (tried (leb size room) ROOM 0 (gives tt))
+writeTried wrong size room = tried (eqb wrong 0) (RECORD wrong) (tried (leb size room) ROOM (gives tt))
 
 -- an output after the writing of a frame: the frame in its first bytes, or no change
 abbrev pub outputAfter : Told (Unit {0}) → List ℕ → ℕ → List ℕ → List ℕ
 outputAfter (gives _) frame size out = frame ++ drop size out
-outputAfter (refuses number offset) frame size out = out
+outputAfter (refuses f) frame size out = out
 
 -- what is promised of writing the record r to the output out: the answer, and every byte
 pub record Wrote {R : Type 0} (k : Kind R) (r : R) (out : List ℕ) (answer : WriteAnswer) (out′ : List ℕ) : Type 0 where

@@ -99,11 +99,11 @@ zeroReply =
 -- what an answer says on paper
 abbrev pub toldBy : ReadVerdict → StaticReply → Told StaticReply
 toldBy Read r = gives r
-toldBy (Refused f) r = readRefused f
+toldBy (Refused f) r = refuses (readRefused f)
 
 abbrev pub orZero : Told StaticReply → StaticReply
 orZero (gives r) = r
-orZero (refuses number offset) = zeroReply
+orZero (refuses f) = zeroReply
 
 -- what is promised of reading s: the verdict, and the record beside it
 pub record ReadAs (s : List ℕ) (a : ReplyRead) : Type 0 where
@@ -117,11 +117,11 @@ labelOf r = record { status = r .status; requester = r .requester; number = r .n
 
 abbrev pub labelled : Told StaticReply → Told ReplyLabel
 labelled (gives r) = gives (labelOf r)
-labelled (refuses number offset) = refuses number offset
+labelled (refuses f) = refuses f
 
 abbrev pub checkTold : ReplyCheck → Told ReplyLabel
 checkTold (Good l) = gives l
-checkTold (Rejected f) = readRefused f
+checkTold (Rejected f) = refuses (readRefused f)
 
 -- what is promised of checking s
 abbrev pub CheckedAs : List ℕ → ReplyCheck → Type 0

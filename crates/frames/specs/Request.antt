@@ -7,7 +7,7 @@ use lib.ListN.{getD}
 use lib.Dec.{leb, eqb}
 use Rattle.digits.specs.Text.{codes, oneOf}
 use Rattle.digits.specs.Form.{byte, number}
-use Rattle.digits.specs.Told.{Told, gives}
+use Rattle.digits.specs.Told.{Told, gives, refuses}
 use Rattle.frames.specs.declared.request.StaticRequest.{StaticRequest}
 use Rattle.frames.specs.declared.request.RequestRead.{RequestRead}
 use Rattle.frames.specs.declared.request.RequestRead.the-variants.{Request, Refused}
@@ -54,7 +54,7 @@ request = record {
 -- what the reader's answer says on paper
 abbrev pub requestTold : RequestRead → Told StaticRequest
 requestTold (Request r) = gives r
-requestTold (Refused f) = readRefused f
+requestTold (Refused f) = refuses (readRefused f)
 
 -- what is promised of reading s
 abbrev pub RequestAs : List ℕ → RequestRead → Type 0

@@ -20,7 +20,7 @@ ghost use mathlib.Core.Path.{_≡_};
 ghost use lib.Seq.{sets};
 ghost use lib.Dec.{eqb};
 ghost use Rattle.digits.specs.Told.{gives, tried};
-ghost use Rattle.frames.specs.Refusals.{FIELD};
+ghost use Rattle.digits.specs.Refusals.{FIELD};
 ghost use Rattle.frames.specs.Kind.{wrongIn, frameOf, Wrote};
 ghost use Rattle.frames.specs.Inside.{held};
 ghost use Rattle.frames.specs.Dynamic.{isOrder, isChannel, leastPeriod, dynamic, dynamicFields, dynamicTold, DynamicAs};
@@ -96,7 +96,7 @@ fn dynamic_at(s: &[u8]) -> DynamicRequest
 }
 
 fn judged(r: DynamicRequest) -> DynamicRead
-    ensures { λ a. ⌜ dynamicTold a ≡ tried (eqb (wrongIn dynamic r) 0) FIELD (wrongIn dynamic r) (gives r) ⌝ }
+    ensures { λ a. ⌜ dynamicTold a ≡ tried (eqb (wrongIn dynamic r) 0) (FIELD (wrongIn dynamic r)) (gives r) ⌝ }
 {
     let wrong = dynamic_wrong(r);
     if wrong == 0 {

@@ -1,4 +1,10 @@
-// Why a frame or a record is turned away. Each has its number in the table of refusals.
+// Why a frame or a record is turned away, and what each says by the table of refusals.
+use digits::refusal as table;
+use digits::refusal::Refusal;
+use digits::refusal::placed;
+use digits::refusal::plain;
+ghost use mathlib.Core.Path.{_≡_};
+ghost use Rattle.frames.specs.Refusals.{readRefused, writeRefused};
 
 // Where a frame's first wrong field begins.
 pub struct Place {
@@ -28,4 +34,25 @@ pub enum WriteRefusal {
 pub enum WriteAnswer {
     Written,
     Refused(WriteRefusal),
+}
+
+pub fn of_reading(refusal: ReadRefusal) -> Refusal
+    ensures { λ r. ⌜ r ≡ readRefused refusal ⌝ }
+{
+    match refusal {
+        ReadRefusal::Kind => plain(table::KIND),
+        ReadRefusal::Length => plain(table::LENGTH),
+        ReadRefusal::End => plain(table::END),
+        ReadRefusal::Address => plain(table::ADDRESS),
+        ReadRefusal::Field(place) => placed(table::FIELD, place.field),
+    }
+}
+
+pub fn of_writing(refusal: WriteRefusal) -> Refusal
+    ensures { λ r. ⌜ r ≡ writeRefused refusal ⌝ }
+{
+    match refusal {
+        WriteRefusal::Record(at) => placed(table::RECORD, at),
+        WriteRefusal::Room => plain(table::ROOM),
+    }
 }

@@ -18,7 +18,7 @@ ghost use mathlib.Core.Path.{_≡_};
 ghost use lib.Seq.{sets};
 ghost use lib.Dec.{eqb};
 ghost use Rattle.digits.specs.Told.{gives, tried};
-ghost use Rattle.frames.specs.Refusals.{FIELD};
+ghost use Rattle.digits.specs.Refusals.{FIELD};
 ghost use Rattle.frames.specs.Kind.{wrongIn, frameOf, Wrote};
 ghost use Rattle.frames.specs.Inside.{held};
 ghost use Rattle.frames.specs.Request.{isInformation, isChannel, request, requestFields, requestTold, RequestAs};
@@ -89,7 +89,7 @@ fn request_at(s: &[u8]) -> StaticRequest
 }
 
 fn judged(r: StaticRequest) -> RequestRead
-    ensures { λ a. ⌜ requestTold a ≡ tried (eqb (wrongIn request r) 0) FIELD (wrongIn request r) (gives r) ⌝ }
+    ensures { λ a. ⌜ requestTold a ≡ tried (eqb (wrongIn request r) 0) (FIELD (wrongIn request r)) (gives r) ⌝ }
 {
     let wrong = request_wrong(r);
     if wrong == 0 {

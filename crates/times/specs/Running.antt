@@ -4,6 +4,7 @@ use mathlib.Core.Bool.{Bool, not, _&&_, _||_}
 use mathlib.Core.Path.{_≡_}
 use lib.Dec.{eqb, leb}
 use lib.IntN.{ℤ, pos, _-ℤ_}
+use Rattle.digits.specs.Refusals.{plain, TIME}
 use Rattle.digits.specs.Told.{Told, gives, refuses, tried}
 use Rattle.times.specs.declared.running.Running.{Running}
 use Rattle.times.specs.declared.running.Running.the-variants.{Ticks, Time}
@@ -22,15 +23,12 @@ abbrev pub taux : RunningOf → ℤ
 taux o = signed (eqb (o .sign) 1) (o .days * aDay + o .time)
 
 -- the only refusal: Tnow, Tev or Taux out of range
-abbrev pub TIME : ℕ
-TIME = 8
-
 unfoldable pub runningTime : RunningOf → Told ℤ
-runningTime o = tried (inRange o) TIME 0 (gives ((pos (o .tnow) -ℤ pos (o .tev)) -ℤ taux o))
+runningTime o = tried (inRange o) TIME (gives ((pos (o .tnow) -ℤ pos (o .tev)) -ℤ taux o))
 
 abbrev pub runningTold : Running → Told ℤ
 runningTold (Ticks v) = gives v
-runningTold Time = refuses TIME 0
+runningTold Time = refuses TIME
 
 -- what is promised of the answer
 abbrev pub RunningAs : RunningOf → Running → Type 0
@@ -39,9 +37,9 @@ RunningAs of r = runningTold r ≡ runningTime of
 -- worked cases: a minus covers days and time, and each number out of range is refused by 8
 pub record RunningWorked : Type 0 where
   pub minus : runningTime (record { bib = 1; tnow = 20; tev = 5; sign = 1; days = 1; time = 3 }) ≡ gives (pos 864000018)
-  pub tnow : runningTime (record { bib = 1; tnow = 864000000; tev = 0; sign = 0; days = 0; time = 0 }) ≡ refuses 8 0
-  pub tev : runningTime (record { bib = 1; tnow = 0; tev = 864000000; sign = 0; days = 0; time = 0 }) ≡ refuses 8 0
-  pub tev-of-none : runningTime (record { bib = 0; tnow = 0; tev = 1; sign = 0; days = 0; time = 0 }) ≡ refuses 8 0
-  pub sign : runningTime (record { bib = 1; tnow = 0; tev = 0; sign = 2; days = 0; time = 0 }) ≡ refuses 8 0
-  pub days : runningTime (record { bib = 1; tnow = 0; tev = 0; sign = 0; days = 10; time = 0 }) ≡ refuses 8 0
-  pub time : runningTime (record { bib = 1; tnow = 0; tev = 0; sign = 0; days = 0; time = 864000000 }) ≡ refuses 8 0
+  pub tnow : runningTime (record { bib = 1; tnow = 864000000; tev = 0; sign = 0; days = 0; time = 0 }) ≡ refuses (plain 8)
+  pub tev : runningTime (record { bib = 1; tnow = 0; tev = 864000000; sign = 0; days = 0; time = 0 }) ≡ refuses (plain 8)
+  pub tev-of-none : runningTime (record { bib = 0; tnow = 0; tev = 1; sign = 0; days = 0; time = 0 }) ≡ refuses (plain 8)
+  pub sign : runningTime (record { bib = 1; tnow = 0; tev = 0; sign = 2; days = 0; time = 0 }) ≡ refuses (plain 8)
+  pub days : runningTime (record { bib = 1; tnow = 0; tev = 0; sign = 0; days = 10; time = 0 }) ≡ refuses (plain 8)
+  pub time : runningTime (record { bib = 1; tnow = 0; tev = 0; sign = 0; days = 0; time = 864000000 }) ≡ refuses (plain 8)

@@ -1,7 +1,6 @@
 -- `desk::capture::dynamic_fate` meets its contract. Assumes nothing.
 use Rattle.desk.specs.Capture.{dynamicFate}
-use Rattle.desk.proofs.CaptureLaws.{dynamic-refused}
-use mathlib.Core.Path.{ap, _∙_}
+use mathlib.Core.Path.{ap}
 use borrow.Author.Needs.{needs}
 use Rattle.desk.proofs.capture.dynamic_fate.Statement.{statement}
 use Rattle.desk.proofs.capture.dynamic_fate.Tie as tie
@@ -19,7 +18,7 @@ returns : tie.Need-returns
 returns c = ap dynamicFate (rw (c .enum-told .given .1) at (c .before .before .read-dynamic .ensures))
 
 returns-2 : tie.Need-returns-2
-returns-2 c = dynamic-refused (c .enum-told2 .given .0 .0) ∙ ap dynamicFate (rw (c .enum-told2 .given .1) at (c .before .before .read-dynamic .ensures))
+returns-2 c = ap dynamicFate (rw (c .enum-told2 .given .1) at (c .before .before .read-dynamic .ensures))
 
 pub dynamic-fate-spec : {M : Type 1} → statement M
 dynamic-fate-spec =

@@ -1,6 +1,6 @@
 -- `desk::opening::judged` meets its contract. Assumes nothing.
-use denote.Ref.{now}
-use Rattle.desk.proofs.OutcomeLaws.{request-read, request-refused}
+use Rattle.desk.specs.Calls.{requestTried}
+use Rattle.desk.proofs.OutcomeLaws.{given-on}
 use mathlib.Core.Path.{_∙_}
 use borrow.Author.Needs.{needs}
 use Rattle.desk.proofs.opening.judged.Statement.{statement}
@@ -19,10 +19,14 @@ enum-known-refusal : tie.Need-enum-known-refusal
 enum-known-refusal c = search needs
 
 returns : tie.Need-returns
-returns c = let a = c .before .before .before .before .before .before .args in c .request-judged .ensures ∙ request-read (now (a .frame)) (a .row) (a .bits) _ _ (c .before .before .before .before .read-request .ensures) (c .before .before .r .given .1)
+returns c =
+    let a = c .before .before .before .before .before .before .args in
+    c .request-judged .ensures ∙ given-on (requestTried (a .row) (a .bits)) (rw (c .before .before .r .given .1) at (c .before .before .before .before .read-request .ensures))
 
 returns-2 : tie.Need-returns-2
-returns-2 c = let a = c .before .before .before .before .before .args in request-refused (now (a .frame)) (a .row) (a .bits) _ (c .before .refusal .given .0 .0) (c .before .before .before .read-request .ensures) (c .before .refusal .given .1)
+returns-2 c =
+    let a = c .before .before .before .before .before .args in
+    given-on (requestTried (a .row) (a .bits)) (rw (c .before .refusal .given .1) at (c .before .before .before .read-request .ensures))
 
 pub judged-spec : {M : Type 1} → statement M
 judged-spec =

@@ -2,7 +2,6 @@
 use mathlib.Core.Path.{sym, _∙_}
 use denote.Ref.{now}
 use Rattle.desk.specs.Memory.{Memory, memory}
-use Rattle.desk.specs.declared.opening.OpenRefusal.the-variants.{Desk}
 use Rattle.desk.proofs.OutcomeLaws.{open-off, not-opened}
 use borrow.Author.Needs.{needs}
 use Rattle.desk.proofs.opening.open.Statement.{statement}
@@ -24,7 +23,7 @@ returns : tie.Need-returns
 returns c = rw (c .with-seat .ensures) (c .before .before .before .open-on-desk .ensures .1)
 
 returns-2 : tie.Need-returns-2
-returns-2 c = not-opened (M (c .before)) (now (c .before .before .before .before .before .args .frame)) Desk (open-off (M (c .before)) (now (c .before .before .before .before .before .args .frame)) (sym (c .before .is-desk .ensures) ∙ c .if1 .left))
+returns-2 c = not-opened (M (c .before)) (now (c .before .before .before .before .before .args .frame)) _ (open-off (M (c .before)) (now (c .before .before .before .before .before .args .frame)) (sym (c .before .is-desk .ensures) ∙ c .if1 .left))
 
 pub open-spec : {M : Type 1} → statement M
 open-spec =

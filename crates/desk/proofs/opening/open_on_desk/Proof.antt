@@ -5,10 +5,10 @@ use native.Mathlib.Omega.{arith}
 use Prim.Native.Nat.{ℕ}
 use denote.Ref.{now}
 use lib.ListN.{set}
-use Rattle.digits.specs.Told.{gives}
+use Rattle.digits.specs.Told.{gives, refuses}
 use Rattle.desk.specs.Memory.{Memory, memory}
 use Rattle.desk.specs.Calls.{openTried, opens, openRefused, Did}
-use Rattle.desk.specs.Inside.{openJudged}
+use Rattle.desk.specs.inside.Judging.{openJudged}
 use Rattle.desk.proofs.StepLaws.{Opens, opens-taken}
 use Rattle.desk.proofs.OutcomeLaws.{same-first, open-on, opening-done, not-opened}
 use borrow.Author.Needs.{needs}
@@ -37,7 +37,7 @@ enum-known-opening : tie.Need-enum-known-opening
 enum-known-opening c = search needs
 
 opened-state-requires : tie.Need-opened-state-requires
-opened-state-requires c κs = (known (c .before .before) .below, known (c .before .before) .facts .bits)
+opened-state-requires c κs = let k = known (c .before .before) in (k .below, (k .facts .bits, k .clear))
 
 new-seat-requires : tie.Need-new-seat-requires
 new-seat-requires c κs = search needs
@@ -56,7 +56,7 @@ returns-2 c =
     let m = M (c .before .before .before .before) in
     let f = F (c .before .before .before .before) in
     let r = c .before .before .refusal .given .0 .0 in
-    (omega arith, subst (λ (x : Memory). Did (openRefused r) x (opens m f)) (sym (same-first m)) (not-opened m f r (rw (c .before .before .refusal .given .1) at (tried (c .before .before .before .before)))))
+    (omega arith, subst (λ (x : Memory). Did (refuses (openRefused r)) x (opens m f)) (sym (same-first m)) (not-opened m f (openRefused r) (rw (c .before .before .refusal .given .1) at (tried (c .before .before .before .before)))))
 
 pub open-on-desk-spec : {M : Type 1} → statement M
 open-on-desk-spec =

@@ -9,12 +9,13 @@ use Prim.Native.Nat.{ℕ, _+_, _-_, _≤_, _<_}
 use borrow.Author.Needs.{needs}
 use Rattle.desk.proofs.reply.put_cell.Statement.{statement}
 use Rattle.desk.proofs.reply.put_cell.Tie as tie
+use Rattle.desk.specs.Limits.{cellSize}
 
 abbrev Inv-loop : tie.InvT-loop
-Inv-loop cells₀ at frame j₀ cells j = (j ≤ 51) × (cells ≡ paste cells₀ at frame j) × (length cells ≡ length cells₀)
+Inv-loop cells₀ at frame j₀ cells j = (j ≤ cellSize) × (cells ≡ paste cells₀ at frame j) × (length cells ≡ length cells₀)
 
 abbrev μ-loop : tie.MeasureT-loop
-μ-loop cells₀ at frame j₀ cells j = 51 - j
+μ-loop cells₀ at frame j₀ cells j = cellSize - j
 
 loop-holds : tie.Need-loop-holds Inv-loop μ-loop
 loop-holds c = (search needs, paste-zero (c .args .cells .now) (c .args .at) (c .args .frame .now), refl)
@@ -52,7 +53,7 @@ same-length : tie.Need-same-length Inv-loop μ-loop
 same-length c = search needs
 
 returns : tie.Need-returns Inv-loop μ-loop
-returns c = let e : c .before .loop .j ≡ 51 = omega arith in c .before .loop .inv .1 ∙ ap (paste (c .before .before .args .cells .now) (c .before .before .args .at) (c .before .before .args .frame .now)) e
+returns c = let e : c .before .loop .j ≡ cellSize = omega arith in c .before .loop .inv .1 ∙ ap (paste (c .before .before .args .cells .now) (c .before .before .args .at) (c .before .before .args .frame .now)) e
 
 pub put-cell-spec : {M : Type 1} → statement M
 put-cell-spec =

@@ -2,7 +2,6 @@
 use mathlib.Core.Path.{sym, _∙_}
 use denote.Ref.{now}
 use Rattle.desk.specs.Memory.{Memory, memory}
-use Rattle.desk.specs.declared.reply.ReplyRefusal.the-variants.{Desk}
 use Rattle.desk.proofs.OutcomeLaws.{reply-off, not-taken}
 use borrow.Author.Needs.{needs}
 use Rattle.desk.proofs.reply.reply.Statement.{statement}
@@ -36,7 +35,7 @@ same-length-4 : tie.Need-same-length-4
 same-length-4 c = search needs
 
 returns-2 : tie.Need-returns-2
-returns-2 c = not-taken (M (c .before)) (now (c .before .before .before .before .before .before .before .args .frame)) Desk (reply-off (M (c .before)) (now (c .before .before .before .before .before .before .before .args .frame)) (sym (c .before .is-desk .ensures) ∙ c .if1 .left))
+returns-2 c = not-taken (M (c .before)) (now (c .before .before .before .before .before .before .before .args .frame)) _ (reply-off (M (c .before)) (now (c .before .before .before .before .before .before .before .args .frame)) (sym (c .before .is-desk .ensures) ∙ c .if1 .left))
 
 pub reply-spec : {M : Type 1} → statement M
 reply-spec =

@@ -5,10 +5,11 @@ use native.Mathlib.Omega.{arith}
 use Prim.Native.Nat.{ℕ, _+_, _*_}
 use denote.Ref.{now}
 use lib.ListN.{set}
-use Rattle.digits.specs.Told.{gives}
+use Rattle.digits.specs.Told.{gives, refuses}
+use Rattle.desk.specs.Limits.{cellSize}
 use Rattle.desk.specs.Memory.{Memory, memory}
 use Rattle.desk.specs.Calls.{replyTried, replies, replyRefused, Did}
-use Rattle.desk.specs.Inside.{replyJudged}
+use Rattle.desk.specs.inside.Judging.{replyJudged}
 use Rattle.desk.proofs.StepLaws.{took, Room, took-room}
 use Rattle.desk.proofs.OutcomeLaws.{same-first, reply-on, with-cell, reply-done, not-taken}
 use borrow.Author.Needs.{needs}
@@ -90,14 +91,14 @@ same-length-2 : tie.Need-same-length-2
 same-length-2 c = search needs
 
 returns : tie.Need-returns
-returns c = (room (c .before .before .before .before .before .before .before) .seat, reply-done (M (c .before .before .before .before .before .before .before .before .before)) (F (c .before .before .before .before .before .before .before .before .before)) (c .before .before .before .before .before .before .before .taking .given .0 .0) _ (judged-takes (c .before .before .before .before .before .before .before)) (λ i. record { row = set (c .before .before .before .before .before .before .before .before .before .before .before .before .before .before .before .args .t2) (c .before .before .before .before .before .before .before .taking .given .0 .0 .seat) (c .grown-seat .ensures i); bits = c .before .before .before .before .before .before .before .before .before .before .before .before .before .before .before .args .desk .bits; count = c .before .before .before .before .before .before .before .before .before .before .before .before .before .before .before .args .desk .count + 1; cells = (c .before .before .before .before .put-cell .ensures ∙ with-cell (now (c .before .before .before .before .before .before .before .before .before .before .before .before .before .before .before .args .cells)) (c .before .before .before .before .before .before .before .before .before .before .before .before .before .before .before .args .desk .count * 51) (F (c .before .before .before .before .before .before .before .before .before)) (room (c .before .before .before .before .before .before .before) .frame)) i; marks = set (now (c .before .before .before .before .before .before .before .before .before .before .before .before .before .before .before .args .marks)) (c .before .before .before .before .before .before .before .before .before .before .before .before .before .before .before .args .desk .count) (c .before .before .before .before .before .before .before .taking .given .0 .0 .seat) }))
+returns c = (room (c .before .before .before .before .before .before .before) .seat, reply-done (M (c .before .before .before .before .before .before .before .before .before)) (F (c .before .before .before .before .before .before .before .before .before)) (c .before .before .before .before .before .before .before .taking .given .0 .0) _ (judged-takes (c .before .before .before .before .before .before .before)) (λ i. record { row = set (c .before .before .before .before .before .before .before .before .before .before .before .before .before .before .before .args .t2) (c .before .before .before .before .before .before .before .taking .given .0 .0 .seat) (c .grown-seat .ensures i); bits = c .before .before .before .before .before .before .before .before .before .before .before .before .before .before .before .args .desk .bits; count = c .before .before .before .before .before .before .before .before .before .before .before .before .before .before .before .args .desk .count + 1; cells = (c .before .before .before .before .put-cell .ensures ∙ with-cell (now (c .before .before .before .before .before .before .before .before .before .before .before .before .before .before .before .args .cells)) (c .before .before .before .before .before .before .before .before .before .before .before .before .before .before .before .args .desk .count * cellSize) (F (c .before .before .before .before .before .before .before .before .before)) (room (c .before .before .before .before .before .before .before) .frame)) i; marks = set (now (c .before .before .before .before .before .before .before .before .before .before .before .before .before .before .before .args .marks)) (c .before .before .before .before .before .before .before .before .before .before .before .before .before .before .before .args .desk .count) (c .before .before .before .before .before .before .before .taking .given .0 .0 .seat) }))
 
 returns-2 : tie.Need-returns-2
 returns-2 c =
     let m = M (c .before .before .before .before) in
     let f = F (c .before .before .before .before) in
     let r = c .before .before .refusal .given .0 .0 in
-    (omega arith, subst (λ (x : Memory). Did (replyRefused r) x (replies m f)) (sym (same-first m)) (not-taken m f r (rw (c .before .before .refusal .given .1) at (tried (c .before .before .before .before)))))
+    (omega arith, subst (λ (x : Memory). Did (refuses (replyRefused r)) x (replies m f)) (sym (same-first m)) (not-taken m f (replyRefused r) (rw (c .before .before .refusal .given .1) at (tried (c .before .before .before .before)))))
 
 pub reply-on-desk-spec : {M : Type 1} → statement M
 reply-on-desk-spec =

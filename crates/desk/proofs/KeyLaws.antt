@@ -1,0 +1,48 @@
+-- Laws of keys, and that a request that was read has a legal one. Assumes nothing.
+use Prim.Native.Nat.{ℕ}
+use mathlib.Core.List.{List}
+use mathlib.Core.Bool.{true}
+use mathlib.Core.Path.{_≡_, refl}
+use native.Mathlib.Omega.{arith}
+use lib.Dec.{eqb, leb}
+use borrow.Author.Tests.{eqb-true, eq-eqb}
+use Rattle.digits.specs.Told.{gives}
+use Rattle.digits.proofs.Tests.{and-l, and-r, and-true}
+use Rattle.frames.specs.declared.request.StaticRequest.{StaticRequest}
+use Rattle.frames.specs.Rules.{upTo, isRequester}
+use Rattle.frames.specs.Layout.{firstWrong, values, recordWrong}
+use Rattle.frames.specs.Kind.{headTold, read, wrongIn}
+use Rattle.frames.specs.Request.{request, requestFields}
+use Rattle.frames.proofs.HeadLaws.{tried-gives, then-gives}
+use Rattle.frames.proofs.LayoutLaws.{unless-none, values-fine}
+use Rattle.frames.proofs.RequestLaws.{request-plain}
+use Rattle.desk.specs.declared.key.Key.{Key}
+use Rattle.desk.specs.Key.{requestKey, sameKey, isKey}
+
+pub same-key : (a b : Key) → sameKey a b ≡ true → a ≡ b
+unfolding sameKey
+same-key a b h =
+    let p = eqb-true _ _ (and-l (eqb (a .requester) (b .requester)) _ h) in
+    let q = eqb-true _ _ (and-r (eqb (a .requester) (b .requester)) _ h) in
+    λ i. record { requester = p i; number = q i }
+
+pub own-key : (k : Key) → sameKey k k ≡ true
+unfolding sameKey
+own-key k = and-true (eq-eqb (k .requester) (k .requester) refl) (eq-eqb (k .number) (k .number) refl)
+
+read-fine : (f : List ℕ) (r : StaticRequest) → read request f ≡ gives r → wrongIn request r ≡ 0
+unfolding read wrongIn
+read-fine f r e =
+    let h = then-gives (headTold 17 24 f) _ r e in
+    let t = tried-gives (eqb (firstWrong requestFields 3 f) 0) _ _ r (h .1) in
+    let is : request .ofValues (values requestFields 3 f) ≡ r = let g = t .1 in cc in
+    let z = eqb-true (firstWrong requestFields 3 f) 0 (t .0) in
+    rw (← is, request-plain .again f) (values-fine (request-plain .sound) 3 f z)
+
+-- a request that was read has a legal key
+pub request-legal : (f : List ℕ) (r : StaticRequest) → read request f ≡ gives r → isKey (requestKey r) ≡ true
+unfolding wrongIn requestFields recordWrong isKey upTo
+request-legal f r e =
+    let a = unless-none (isRequester (r .requester)) 3 _ (omega arith) (read-fine f r e) in
+    let b = unless-none (leb (r .number) 999) 4 _ (omega arith) (a .1) in
+    and-true (a .0) (b .0)

@@ -1,0 +1,23 @@
+// What the desk goes by in a reply: whether it ends its request, and whether it is in its place.
+ghost use mathlib.Core.Path.{_≡_};
+ghost use Rattle.desk.specs.Hearing.{ends, endedBy, inPlace};
+
+// An E or a Z ends a request.
+pub fn ends_with(status: u8) -> bool
+    ensures { λ r. ⌜ r ≡ ends status ⌝ }
+{
+    (status == 69) | (status == 90)
+}
+
+// A Z is taken only as first record.
+pub fn in_place(held: u32, status: u8) -> bool
+    ensures { λ r. ⌜ r ≡ inPlace held status ⌝ }
+{
+    (status != 90) | (held == 0)
+}
+
+pub fn ended_by(status: u8) -> u32
+    ensures { λ r. ⌜ r ≡ endedBy status ⌝ }
+{
+    if ends_with(status) { 1 } else { 0 }
+}

@@ -1,0 +1,76 @@
+// Keys: who asked, and by which number.
+use crate::limits::SEATS;
+use crate::state::Seat;
+use frames::reply::ReplyLabel;
+ghost use mathlib.Core.Path.{_≡_};
+ghost use Prim.Native.Nat.{_<_};
+ghost use Rattle.desk.specs.Key.{keyIn, seatKey, sameKey, isKey};
+ghost use Rattle.desk.specs.Seats.{usedBit, keyed, seatWith};
+
+// Requester by its code.
+pub struct Key {
+    pub requester: u32,
+    pub number: u32,
+}
+
+pub fn key_of(seat: Seat) -> Key
+    ensures { λ r. ⌜ r ≡ seatKey seat ⌝ }
+{
+    Key {
+        requester: seat.requester,
+        number: seat.number,
+    }
+}
+
+pub fn key_in(label: ReplyLabel) -> Key
+    ensures { λ r. ⌜ r ≡ keyIn label ⌝ }
+{
+    Key {
+        requester: label.requester as u32,
+        number: label.number,
+    }
+}
+
+pub fn same_key(a: Key, b: Key) -> bool
+    ensures { λ r. ⌜ r ≡ sameKey a b ⌝ }
+{
+    (a.requester == b.requester) & (a.number == b.number)
+}
+
+// A key that a static request can have.
+pub fn is_key(k: Key) -> bool
+    ensures { λ r. ⌜ r ≡ isKey k ⌝ }
+{
+    let q = k.requester;
+    (((48 <= q) & (q <= 57)) | ((65 <= q) & (q <= 90)) | ((97 <= q) & (q <= 122)))
+        & (k.number <= 999)
+}
+
+pub fn used(bits: u64, i: usize) -> bool
+    requires { ⌜ i < 64 ⌝ }
+    ensures { λ r. ⌜ r ≡ usedBit bits i ⌝ }
+{
+    (bits >> i) % 2 == 1
+}
+
+// In use, with this key.
+pub fn has_key(seat: Seat, bits: u64, i: usize, key: Key) -> bool
+    requires { ⌜ i < 64 ⌝ }
+    ensures { λ r. ⌜ r ≡ keyed seat bits i key ⌝ }
+{
+    used(bits, i) & same_key(key_of(seat), key)
+}
+
+// The seat with this key, SEATS where there is none.
+pub fn find(row: [Seat; SEATS], bits: u64, key: Key) -> usize
+    ensures { λ r. ⌜ r ≡ seatWith row bits key ⌝ }
+{
+    let mut i: usize = 0;
+    while i < SEATS {
+        if has_key(row[i], bits, i, key) {
+            return i;
+        }
+        i += 1;
+    }
+    i
+}

@@ -1,0 +1,37 @@
+-- Laws of texts put one after the other. Assumes nothing.
+use Prim.Native.Nat.{ℕ, _+_, _≤_}
+use mathlib.Core.List.{List, [], _++_}
+use mathlib.Core.Path.{_≡_, refl, sym, ap, ap₂, _∙_}
+use native.Mathlib.Omega.{arith}
+use lib.ListN.{length, length-append}
+use lib.Seq.{sets, length-sets}
+use Rattle.digits.proofs.Tests.{by-less}
+use Rattle.digits.proofs.Writing.{sets-append, sets-beyond}
+use Rattle.text.specs.Put.{mostPlace, placeAfter, Put}
+
+pub put-none : (out : List ℕ) (at : ℕ) → at ≤ mostPlace → Put out at [] at out
+put-none out at h = record { next = omega arith; bytes = refl }
+
+-- a place past the end
+pub put-beyond : (out : List ℕ) (at : ℕ) (text : List ℕ) (end : ℕ) → length out ≤ at → end ≡ placeAfter at (length text) → Put out at text end out
+put-beyond out at text end h e = record { next = e; bytes = sym (sets-beyond out at text h) }
+
+-- from the place after another text on
+after : (out : List ℕ) (at : ℕ) (a b : List ℕ) → length out ≤ mostPlace → sets (sets out at a) (placeAfter at (length a)) b ≡ sets out at (a ++ b)
+after out at a b l =
+    by-less (at + length a) mostPlace
+    (λ h.
+    let e : placeAfter at (length a) ≡ at + length a = omega arith in
+    rw e (sym (sets-append out at a b)))
+    (λ h.
+    let n = length-sets out at a in
+    sets-beyond (sets out at a) (placeAfter at (length a)) b (omega arith)
+    ∙ sym (sets-append out at a b ∙ sets-beyond (sets out at a) (at + length a) b (omega arith)))
+
+-- two texts put one after the other are both put as one
+pub put-then : (out : List ℕ) (at : ℕ) (a : List ℕ) (p : ℕ) (mid : List ℕ) (b : List ℕ) (q : ℕ) (out′ : List ℕ)
+    → length out ≤ mostPlace → Put out at a p mid → Put mid p b q out′ → Put out at (a ++ b) q out′
+put-then out at a p mid b q out′ l x y = record {
+  next = let n = length-append a b in omega (arith, x .next, y .next, n);
+  bytes = y .bytes ∙ ap₂ (λ (m : List ℕ) (i : ℕ). sets m i b) (x .bytes) (x .next) ∙ after out at a b l;
+}
