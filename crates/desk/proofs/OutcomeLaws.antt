@@ -1,11 +1,10 @@
 -- How the steps of a call make up its outcome. Assumes nothing.
-use Prim.Native.Nat.{ℕ, _+_}
+use Prim.Native.Nat.{ℕ, _+_, _≤_}
 use mathlib.Core.List.{List, _++_}
 use mathlib.Core.Bool.{Bool, true, false}
-use mathlib.Core.Path.{_≡_, refl, ap}
-use native.Mathlib.Omega.{arith}
+use mathlib.Core.Path.{_≡_, refl, ap, _∙_}
 use lib.ListN.{length, set, take, drop}
-use lib.Seq.{paste, take-all, set-getD}
+use lib.Seq.{sets, sets-eq, set-getD}
 use lib.Dec.{ltb}
 use Rattle.digits.specs.declared.refusal.Refusal.{Refusal}
 use Rattle.digits.specs.Refusals.{DESK}
@@ -67,9 +66,11 @@ module _ (m : Memory) (f : List ℕ) where
 
 -- ---- the outcome of a reply
 
--- a copy of all of a frame
-pub with-cell : (cells : List ℕ) (at : ℕ) (f : List ℕ) → length f ≡ cellSize → paste cells at f cellSize ≡ withCell cells at f
-with-cell cells at f l = ap (λ (x : List ℕ). take at cells ++ x ++ drop (at + cellSize) cells) (take-all cellSize f (omega arith))
+-- a frame stored byte by byte
+pub with-cell : (cells : List ℕ) (at : ℕ) (f : List ℕ) → at + cellSize ≤ length cells → length f ≡ cellSize → sets cells at f ≡ withCell cells at f
+with-cell cells at f room full =
+    let h : at + length f ≤ length cells = rw full room in
+    sets-eq f cells at h ∙ ap (λ (n : ℕ). take at cells ++ f ++ drop (at + n) cells) full
 
 module _ (m : Memory) (f : List ℕ) where
   pub reply-done : (t : Taking) (after : Memory) → gives t ≡ replyTried m f → after ≡ taken m f t → Did (gives (t .seat)) after (replies m f)

@@ -1,7 +1,7 @@
 // Reading records back: which cells a seat holds.
 use crate::state::Desk;
 use crate::state::capacity;
-use crate::state::least;
+use digits::least;
 ghost use mathlib.Core.Path.{_≡_};
 ghost use Rattle.desk.specs.Calls.{nextHeld};
 

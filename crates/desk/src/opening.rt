@@ -6,7 +6,11 @@ use crate::state::Desk;
 use crate::limits::SEATS;
 use crate::state::Seat;
 use crate::state::with_seat;
+use digits::refusal as table;
+use digits::refusal::Refusal;
+use digits::refusal::plain;
 use frames::refusals::ReadRefusal;
+use frames::refusals::of_reading;
 use frames::request::RequestRead;
 use frames::request::StaticRequest;
 use frames::request::read_request;
@@ -17,7 +21,7 @@ ghost use Rattle.desk.specs.Limits.{seatCount};
 ghost use Rattle.desk.specs.Memory.{memory};
 ghost use Rattle.desk.specs.Key.{requestKey};
 ghost use Rattle.desk.specs.Seats.{usedBit, lowestClear};
-ghost use Rattle.desk.specs.Calls.{whatIsGiven, newSeat, opens, openTold, requestTried, keyTried, Did, OpenDid};
+ghost use Rattle.desk.specs.Calls.{whatIsGiven, newSeat, opens, openRefused, openTold, requestTried, keyTried, Did, OpenDid};
 ghost use Rattle.desk.specs.Desk.{isDesk};
 ghost use Rattle.frames.specs.Kind.{read};
 ghost use Rattle.frames.specs.Request.{request};
@@ -33,9 +37,21 @@ pub enum OpenRefusal {
     NoSeat,
 }
 
+pub fn of_opening(refusal: OpenRefusal) -> Refusal
+    ensures { λ r. ⌜ r ≡ openRefused refusal ⌝ }
+{
+    match refusal {
+        OpenRefusal::Desk => plain(table::DESK),
+        OpenRefusal::Frame(of_frame) => of_reading(of_frame),
+        OpenRefusal::NoAnswerDue => plain(table::NO_ANSWER_DUE),
+        OpenRefusal::InUse => plain(table::IN_USE),
+        OpenRefusal::NoSeat => plain(table::NO_SEAT),
+    }
+}
+
 // Opened with its seat.
 pub enum OpenAnswer {
-    Opened(usize),
+    Opened(u32),
     Refused(OpenRefusal),
 }
 
@@ -102,7 +118,7 @@ pub(crate) fn open_on_desk(
             let at = opening.seat;
             let key = opening.key;
             OpenStep {
-                answer: OpenAnswer::Opened(at),
+                answer: OpenAnswer::Opened(at as u32),
                 desk: opened_state(desk, at),
                 at,
                 seat: new_seat(key),

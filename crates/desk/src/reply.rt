@@ -10,17 +10,21 @@ use crate::limits::SEATS;
 use crate::state::Seat;
 use crate::state::capacity;
 use crate::state::with_seat;
+use digits::put_bytes;
+use digits::refusal as table;
+use digits::refusal::Refusal;
+use digits::refusal::plain;
 use frames::refusals::ReadRefusal;
+use frames::refusals::of_reading;
 use frames::reply::ReplyCheck;
 use frames::reply::ReplyLabel;
 use frames::reply::check_reply;
 ghost use mathlib.Core.Path.{_≡_};
-ghost use Prim.Native.Nat.{_+_, _≤_, _<_};
-ghost use lib.ListN.{length, set};
-ghost use lib.Seq.{paste};
-ghost use Rattle.desk.specs.Limits.{seatCount, cellSize, mostCells};
+ghost use Prim.Native.Nat.{_<_};
+ghost use lib.ListN.{set};
+ghost use Rattle.desk.specs.Limits.{seatCount, mostCells};
 ghost use Rattle.desk.specs.Memory.{memory};
-ghost use Rattle.desk.specs.Calls.{whatIsGiven, grown, replies, replyTold, labelTried, seatTried, Did, ReplyDid};
+ghost use Rattle.desk.specs.Calls.{whatIsGiven, grown, replies, replyRefused, replyTold, labelTried, seatTried, Did, ReplyDid};
 ghost use Rattle.desk.specs.Desk.{isDesk};
 ghost use Rattle.desk.specs.Hearing.{heard};
 ghost use mathlib.Core.Bool.{true};
@@ -36,9 +40,22 @@ pub enum ReplyRefusal {
     Full,
 }
 
+pub fn of_reply(refusal: ReplyRefusal) -> Refusal
+    ensures { λ r. ⌜ r ≡ replyRefused refusal ⌝ }
+{
+    match refusal {
+        ReplyRefusal::Desk => plain(table::DESK),
+        ReplyRefusal::Frame(of_frame) => of_reading(of_frame),
+        ReplyRefusal::Stray => plain(table::STRAY),
+        ReplyRefusal::Ended => plain(table::ENDED),
+        ReplyRefusal::OutOfPlace => plain(table::OUT_OF_PLACE),
+        ReplyRefusal::Full => plain(table::FULL),
+    }
+}
+
 // Taken by its seat.
 pub enum ReplyAnswer {
-    Taken(usize),
+    Taken(u32),
     Refused(ReplyRefusal),
 }
 
@@ -112,10 +129,11 @@ pub(crate) fn reply_on_desk(
             let at = taking.seat;
             let bits = desk.bits;
             let count = desk.count;
-            put_cell(cells, count as usize * CELL_SIZE, frame);
-            marks[count as usize] = at as u32;
+            let seat = at as u32;
+            put_bytes(cells, count as usize * CELL_SIZE, frame);
+            marks[count as usize] = seat;
             ReplyStep {
-                answer: ReplyAnswer::Taken(at),
+                answer: ReplyAnswer::Taken(seat),
                 desk: Desk {
                     bits,
                     count: count + 1,
@@ -167,18 +185,6 @@ fn seat_judged(seat: Seat, free: bool, t: Taking) -> ReplyJudged
         ReplyJudged::Takes(t)
     } else {
         ReplyJudged::Refuses(ReplyRefusal::Full)
-    }
-}
-
-// A frame, from a place on.
-fn put_cell(cells: &mut [u8], at: usize, frame: &[u8])
-    requires { ⌜ (length (now frame) ≡ cellSize) × (at + cellSize ≤ length (now cells)) ⌝ }
-    ensures { λ _. ⌜ now (cells .exit) ≡ paste (now (cells .entry)) at (now (frame .entry)) cellSize ⌝ }
-{
-    let mut j: usize = 0;
-    while j < CELL_SIZE {
-        cells[at + j] = frame[j];
-        j += 1;
     }
 }
 

@@ -2,8 +2,9 @@
 use crate::limits::CELLS;
 use crate::limits::CELL_SIZE;
 use crate::limits::SEATS;
+use digits::least;
 ghost use mathlib.Core.Path.{_≡_};
-ghost use Prim.Native.Nat.{_<_, min};
+ghost use Prim.Native.Nat.{_<_};
 ghost use lib.ListN.{set};
 ghost use Rattle.desk.specs.Limits.{seatCount};
 ghost use Rattle.desk.specs.Memory.{capacityOf};
@@ -68,10 +69,4 @@ pub fn capacity(cells: usize, marks: usize) -> usize
     ensures { λ r. ⌜ r ≡ capacityOf cells marks ⌝ }
 {
     least(CELLS, least(cells / CELL_SIZE, marks))
-}
-
-pub(crate) fn least(a: usize, b: usize) -> usize
-    ensures { λ r. ⌜ r ≡ min a b ⌝ }
-{
-    if a < b { a } else { b }
 }

@@ -36,6 +36,9 @@ judged-requires c κs = search needs
 enum-known-opening : tie.Need-enum-known-opening
 enum-known-opening c = search needs
 
+cast-t14 : tie.Need-cast-t14
+cast-t14 c = let l = known (c .before .before) .below in omega (arith, l)
+
 opened-state-requires : tie.Need-opened-state-requires
 opened-state-requires c κs = let k = known (c .before .before) in (k .below, (k .facts .bits, k .clear))
 
@@ -45,11 +48,23 @@ new-seat-requires c κs = search needs
 enum-known-refusal : tie.Need-enum-known-refusal
 enum-known-refusal c = search needs
 
-array-copy-out-t20 : tie.Need-array-copy-out-t20
-array-copy-out-t20 c = search needs
+array-copy-out-t21 : tie.Need-array-copy-out-t21
+array-copy-out-t21 c = search needs
 
 returns : tie.Need-returns
-returns c = (known (c .before .before .before .before) .below, opening-done (M (c .before .before .before .before .before .before)) (F (c .before .before .before .before .before .before)) (c .before .before .before .before .opening .given .0 .0) _ (judged-opens (c .before .before .before .before)) (λ i. record { row = set (c .before .before .before .before .before .before .before .before .before .before .args .t2) (c .before .before .before .before .opening .given .0 .0 .seat) (c .new-seat .ensures i); bits = c .before .opened-state .ensures .0 i; count = c .before .opened-state .ensures .1 i; cells = now (c .before .before .before .before .before .before .before .before .before .before .args .cells); marks = now (c .before .before .before .before .before .before .before .before .before .before .args .marks) }))
+returns c =
+    let t = c .before .before .before .before in
+    let j = t .before .before in
+    let a = j .before .before .before .before .args in
+    let opening = t .opening .given .0 .0 in
+    let state = c .before .opened-state .ensures in
+    (known t .below, opening-done (M j) (F j) opening _ (judged-opens t) (λ i. record {
+      row = set (a .t2) (opening .seat) (c .new-seat .ensures i);
+      bits = state .0 i;
+      count = state .1 i;
+      cells = now (a .cells);
+      marks = now (a .marks);
+    }))
 
 returns-2 : tie.Need-returns-2
 returns-2 c =
@@ -64,9 +79,10 @@ open-on-desk-spec =
     (tie.spec
     judged-requires
     enum-known-opening
+    cast-t14
     opened-state-requires
     new-seat-requires
     enum-known-refusal
-    array-copy-out-t20
+    array-copy-out-t21
     returns
     returns-2)

@@ -45,20 +45,20 @@ judged-requires c κs = search needs
 enum-known-taking : tie.Need-enum-known-taking
 enum-known-taking c = search needs
 
-cast-put-cell : tie.Need-cast-put-cell
-cast-put-cell c = search needs
+cast-seat : tie.Need-cast-seat
+cast-seat c = let r = room (c .before) in omega (arith, r .seat)
 
-mul-put-cell : tie.Need-mul-put-cell
-mul-put-cell c = let r = room (c .before .before) in omega (arith, r .count)
+cast-put-bytes : tie.Need-cast-put-bytes
+cast-put-bytes c = search needs
 
-put-cell-requires : tie.Need-put-cell-requires
-put-cell-requires c κs = let r = room (c .before .before) in (r .frame, r .cells)
+mul-put-bytes : tie.Need-mul-put-bytes
+mul-put-bytes c = let r = room (c .before .before) in omega (arith, r .count)
+
+put-bytes-requires : tie.Need-put-bytes-requires
+put-bytes-requires c κs = search needs
 
 cast-marks : tie.Need-cast-marks
-cast-marks c = let r = room (c .before .before .before .before .before) in omega (arith, r .seat)
-
-cast-marks-2 : tie.Need-cast-marks-2
-cast-marks-2 c = search needs
+cast-marks c = search needs
 
 mul-marks : tie.Need-mul-marks
 mul-marks c = search needs
@@ -66,8 +66,8 @@ mul-marks c = search needs
 slice-write-marks : tie.Need-slice-write-marks
 slice-write-marks c = room (c .before .before .before .before .before) .marks
 
-add-t25 : tie.Need-add-t25
-add-t25 c = let r = room (c .before .before .before .before .before) in omega (arith, r .count)
+add-t28 : tie.Need-add-t28
+add-t28 c = let r = room (c .before .before .before .before .before) in omega (arith, r .count)
 
 mul-grown-seat : tie.Need-mul-grown-seat
 mul-grown-seat c = let r = room (c .before .before .before .before .before) in omega (arith, r .seat)
@@ -81,8 +81,8 @@ grown-seat-requires c κs = let r = room (c .before .before .before .before .bef
 enum-known-refusal : tie.Need-enum-known-refusal
 enum-known-refusal c = search needs
 
-array-copy-out-t36 : tie.Need-array-copy-out-t36
-array-copy-out-t36 c = search needs
+array-copy-out-t37 : tie.Need-array-copy-out-t37
+array-copy-out-t37 c = search needs
 
 same-length : tie.Need-same-length
 same-length c = search needs
@@ -91,7 +91,19 @@ same-length-2 : tie.Need-same-length-2
 same-length-2 c = search needs
 
 returns : tie.Need-returns
-returns c = (room (c .before .before .before .before .before .before .before) .seat, reply-done (M (c .before .before .before .before .before .before .before .before .before)) (F (c .before .before .before .before .before .before .before .before .before)) (c .before .before .before .before .before .before .before .taking .given .0 .0) _ (judged-takes (c .before .before .before .before .before .before .before)) (λ i. record { row = set (c .before .before .before .before .before .before .before .before .before .before .before .before .before .before .before .args .t2) (c .before .before .before .before .before .before .before .taking .given .0 .0 .seat) (c .grown-seat .ensures i); bits = c .before .before .before .before .before .before .before .before .before .before .before .before .before .before .before .args .desk .bits; count = c .before .before .before .before .before .before .before .before .before .before .before .before .before .before .before .args .desk .count + 1; cells = (c .before .before .before .before .put-cell .ensures ∙ with-cell (now (c .before .before .before .before .before .before .before .before .before .before .before .before .before .before .before .args .cells)) (c .before .before .before .before .before .before .before .before .before .before .before .before .before .before .before .args .desk .count * cellSize) (F (c .before .before .before .before .before .before .before .before .before)) (room (c .before .before .before .before .before .before .before) .frame)) i; marks = set (now (c .before .before .before .before .before .before .before .before .before .before .before .before .before .before .before .args .marks)) (c .before .before .before .before .before .before .before .before .before .before .before .before .before .before .before .args .desk .count) (c .before .before .before .before .before .before .before .taking .given .0 .0 .seat) }))
+returns c =
+    let t = c .before .before .before .before .before .before .before in
+    let j = t .before .before in
+    let a = j .before .before .before .before .before .before .args in
+    let taking = t .taking .given .0 .0 in
+    let stored = c .before .before .before .before .put-bytes .ensures ∙ with-cell (now (a .cells)) (a .desk .count * cellSize) (F j) (room t .cells) (room t .frame) in
+    (room t .seat, reply-done (M j) (F j) taking _ (judged-takes t) (λ i. record {
+      row = set (a .t2) (taking .seat) (c .grown-seat .ensures i);
+      bits = a .desk .bits;
+      count = a .desk .count + 1;
+      cells = stored i;
+      marks = set (now (a .marks)) (a .desk .count) (taking .seat);
+    }))
 
 returns-2 : tie.Need-returns-2
 returns-2 c =
@@ -108,19 +120,19 @@ reply-on-desk-spec =
     capacity-requires
     judged-requires
     enum-known-taking
-    cast-put-cell
-    mul-put-cell
-    put-cell-requires
+    cast-seat
+    cast-put-bytes
+    mul-put-bytes
+    put-bytes-requires
     cast-marks
-    cast-marks-2
     mul-marks
     slice-write-marks
-    add-t25
+    add-t28
     mul-grown-seat
     array-copy-out-grown-seat
     grown-seat-requires
     enum-known-refusal
-    array-copy-out-t36
+    array-copy-out-t37
     same-length
     same-length-2
     returns
