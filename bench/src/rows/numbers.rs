@@ -25,11 +25,11 @@ impl<T: Copy + Debug, A: Answer, C: Fn(&Side, T) -> A> Calls for Asking<T, C> {
 fn row<T: Copy + Debug + 'static, A: Answer + 'static>(
     call: &'static str,
     case: &str,
-    number: u32,
+    refusal: u32,
     inputs: Vec<T>,
     ask: impl Fn(&Side, T) -> A + 'static,
 ) -> Row {
-    Row::new(About::new(call, case, number, inputs.len()), Asking { inputs, call: ask })
+    Row::new(About::new(call, case, refusal, inputs.len()), Asking { inputs, call: ask })
 }
 
 /// The same with one part out of range, each part in turn.

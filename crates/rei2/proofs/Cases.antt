@@ -3,6 +3,7 @@ use Prim.Native.Nat.{ℕ}
 use mathlib.Core.Bool.{cond}
 use mathlib.Core.List.{List, [], _∷_, _++_}
 use mathlib.Core.Path.{_≡_, refl, ap, _∙_}
+use Rattle.digits.specs.Refusals.{DESK}
 use Rattle.digits.specs.Told.{gives, tried}
 use Rattle.digits.specs.Digits.{digits, numberAt, numberFrom}
 use Rattle.digits.specs.Text.{oneOf}
@@ -25,11 +26,11 @@ use Rattle.finder.specs.Pieces.{Piece, whole, cut, walk, piecesFrom, pieces, fo
 use Rattle.finder.proofs.Taken.{taken-are-found}
 use Rattle.desk.specs.Below.{allBelow, countBelow, first}
 use Rattle.desk.specs.Key.{sameKey, isKey}
-use Rattle.desk.specs.Call.{heard, ends, inPlace}
+use Rattle.desk.specs.Hearing.{heard, ends, inPlace}
 use Rattle.desk.specs.Seats.{keyed, seatWith, lowestClear}
 use Rattle.desk.specs.Memory.{Memory, capacityOf, recordsOf}
 use Rattle.desk.specs.Desk.{isZero, markNames, lastEnds, isDesk}
-use Rattle.desk.specs.Calls.{DESK, keyTried, requestTried, openTried, opens, seatTried, callTried, replyTried, replies, resets, nextHeld}
+use Rattle.desk.specs.Calls.{keyTried, requestTried, openTried, opens, seatTried, labelTried, replyTried, replies, resets, nextHeld}
 use Rattle.desk.specs.Capture.{captures, countsOf, meets, fates, afterAll, howMany}
 use Rattle.desk.specs.Mix.{run}
 use Rattle.desk.specs.Cases.{asking, replying, bare, asked}
@@ -50,7 +51,7 @@ unfolding first capacityOf nextHeld
 cells-held = record { first = refl; later = refl; no-more = refl; not-held = refl }
 
 desk-calls : DeskCalls
-unfolding numberAt numberFrom oneOf between upTo isRaw isRequester isOutput firstWrong values headTold read timingKind timeAndDate timed Q.isInformation Q.isChannel Q.requestFields P.isStatus P.isLetter P.isChannel P.leastRun P.replyFields allBelow countBelow first sameKey isKey heard ends inPlace keyed seatWith lowestClear capacityOf isZero markNames lastEnds isDesk keyTried requestTried openTried opens seatTried callTried replyTried replies resets run
+unfolding numberAt numberFrom oneOf between upTo isRaw isRequester isOutput firstWrong values headTold read timingKind timeAndDate timed Q.isInformation Q.isChannel Q.requestFields P.isStatus P.isLetter P.isChannel P.leastRun P.replyFields allBelow countBelow first sameKey isKey heard ends inPlace keyed seatWith lowestClear capacityOf isZero markNames lastEnds isDesk keyTried requestTried openTried opens seatTried labelTried replyTried replies resets run
 desk-calls = record {
   emptied = refl;
   not-emptied = refl;
@@ -78,7 +79,7 @@ desk-calls = record {
 
 capturedBy : Memory → List Piece → CapturedAnswer
 capturedBy m ps =
-    captureAnswer (stateIn (cond (isDesk m) (afterAll m ps) m)) (tried (isDesk m) DESK 0 (gives (countsOf (fates m ps))))
+    captureAnswer (stateIn (cond (isDesk m) (afterAll m ps) m)) (tried (isDesk m) DESK (gives (countsOf (fates m ps))))
 
 captured-by : (m : Memory) (s : List ℕ) (ps : List Piece) (a : CapturedAnswer) → pieces s ≡ ps → capturedBy m ps ≡ a → capturedOf (captures m s) ≡ a
 unfolding capturedBy
@@ -105,7 +106,7 @@ unfolding oneOf isLead walk piecesFrom
 request-and-leads = refl
 
 captures-taken : CapturesTaken
-unfolding capturedBy numberAt numberFrom oneOf between upTo isRaw isRequester isOutput firstWrong values headTold read timingKind timeAndDate timed Q.isInformation Q.isChannel Q.requestFields P.isStatus P.isLetter P.isChannel P.leastRun P.replyFields D.isOrder D.isChannel D.leastPeriod D.dynamicFields ticksOf allBelow countBelow first sameKey isKey heard ends inPlace keyed seatWith lowestClear capacityOf isZero markNames lastEnds isDesk keyTried requestTried openTried opens seatTried callTried replyTried replies meets fates afterAll howMany
+unfolding capturedBy numberAt numberFrom oneOf between upTo isRaw isRequester isOutput firstWrong values headTold read timingKind timeAndDate timed Q.isInformation Q.isChannel Q.requestFields P.isStatus P.isLetter P.isChannel P.leastRun P.replyFields D.isOrder D.isChannel D.leastPeriod D.dynamicFields ticksOf allBelow countBelow first sameKey isKey heard ends inPlace keyed seatWith lowestClear capacityOf isZero markNames lastEnds isDesk keyTried requestTried openTried opens seatTried labelTried replyTried replies meets fates afterAll howMany
 captures-taken = record {
   asked-and-cut = captured-by bare _ _ _ request-and-leads refl;
   replied = captured-by asked _ _ _ one-reply refl;

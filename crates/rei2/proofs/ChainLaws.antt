@@ -4,14 +4,15 @@ use mathlib.Core.Bool.{false}
 use mathlib.Core.List.{List, [], _∷_, _++_}
 use mathlib.Core.Path.{_≡_, refl, sym, ap, subst, _∙_}
 use native.Mathlib.Omega.{arith}
+use Rattle.digits.specs.Refusals.{DESK}
 use Rattle.digits.specs.Told.{Told, gives, refuses, Sure}
 use Rattle.digits.proofs.Sure.{never-0}
 use Rattle.digits.proofs.Tests.{by-test}
 use Rattle.desk.specs.declared.state.Seat.{Seat}
 use Rattle.desk.specs.Key.{requestKey}
 use Rattle.desk.specs.Memory.{Memory, memory, capacity}
-use Rattle.desk.specs.Desk.{sixteenSeats}
-use Rattle.desk.specs.Calls.{DESK, Outcome, resets, opens, replies, emptied}
+use Rattle.desk.specs.Desk.{allSeats}
+use Rattle.desk.specs.Calls.{Outcome, resets, opens, replies, emptied}
 use Rattle.desk.specs.Rule.{Frame}
 use Rattle.desk.specs.Mix.{Event, run, openings, repliesTo, Sorted}
 use Rattle.desk.proofs.SureLaws.{sure-opens}
@@ -49,12 +50,12 @@ chains-run m m′ es rs c = chain-runs c
 -- a reset that is done empties
 reset-done : (m : Memory) → numberIn (resets m .answer) ≡ 0 → resets m .after ≡ emptied m
 unfolding resets
-reset-done m z = by-test (sixteenSeats m) (λ b. rw b) (λ b. let d : DESK ≡ 0 = rw b at z in absurd (omega (arith, d)))
+reset-done m z = by-test (allSeats m) (λ b. rw b) (λ b. let d : DESK .number ≡ 0 = rw b at z in absurd (omega (arith, d)))
 
 -- an opening that is done has its seat
 seat-given : (t : Told ℕ) → Sure t → numberIn t ≡ 0 → t ≡ gives (valueIn 0 t)
 seat-given (gives s) sure z = refl
-seat-given (refuses number offset) sure z = absurd (let l = never-0 number offset (sure number offset refl) in omega (arith, l, z))
+seat-given (refuses f) sure z = absurd (let l = never-0 f (sure f refl) in omega (arith, l, z))
 
 run-parts : (m : Memory) (before after : List Frame) (f : Frame)
     → run m (openings (before ++ f ∷ after)) ≡ run (opens (run m (openings before)) f .after) (openings after)

@@ -3,6 +3,7 @@ use Prim.Native.Nat.{ℕ, suc}
 use mathlib.Core.List.{List, [], _∷_, _++_}
 use mathlib.Core.Path.{_≡_, refl, ap, _∙_}
 use lib.ListN.{length}
+use Rattle.digits.specs.declared.refusal.Refusal.{Refusal}
 use Rattle.digits.specs.Told.{Told, gives, refuses}
 use Rattle.digits.proofs.Tests.{by-test}
 use Rattle.frames.specs.Kind.{wrongIn, frameOf, writeTried, outputAfter}
@@ -24,9 +25,9 @@ use Rattle.rei2.specs.Names.{nameTried}
 use Rattle.rei2.specs.Keeps.{Refusing, RefusedKeeps}
 
 -- what refuses by a number is a refusal
-is-refusal : {A B : Type 0} (t : Told A) → Refusing (numberIn t) → ((number offset : ℕ) → t ≡ refuses number offset → B) → B
+is-refusal : {A B : Type 0} (t : Told A) → Refusing (numberIn t) → ((f : Refusal) → t ≡ refuses f → B) → B
 is-refusal (gives a) n k = absurd (n refl)
-is-refusal (refuses number offset) n k = k number offset refl
+is-refusal (refuses f) n k = k f refl
 
 -- ---- the desk's calls
 
@@ -60,7 +61,7 @@ call-kept o m keeps r seats cells marks h n =
 
 output-kept : (t : Told (Unit {0})) (frame : List ℕ) (size : ℕ) (out : List ℕ) → Refusing (numberIn t) → outputAfter t frame size out ≡ out
 output-kept (gives a) frame size out n = absurd (n refl)
-output-kept (refuses number offset) frame size out n = refl
+output-kept (refuses f) frame size out n = refl
 
 module _ (cells marks s out : List ℕ) where
   list-kept : Refusing (numberIn (listed cells marks s out)) → (cellsAfter cells marks s out ≡ cells) × ((marksAfter cells marks s out ≡ marks) × (outAfter cells marks s out ≡ out))

@@ -6,24 +6,25 @@ use mathlib.Core.List.{List, []}
 use Prim.Native.Nat.{ℕ}
 use lib.ListN.{length}
 use lib.Dec.{eqb}
+use Rattle.digits.specs.Refusals.{DESK}
 use Rattle.digits.specs.Told.{refuses}
 use Rattle.desk.specs.declared.state.Seat.{Seat}
 use Rattle.desk.specs.declared.state.Desk.{Desk}
 use Rattle.desk.specs.Limits.{seatCount}
 use Rattle.desk.specs.Memory.{Memory, memory}
 use Rattle.desk.specs.Desk.{isDesk}
-use Rattle.desk.specs.Calls.{DESK, Outcome, resets, opens, openTried, replies, replyTried}
+use Rattle.desk.specs.Calls.{Outcome, resets, opens, openTried, replies, replyTried}
 use Rattle.desk.proofs.KeepsLaws.{keeps-memory}
 use Rattle.rei2.specs.declared.lent.DeskAnswer.{DeskAnswer}
 use Rattle.rei2.specs.declared.lent.CapturedAnswer.{CapturedAnswer}
 use Rattle.rei2.specs.declared.lent.Out.{Out}
 use Rattle.rei2.specs.declared.lent.Captured.{Captured}
 use Rattle.rei2.specs.Lent.{deskAnswer, captureAnswer, LentCall, ResetLent, OpenLent, ReplyLent, CaptureLent}
-use Rattle.rei2.specs.Inside.{outOf, CoreReset, CoreOpen, CoreReply, CoreCapture}
+use Rattle.rei2.specs.inside.Core.{outOf, CoreReset, CoreOpen, CoreReply, CoreCapture}
 use Rattle.digits.proofs.Tests.{by-test}
 
 abbrev pub refusal-reset : Desk → DeskAnswer
-refusal-reset d = deskAnswer d (refuses DESK 0)
+refusal-reset d = deskAnswer d (refuses DESK)
 
 abbrev pub refusal-open : Desk → DeskAnswer
 refusal-open = refusal-reset
@@ -32,7 +33,7 @@ abbrev pub refusal-reply : Desk → DeskAnswer
 refusal-reply = refusal-reset
 
 abbrev pub refusal-capture : Desk → CapturedAnswer
-refusal-capture d = captureAnswer d (refuses DESK 0)
+refusal-capture d = captureAnswer d (refuses DESK)
 
 -- ---- a row that is not of sixteen seats makes no desk
 
@@ -42,11 +43,11 @@ no-desk m e = rw e
 
 -- a call that is turned away leaves the memory
 module _ (m : Memory) (f : List ℕ) (e : isDesk m ≡ false) where
-  not-opened : opens m f ≡ record { answer = refuses DESK 0; after = m }
+  not-opened : opens m f ≡ record { answer = refuses DESK; after = m }
   unfolding opens openTried
   not-opened = rw e
 
-  not-replied : replies m f ≡ record { answer = refuses DESK 0; after = m }
+  not-replied : replies m f ≡ record { answer = refuses DESK; after = m }
   unfolding replies replyTried
   not-replied = rw e
 

@@ -9,7 +9,7 @@ use lib.ListN.{length, getD, set, drop, length-append}
 use lib.Seq.{sets, sets-eq}
 use lib.Dec.{ltb}
 use borrow.Author.Tests.{ltb-true, lt-ltb, le-ltb}
-use Rattle.frames.specs.Refusals.{ROOM}
+use Rattle.digits.specs.Refusals.{ROOM}
 use Rattle.digits.specs.Text.{codes}
 use Rattle.rei2.specs.declared.request.WrittenAnswer.{WrittenAnswer}
 use Rattle.rei2.specs.Names.{names, nameOf, NamesTell, NamedLent, nameSize, NamesFit}
@@ -28,8 +28,8 @@ names-tell = record {
   length = refl;
   end = refl;
   address = refl;
-  field = refl;
-  wrong-record = refl;
+  field = λ at. refl;
+  wrong-record = λ at. refl;
   room = refl;
   time = refl;
   desk = refl;
@@ -82,7 +82,7 @@ sets-last [] l i a = ap (λ (k : ℕ). set l k a) (let e : i ≡ i + 0 = omega a
 sets-last (v ∷ vs) l i a = sets-last vs (set l i v) (suc i) a ∙ ap (λ (k : ℕ). set (sets (set l i v) (suc i) vs) k a) (let e : suc i + length vs ≡ i + suc (length vs) = omega arith in e)
 
 module _ (name out : List ℕ) where
-  pub no-room : length out ≤ length name → NamedLent name out (record { refusal = ROOM; offset = 0; size = 0 }) out
+  pub no-room : length out ≤ length name → NamedLent name out (record { refusal = ROOM .number; offset = 0; size = 0 }) out
   no-room l = let e = le-ltb (length name) (length out) l in record { told = rw e; bytes = rw e }
 
   pub put-whole : length name < length out → (out′ : List ℕ) → out′ ≡ set (sets out 0 name) (length name) 0 → NamedLent name out (record { refusal = 0; offset = 0; size = length name }) out′

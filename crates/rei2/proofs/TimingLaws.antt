@@ -10,6 +10,7 @@ use lib.Dec.{eqb, leb}
 use borrow.Rule.Slice.PartMut.{midOf, postOf, mid-len}
 use lib.IntN.{ℤ, pos, negsuc}
 use borrow.Author.Tests.{eqb-true, eq-eqb, ne-eqb}
+use Rattle.digits.specs.Refusals.{ROOM}
 use Rattle.digits.specs.Told.{Told, gives, tried}
 use Rattle.frames.specs.declared.timing.TimingKind.{TimingKind}
 use Rattle.frames.specs.declared.timing.TimingKind.the-variants.{Clock as clockKind, Net as netKind, Raw as rawKind}
@@ -17,7 +18,7 @@ use Rattle.frames.specs.declared.timing.Timing.{Timing}
 use Rattle.frames.specs.declared.timing.Timing.the-variants.{Clock, Net, Raw}
 use Rattle.frames.specs.declared.reply.StaticReply.{StaticReply}
 use Rattle.frames.specs.declared.refusals.WriteAnswer.{WriteAnswer}
-use Rattle.frames.specs.Refusals.{ROOM, writeTold}
+use Rattle.frames.specs.Refusals.{writeTold}
 use Rattle.frames.specs.Layout.{recordWrong}
 use Rattle.frames.specs.Timing.{timed, timeAndDate, timedValues}
 use Rattle.frames.specs.Kind.{wrongIn, frameOf, writeTried, outputAfter, Wrote}
@@ -27,7 +28,7 @@ use Rattle.rei2.specs.declared.reply.TimingNumbers.{TimingNumbers}
 use Rattle.rei2.specs.declared.reply.ReplyRecord.{ReplyRecord}
 use Rattle.rei2.specs.Frames.{writtenAnswer}
 use Rattle.rei2.specs.Reply.{RAW, CLOCK, NET, numbersOf, noTime, timingOf, isNothing, noDate, leftOver, shown, recordOf, leftAt, wrongInC, WroteReplyLent, RecordsMatch}
-use Rattle.rei2.specs.Inside.{roomIn, orLeft}
+use Rattle.rei2.specs.inside.Left.{roomIn, orLeft}
 use Rattle.digits.proofs.Tests.{by-test}
 
 -- ---- the tests of the code, one after the other
@@ -93,7 +94,7 @@ unfolding writeTried
 told-by w room true = by-test (eqb w 0) (λ t. rw t) (λ t. rw (t, t))
 told-by w room false = by-test (eqb w 0) (λ t. rw t (either (leb 51 room))) (λ t. rw (t, t))
   where
-    either : (b : Bool) → orLeft false (writtenAnswer 51 (tried b ROOM 0 (gives tt))) ≡ writtenAnswer 51 (tried b ROOM 0 (gives tt))
+    either : (b : Bool) → orLeft false (writtenAnswer 51 (tried b ROOM (gives tt))) ≡ writtenAnswer 51 (tried b ROOM (gives tt))
     either b = refl
 
 written-all : (w : ℕ) (frame out : List ℕ) (k : ℕ) → k ≡ length out

@@ -10,7 +10,7 @@ use Rattle.frames.specs.Request.{request}
 use Rattle.frames.specs.declared.request.StaticRequest.{StaticRequest}
 use Rattle.desk.specs.declared.state.Seat.{Seat}
 use Rattle.desk.specs.declared.state.Desk.{Desk}
-use Rattle.desk.specs.declared.call.Key.{Key}
+use Rattle.desk.specs.declared.key.Key.{Key}
 use Rattle.desk.specs.Memory.{Memory, memory, capacityOf}
 use Rattle.desk.specs.Rule.{Frame}
 use Rattle.desk.specs.Mix.{Event, toOpen, toReply, happens, run, openings, Stretch, repliesTo, Sorted}

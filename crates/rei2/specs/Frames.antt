@@ -33,7 +33,7 @@ dynamicAnswer t = record { refusal = numberIn t; offset = offsetIn t; request = 
 -- the bytes that a frame took: its size, or none
 abbrev pub sizeIn : ℕ → Told (Unit {0}) → ℕ
 sizeIn size (gives done) = size
-sizeIn size (refuses number offset) = 0
+sizeIn size (refuses f) = 0
 
 abbrev pub writtenAnswer : ℕ → Told (Unit {0}) → WrittenAnswer
 writtenAnswer size t = record { refusal = numberIn t; offset = offsetIn t; size = sizeIn size t }

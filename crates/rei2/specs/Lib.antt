@@ -6,8 +6,8 @@ pub mod Calls
 pub mod Limits
 pub mod Names
 pub mod Tells
-pub mod Inside
 pub mod Unique
 pub mod Keeps
 pub mod Chain
 pub mod Cases
+pub mod inside

@@ -1,5 +1,4 @@
 // The dynamic request: read from a lent frame, written to lent bytes.
-use crate::refusal::of_reading;
 use crate::request::WrittenAnswer;
 use crate::request::written;
 use frames::dynamic::DYNAMIC_SIZE;
@@ -7,6 +6,7 @@ use frames::dynamic::DynamicRead;
 use frames::dynamic::DynamicRequest;
 use frames::dynamic::read_dynamic;
 use frames::dynamic::write_dynamic;
+use frames::refusals::of_reading;
 ghost use mathlib.Core.Path.{_≡_};
 ghost use Rattle.frames.specs.Kind.{read};
 ghost use Rattle.frames.specs.Dynamic.{dynamic};

@@ -1,25 +1,27 @@
 // The desk's calls on a row that a host lends: the row is loaded, the call by value made, and the row stored back.
-use crate::refusal::of_opening;
-use crate::refusal::of_reply;
 use desk::capture::CaptureAnswer;
 use desk::capture::Counts;
 use desk::capture::take_capture;
+use desk::limits::SEATS;
 use desk::opening::OpenAnswer;
+use desk::opening::of_opening;
 use desk::opening::open;
 use desk::reply::ReplyAnswer;
+use desk::reply::of_reply;
 use desk::reply::reply;
 use desk::state::Desk;
-use desk::state::SEATS;
 use desk::state::Seat;
 use desk::state::reset;
+use digits::refusal as table;
 ghost use mathlib.Core.Path.{_≡_};
 ghost use lib.ListN.{length};
+ghost use Rattle.digits.specs.Refusals.{DESK};
 ghost use Rattle.digits.specs.Told.{refuses};
 ghost use Rattle.desk.specs.Limits.{seatCount};
-ghost use Rattle.desk.specs.Calls.{DESK, openTold, replyTold};
+ghost use Rattle.desk.specs.Calls.{openTold, replyTold};
 ghost use Rattle.desk.specs.Capture.{captureTold};
 ghost use Rattle.rei2.specs.Lent.{deskAnswer, captureAnswer, ResetLent, OpenLent, ReplyLent, CaptureLent};
-ghost use Rattle.rei2.specs.Inside.{CoreReset, CoreOpen, CoreReply, CoreCapture};
+ghost use Rattle.rei2.specs.inside.Core.{CoreReset, CoreOpen, CoreReply, CoreCapture};
 
 // The state after the call; the refusal by its number, 0 where the call was done, and its offset; the seat, 0 where it was refused.
 #[repr(C)]
@@ -27,7 +29,7 @@ pub struct DeskAnswer {
     pub desk: Desk,
     pub refusal: u32,
     pub offset: u32,
-    pub seat: usize,
+    pub seat: u32,
 }
 
 // The state after the call, the refusal, and what became of the frames of the capture, all 0 where it was refused.
@@ -77,24 +79,24 @@ pub(crate) fn store(s: &mut [Seat], row: [Seat; SEATS])
 
 // ---- answers in numbers
 
-// Where the row is not of sixteen seats.
+// Where the row is not of SEATS seats.
 pub(crate) fn no_desk(desk: Desk) -> DeskAnswer
-    ensures { λ r. ⌜ r ≡ deskAnswer desk (refuses DESK 0) ⌝ }
+    ensures { λ r. ⌜ r ≡ deskAnswer desk (refuses DESK) ⌝ }
 {
     DeskAnswer {
         desk,
-        refusal: 9,
+        refusal: table::DESK,
         offset: 0,
         seat: 0,
     }
 }
 
 pub(crate) fn no_captured(desk: Desk) -> CapturedAnswer
-    ensures { λ r. ⌜ r ≡ captureAnswer desk (refuses DESK 0) ⌝ }
+    ensures { λ r. ⌜ r ≡ captureAnswer desk (refuses DESK) ⌝ }
 {
     CapturedAnswer {
         desk,
-        refusal: 9,
+        refusal: table::DESK,
         counts: Counts {
             opened: 0,
             collected: 0,

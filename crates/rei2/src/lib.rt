@@ -6,7 +6,6 @@ pub mod lent;
 pub mod limits;
 pub mod listed;
 pub mod names;
-mod refusal;
 pub mod reply;
 pub mod request;
 pub mod running;

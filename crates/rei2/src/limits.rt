@@ -1,7 +1,8 @@
 // What a host must lend.
-use desk::state::CELL_SIZE;
-use desk::state::CELLS;
-use desk::state::SEATS;
+use desk::limits::CELL_SIZE;
+use desk::limits::CELLS;
+use desk::limits::SEATS;
+use desk::limits::STORE;
 use listing::LONGEST_LIST;
 use listing::MOST_INPUT;
 ghost use mathlib.Core.Path.{_≡_};
@@ -25,7 +26,7 @@ pub extern "C" fn rei2_limits() -> LimitsAnswer
 {
     LimitsAnswer {
         seats: SEATS,
-        cells: CELLS * CELL_SIZE,
+        cells: STORE,
         marks: CELLS,
         cell_size: CELL_SIZE,
         most_input: MOST_INPUT,

@@ -1,4 +1,5 @@
 // The list of a capture.
+use digits::refusal as table;
 use listing::ListAnswer;
 use listing::list;
 ghost use mathlib.Core.Path.{_≡_};
@@ -22,6 +23,6 @@ pub extern "C" fn rei2_list(
 {
     match list(capture, cells, marks, out) {
         ListAnswer::Written(size) => ListedAnswer { refusal: 0, size },
-        ListAnswer::Room => ListedAnswer { refusal: 7, size: 0 },
+        ListAnswer::Room => ListedAnswer { refusal: table::ROOM, size: 0 },
     }
 }

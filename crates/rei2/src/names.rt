@@ -1,13 +1,12 @@
 // The names of refusals.
 use crate::request::WrittenAnswer;
 use digits::put_byte;
-ghost use Prim.Native.Nat.{_<_};
-ghost use lib.ListN.{length};
+use digits::put_bytes;
+use digits::refusal as table;
 ghost use Rattle.rei2.specs.Names.{nameOf, NamedLent};
 
 // An output of so many bytes has room for every name and the zero byte after it.
 pub const NAME_SIZE: usize = 14;
-const KIND: u32 = 1;
 
 #[no_mangle]
 pub extern "C" fn rei2_refusal_name(refusal: u32, out: &mut [u8]) -> WrittenAnswer
@@ -15,22 +14,22 @@ pub extern "C" fn rei2_refusal_name(refusal: u32, out: &mut [u8]) -> WrittenAnsw
 {
     match refusal {
         0 => put_name(out, b"DONE"),
-        KIND => put_name(out, b"KIND"),
-        2 => put_name(out, b"LENGTH"),
-        3 => put_name(out, b"END"),
-        4 => put_name(out, b"ADDRESS"),
-        5 => put_name(out, b"FIELD"),
-        6 => put_name(out, b"RECORD"),
-        7 => put_name(out, b"ROOM"),
-        8 => put_name(out, b"TIME"),
-        9 => put_name(out, b"DESK"),
-        10 => put_name(out, b"NO ANSWER DUE"),
-        11 => put_name(out, b"IN USE"),
-        12 => put_name(out, b"NO SEAT"),
-        13 => put_name(out, b"STRAY"),
-        14 => put_name(out, b"ENDED"),
-        15 => put_name(out, b"OUT OF PLACE"),
-        16 => put_name(out, b"FULL"),
+        table::KIND => put_name(out, b"KIND"),
+        table::LENGTH => put_name(out, b"LENGTH"),
+        table::END => put_name(out, b"END"),
+        table::ADDRESS => put_name(out, b"ADDRESS"),
+        table::FIELD => put_name(out, b"FIELD"),
+        table::RECORD => put_name(out, b"RECORD"),
+        table::ROOM => put_name(out, b"ROOM"),
+        table::TIME => put_name(out, b"TIME"),
+        table::DESK => put_name(out, b"DESK"),
+        table::NO_ANSWER_DUE => put_name(out, b"NO ANSWER DUE"),
+        table::IN_USE => put_name(out, b"IN USE"),
+        table::NO_SEAT => put_name(out, b"NO SEAT"),
+        table::STRAY => put_name(out, b"STRAY"),
+        table::ENDED => put_name(out, b"ENDED"),
+        table::OUT_OF_PLACE => put_name(out, b"OUT OF PLACE"),
+        table::FULL => put_name(out, b"FULL"),
         _ => put_name(out, b"UNKNOWN"),
     }
 }
@@ -42,11 +41,12 @@ fn put_name(out: &mut [u8], name: &[u8]) -> WrittenAnswer
     let size = name.len();
     if out.len() <= size {
         return WrittenAnswer {
-            refusal: 7,
+            refusal: table::ROOM,
             offset: 0,
             size: 0,
         };
     }
+    put_bytes(out, 0, name);
     put_byte(out, size, 0);
     WrittenAnswer {
         refusal: 0,

@@ -1,8 +1,9 @@
 // The static reply: read from a lent frame, written to lent bytes. Its timing is a code and numbers, since C has no enum that holds values.
-use crate::refusal::of_reading;
 use crate::request::WrittenAnswer;
 use crate::request::written;
+use digits::refusal as table;
 use frames::refusals::ReadVerdict;
+use frames::refusals::of_reading;
 use frames::reply::REPLY_SIZE;
 use frames::reply::StaticReply;
 use frames::reply::read_reply;
@@ -12,7 +13,7 @@ ghost use mathlib.Core.Path.{_≡_};
 ghost use Rattle.frames.specs.Kind.{read};
 ghost use Rattle.frames.specs.Reply.{reply, zeroReply};
 ghost use Rattle.rei2.specs.Reply.{numbersOf, timingOf, isNothing, noDate, leftOver, shown, recordOf, replyAnswer, WroteReplyLent};
-ghost use Rattle.rei2.specs.Inside.{roomIn, orLeft};
+ghost use Rattle.rei2.specs.inside.Left.{roomIn, orLeft};
 
 // The codes of a timing.
 const RAW: u32 = 0;
@@ -20,6 +21,9 @@ const RAW: u32 = 0;
 const CLOCK: u32 = 1;
 
 const NET: u32 = 2;
+
+// Where a number left over is told: at the CR.
+const LEFT_AT: u32 = 50;
 
 // A timing in numbers: its code; ticks, day, month and year of a clock; the value of a net one in ticks. What a kind does not use is 0.
 #[repr(C)]
@@ -107,10 +111,10 @@ fn room_in(left: bool, size: usize) -> usize
 fn or_left(left: bool, answer: WrittenAnswer) -> WrittenAnswer
     ensures { λ r. ⌜ r ≡ orLeft left answer ⌝ }
 {
-    if left & (answer.refusal == 7) {
+    if left & (answer.refusal == table::ROOM) {
         return WrittenAnswer {
-            refusal: 6,
-            offset: 50,
+            refusal: table::RECORD,
+            offset: LEFT_AT,
             size: 0,
         };
     }

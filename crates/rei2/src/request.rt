@@ -1,7 +1,7 @@
 // The static request: read from a lent frame, written to lent bytes.
-use crate::refusal::of_reading;
-use crate::refusal::of_writing;
 use frames::refusals::WriteAnswer;
+use frames::refusals::of_reading;
+use frames::refusals::of_writing;
 use frames::request::REQUEST_SIZE;
 use frames::request::RequestRead;
 use frames::request::StaticRequest;

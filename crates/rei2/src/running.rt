@@ -1,4 +1,5 @@
 // Running time.
+use digits::refusal as table;
 use times::running::Running;
 use times::running::RunningOf;
 use times::running::running_time;
@@ -20,7 +21,7 @@ pub extern "C" fn rei2_running_time(of: RunningOf) -> RunningAnswer
     match running_time(of) {
         Running::Ticks(ticks) => RunningAnswer { refusal: 0, ticks },
         Running::Time => RunningAnswer {
-            refusal: 8,
+            refusal: table::TIME,
             ticks: 0,
         },
     }

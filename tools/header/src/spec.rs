@@ -31,20 +31,37 @@ impl Spec {
         self.items().filter_map(number).collect()
     }
 
-    /// The number of a definition, or with `NAME .FIELD` that of a field of the record that it is; none unless there is
-    /// just one.
+    /// The number of a definition; with `NAME .FIELD` that of a field of the record that it is, and with `NAME ≡` that
+    /// of a case; none unless there is just one.
     pub fn number(&self, of: &str) -> Option<u64> {
-        let found: Vec<u64> = match of.split_once(" .") {
-            Some((name, wanted)) => {
-                let records = self.items().filter(|item| item.starts_with(&[name, "=", "record", "{"]));
-                records.filter_map(|item| lex::number(field(&item, wanted)?)).collect()
-            }
-            None => self.numbers().into_iter().filter(|(name, _)| name == of).map(|(_, value)| value).collect(),
-        };
-        match found.as_slice() {
-            [value] => Some(*value),
-            _ => None,
+        if let Some((name, wanted)) = of.split_once(" .") {
+            let records = self.items().filter(|item| item.starts_with(&[name, "=", "record", "{"]));
+            return single(records.filter_map(|item| lex::number(field(&item, wanted)?)));
         }
+        if let Some(name) = of.strip_suffix(" ≡") {
+            let cases = self.tokens.windows(3).filter(|w| w[0].text == name && w[1].text == "≡");
+            return single(cases.filter_map(|w| lex::number(&w[2].text)));
+        }
+        single(self.numbers().into_iter().filter(|(name, _)| name == of).map(|(_, value)| value))
+    }
+
+    /// Each `NAME = plain NUMBER` or `NAME = placed NUMBER`: a refusal, without an offset and with one.
+    fn refused(&self) -> Vec<(String, u64)> {
+        let number = |item: Vec<&str>| match item.as_slice() {
+            [name, "=", "plain" | "placed", value] => Some((name.to_string(), lex::number(value)?)),
+            _ => None,
+        };
+        self.items().filter_map(number).collect()
+    }
+
+    /// The names of the refusals.
+    pub fn refusals(&self) -> Vec<String> {
+        self.refused().into_iter().map(|(name, _)| name).collect()
+    }
+
+    /// The number of a refusal; none unless there is just one.
+    pub fn refusal(&self, of: &str) -> Option<u64> {
+        single(self.refused().into_iter().filter(|(name, _)| name == of).map(|(_, value)| value))
     }
 
     /// A number, or that of the definition of this name.
@@ -61,6 +78,11 @@ impl Spec {
         };
         self.items().filter_map(clause).collect()
     }
+}
+
+/// The one number that there is.
+fn single(mut numbers: impl Iterator<Item = u64>) -> Option<u64> {
+    numbers.next().filter(|_| numbers.next().is_none())
 }
 
 /// The word of `wanted = WORD` in a record, outside the records in it.

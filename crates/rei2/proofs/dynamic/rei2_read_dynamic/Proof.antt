@@ -1,7 +1,6 @@
 -- `rei2::dynamic::rei2_read_dynamic` meets its contract. Assumes nothing.
 use Rattle.rei2.specs.Frames.{dynamicAnswer}
-use Rattle.rei2.proofs.NumberLaws.{dynamic-refused}
-use mathlib.Core.Path.{ap, _∙_}
+use mathlib.Core.Path.{ap}
 use borrow.Author.Needs.{needs}
 use Rattle.rei2.proofs.dynamic.rei2_read_dynamic.Statement.{statement}
 use Rattle.rei2.proofs.dynamic.rei2_read_dynamic.Tie as tie
@@ -25,7 +24,7 @@ returns : tie.Need-returns
 returns c = ap dynamicAnswer (rw (c .before .r .given .1) at (c .before .before .before .read-dynamic .ensures))
 
 returns-2 : tie.Need-returns-2
-returns-2 c = rw (c .no-dynamic .ensures, c .before .of-reading .ensures) (dynamic-refused (c .before .before .before .refusal .given .0 .0) ∙ ap dynamicAnswer (rw (c .before .before .before .refusal .given .1) at (c .before .before .before .before .before .read-dynamic .ensures)))
+returns-2 c = rw (c .no-dynamic .ensures, c .before .of-reading .ensures) (ap dynamicAnswer (rw (c .before .before .before .refusal .given .1) at (c .before .before .before .before .before .read-dynamic .ensures)))
 
 pub rei2-read-dynamic-spec : {M : Type 1} → statement M
 rei2-read-dynamic-spec =

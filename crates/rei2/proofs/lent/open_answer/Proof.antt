@@ -1,5 +1,4 @@
 -- `rei2::lent::open_answer` meets its contract. Assumes nothing.
-use Rattle.rei2.proofs.NumberLaws.{opening-refused}
 use mathlib.Core.Path.{refl}
 use borrow.Author.Needs.{needs}
 use Rattle.rei2.proofs.lent.open_answer.Statement.{statement}
@@ -18,7 +17,7 @@ returns : tie.Need-returns
 returns c = rw (c .before .answer .given .1) refl
 
 returns-2 : tie.Need-returns-2
-returns-2 c = rw (c .of-opening .ensures, c .before .before .answer2 .given .1) (opening-refused (c .before .before .before .before .args .desk) (c .before .before .answer2 .given .0 .0))
+returns-2 c = rw (c .of-opening .ensures, c .before .before .answer2 .given .1) refl
 
 pub open-answer-spec : {M : Type 1} → statement M
 open-answer-spec =

@@ -53,7 +53,7 @@ use Rattle.desk.specs.declared.state.Seat.{Seat}
 use Rattle.desk.proofs.state.Seat as SeatD
 use Rattle.desk.proofs.state.Seat.Laws as SeatL
 use Rattle.rei2.specs.Lent.{OpenLent}
-use Rattle.rei2.specs.Inside.{CoreOpen}
+use Rattle.rei2.specs.inside.Core.{CoreOpen}
 use Rattle.rei2.proofs.Rows.{guards, is-true, is-false}
 use Rattle.rei2.proofs.Views.{gives-up}
 use Rattle.rei2.proofs.Steps.{rowVal, Load, Store, loads, stores}

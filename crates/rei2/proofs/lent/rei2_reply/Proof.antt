@@ -53,7 +53,7 @@ use Rattle.desk.specs.declared.state.Seat.{Seat}
 use Rattle.desk.proofs.state.Seat as SeatD
 use Rattle.desk.proofs.state.Seat.Laws as SeatL
 use Rattle.rei2.specs.Lent.{ReplyLent}
-use Rattle.rei2.specs.Inside.{CoreReply}
+use Rattle.rei2.specs.inside.Core.{CoreReply}
 use Rattle.rei2.proofs.Rows.{guards, is-true, is-false}
 use Rattle.rei2.proofs.Views.{gives-up}
 use Rattle.rei2.proofs.Steps.{rowVal, Load, Store, loads, stores}

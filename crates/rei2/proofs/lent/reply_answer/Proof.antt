@@ -1,5 +1,4 @@
 -- `rei2::lent::reply_answer` meets its contract. Assumes nothing.
-use Rattle.rei2.proofs.NumberLaws.{replying-refused}
 use mathlib.Core.Path.{refl}
 use borrow.Author.Needs.{needs}
 use Rattle.rei2.proofs.lent.reply_answer.Statement.{statement}
@@ -18,7 +17,7 @@ returns : tie.Need-returns
 returns c = rw (c .before .answer .given .1) refl
 
 returns-2 : tie.Need-returns-2
-returns-2 c = rw (c .of-reply .ensures, c .before .before .answer2 .given .1) (replying-refused (c .before .before .before .before .args .desk) (c .before .before .answer2 .given .0 .0))
+returns-2 c = rw (c .of-reply .ensures, c .before .before .answer2 .given .1) refl
 
 pub reply-answer-spec : {M : Type 1} → statement M
 reply-answer-spec =

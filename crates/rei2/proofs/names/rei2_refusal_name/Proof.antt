@@ -148,13 +148,13 @@ same-length-6 : tie.Need-same-length-6
 same-length-6 c = search needs
 
 returns-6 : tie.Need-returns-6
-returns-6 c = named _ _ _ _ _ (ap nameOf (c .before .before .before .before .before .match .keys6) ∙ names-tell .field) (c .before .before .put-name6 .ensures)
+returns-6 c = named _ _ _ _ _ (ap nameOf (c .before .before .before .before .before .match .keys6) ∙ names-tell .field 0) (c .before .before .put-name6 .ensures)
 
 same-length-7 : tie.Need-same-length-7
 same-length-7 c = search needs
 
 returns-7 : tie.Need-returns-7
-returns-7 c = named _ _ _ _ _ (ap nameOf (c .before .before .before .before .before .match .keys7) ∙ names-tell .wrong-record) (c .before .before .put-name7 .ensures)
+returns-7 c = named _ _ _ _ _ (ap nameOf (c .before .before .before .before .before .match .keys7) ∙ names-tell .wrong-record 0) (c .before .before .put-name7 .ensures)
 
 same-length-8 : tie.Need-same-length-8
 same-length-8 c = search needs

@@ -1,7 +1,6 @@
 -- `rei2::request::rei2_read_request` meets its contract. Assumes nothing.
 use Rattle.rei2.specs.Frames.{requestAnswer}
-use Rattle.rei2.proofs.NumberLaws.{request-refused}
-use mathlib.Core.Path.{ap, _∙_}
+use mathlib.Core.Path.{ap}
 use borrow.Author.Needs.{needs}
 use Rattle.rei2.proofs.request.rei2_read_request.Statement.{statement}
 use Rattle.rei2.proofs.request.rei2_read_request.Tie as tie
@@ -25,7 +24,7 @@ returns : tie.Need-returns
 returns c = ap requestAnswer (rw (c .before .r .given .1) at (c .before .before .before .read-request .ensures))
 
 returns-2 : tie.Need-returns-2
-returns-2 c = rw (c .no-request .ensures, c .before .of-reading .ensures) (request-refused (c .before .before .before .refusal .given .0 .0) ∙ ap requestAnswer (rw (c .before .before .before .refusal .given .1) at (c .before .before .before .before .before .read-request .ensures)))
+returns-2 c = rw (c .no-request .ensures, c .before .of-reading .ensures) (ap requestAnswer (rw (c .before .before .before .refusal .given .1) at (c .before .before .before .before .before .read-request .ensures)))
 
 pub rei2-read-request-spec : {M : Type 1} → statement M
 rei2-read-request-spec =

@@ -1,5 +1,4 @@
 -- `rei2::request::written` meets its contract. Assumes nothing.
-use Rattle.rei2.proofs.NumberLaws.{writing-refused}
 use mathlib.Core.Path.{refl}
 use borrow.Author.Needs.{needs}
 use Rattle.rei2.proofs.request.written.Statement.{statement}
@@ -18,7 +17,7 @@ returns : tie.Need-returns
 returns c = rw (c .enum-told .given .1) refl
 
 returns-2 : tie.Need-returns-2
-returns-2 c = rw (c .of-writing .ensures, c .before .before .answer .given .1) (writing-refused (c .before .before .before .before .args .size) (c .before .before .answer .given .0 .0))
+returns-2 c = rw (c .of-writing .ensures, c .before .before .answer .given .1) refl
 
 pub written-spec : {M : Type 1} → statement M
 written-spec =

@@ -1,10 +1,7 @@
--- What the calls by value give that the lent calls are made of, and what a record with a number left over is answered.
+-- What the calls by value give that the lent calls are made of.
 use mathlib.Core.List.{List, []}
-use mathlib.Core.Bool.{Bool, cond, _&&_}
 use mathlib.Core.Path.{_≡_}
 use Prim.Native.Nat.{ℕ}
-use lib.Dec.{eqb}
-use Rattle.frames.specs.Refusals.{RECORD, ROOM}
 use Rattle.desk.specs.declared.state.Seat.{Seat}
 use Rattle.desk.specs.declared.state.Desk.{Desk}
 use Rattle.desk.specs.Memory.{memory}
@@ -12,9 +9,7 @@ use Rattle.desk.specs.Calls.{Outcome, resets, opens, replies}
 use Rattle.desk.specs.Capture.{captures}
 use Rattle.rei2.specs.declared.lent.Out.{Out}
 use Rattle.rei2.specs.declared.lent.Captured.{Captured}
-use Rattle.rei2.specs.declared.request.WrittenAnswer.{WrittenAnswer}
 use Rattle.rei2.specs.Lent.{answerOf, capturedOf}
-use Rattle.rei2.specs.Reply.{leftAt}
 
 abbrev pub outOf : Outcome → Out
 outOf o = record { row = o .after .row; answer = answerOf o }
@@ -37,13 +32,3 @@ module _ (row : List Seat) (desk : Desk) where
     CoreCapture r cells′ marks′ =
         let o = captures (memory desk row cells marks) frame in
         (r ≡ record { row = o .after .row; answer = capturedOf o }) × ((cells′ ≡ o .after .cells) × (marks′ ≡ o .after .marks))
-
--- ---- a reply's record in which a number is left over
-
--- it is given no room
-abbrev pub roomIn : Bool → ℕ → ℕ
-roomIn left size = cond left 0 size
-
--- and where that is all that is wrong, the number is told
-abbrev pub orLeft : Bool → WrittenAnswer → WrittenAnswer
-orLeft left a = cond (left && eqb (a .refusal) ROOM) (record { refusal = RECORD; offset = leftAt; size = 0 }) a
