@@ -1,17 +1,16 @@
 -- The replies that a stretch counts are the frames addressed to the open requests. Assumes nothing.
-use Prim.Native.Nat.{ℕ, zero, suc, _+_, _<_, _≤_}
-use mathlib.Core.Bool.{Bool, true, false, cond, _&&_}
-use mathlib.Core.Path.{_≡_, refl, sym, ap, _∙_}
+use Prim.Native.Nat.{ℕ, zero, suc, _+_}
+use mathlib.Core.Bool.{Bool, cond, _&&_}
+use mathlib.Core.Path.{_≡_, refl, sym, _∙_}
 use mathlib.Core.List.{List, [], _∷_}
 use native.Mathlib.Omega.{arith}
-use lib.ListN.{length}
 use lib.Dec.{ltb}
 use borrow.Author.Tests.{ltb-true, ltb-false}
 use Rattle.digits.specs.Told.{Told, gives, refuses}
 use Rattle.frames.specs.declared.reply.ReplyLabel.{ReplyLabel}
 use Rattle.desk.specs.Limits.{seatCount}
 use Rattle.desk.specs.Below.{countBelow}
-use Rattle.desk.specs.Key.{keyIn, seatKey, sameKey}
+use Rattle.desk.specs.Key.{keyIn, seatKey}
 use Rattle.desk.specs.Hearing.{heard, hasKey}
 use Rattle.desk.specs.Seats.{seatAt, usedBit, keyed, keyedAt, seatWith}
 use Rattle.desk.specs.Memory.{Memory}

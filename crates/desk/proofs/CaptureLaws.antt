@@ -2,7 +2,7 @@
 use Prim.Native.Nat.{ℕ, suc, _+_, _-_, _<_, _≤_}
 use mathlib.Core.List.{List, [], _∷_}
 use mathlib.Core.Bool.{Bool, true, false, cond}
-use mathlib.Core.Path.{_≡_, refl, ap, _∙_, sym}
+use mathlib.Core.Path.{_≡_, refl, ap, _∙_}
 use native.Mathlib.Omega.{arith}
 use lib.ListN.{length, getD, set, take, drop}
 use lib.Seq.{slice}
@@ -99,7 +99,7 @@ more-than c Refused = record { opened = omega arith; collected = omega arith; dy
 
 module _ (m₀ : Memory) (s : List ℕ) (at : ℕ) (m : Memory) (c : Counts) (g : Going m₀ s at m c) where
   module _ (none : piecesFrom s at ≡ []) where
-    pub ends-counts : c ≡ countsOf (fates m₀ (pieces s))
+    ends-counts : c ≡ countsOf (fates m₀ (pieces s))
     unfolding fates howMany
     ends-counts =
         let a = rw none at (g .opened) in
@@ -108,7 +108,7 @@ module _ (m₀ : Memory) (s : List ℕ) (at : ℕ) (m : Memory) (c : Counts) (g 
         let e = rw none at (g .refused) in
         counts-four c (countsOf (fates m₀ (pieces s))) (omega arith) (omega arith) (omega arith) (omega arith)
 
-    pub ends-memory : m ≡ afterAll m₀ (pieces s)
+    ends-memory : m ≡ afterAll m₀ (pieces s)
     unfolding afterAll
     ends-memory = rw none at (g .rest)
 

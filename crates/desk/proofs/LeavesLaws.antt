@@ -4,7 +4,7 @@ use mathlib.Core.List.{List, [], _∷_, _++_}
 use mathlib.Core.Bool.{true}
 use mathlib.Core.Path.{_≡_, refl, sym, ap, _∙_}
 use native.Mathlib.Omega.{arith}
-use lib.ListN.{length, getD, take, drop, set, length-append}
+use lib.ListN.{length, take, drop, set, length-append}
 use lib.Seq.{drop-drop, drop-at, length-take-le}
 use Rattle.digits.specs.Told.{Told, gives, refuses}
 use Rattle.finder.specs.Pieces.{Piece, whole, cut}

@@ -1,7 +1,7 @@
 -- How the steps of a call make up its outcome. Assumes nothing.
 use Prim.Native.Nat.{ℕ, _+_, _≤_}
 use mathlib.Core.List.{List, _++_}
-use mathlib.Core.Bool.{Bool, true, false}
+use mathlib.Core.Bool.{true, false}
 use mathlib.Core.Path.{_≡_, refl, ap, _∙_}
 use lib.ListN.{length, set, take, drop}
 use lib.Seq.{sets, sets-eq, set-getD}
@@ -47,7 +47,7 @@ module _ (m : Memory) (f : List ℕ) where
 
 -- ---- a step of the code that changes no seat tells the first, as it is
 
-abbrev pub sameFirst : Memory → Memory
+abbrev sameFirst : Memory → Memory
 sameFirst m = record { row = set (m .row) 0 (seatAt (m .row) 0); bits = m .bits; count = m .count; cells = m .cells; marks = m .marks }
 
 pub same-first : (m : Memory) → sameFirst m ≡ m

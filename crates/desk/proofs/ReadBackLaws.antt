@@ -1,20 +1,18 @@
 -- Calls of `next_held`, one after the other, tell a seat's records in order. Assumes nothing.
-use Prim.Native.Nat.{ℕ, zero, suc, _+_, _≤_}
+use Prim.Native.Nat.{ℕ, zero, suc, _+_}
 use mathlib.Core.List.{List, [], _∷_, _++_, append-assoc, append-nil}
 use mathlib.Core.Bool.{Bool, true, false, cond, _&&_}
-use mathlib.Core.Path.{_≡_, refl, sym, ap, subst, _∙_}
+use mathlib.Core.Path.{_≡_, refl, sym, ap, _∙_}
 use native.Mathlib.Omega.{arith}
-use lib.ListN.{length}
 use lib.Dec.{eqb, leb}
 use borrow.Author.Tests.{eqb-true, eqb-false, ne-eqb, leb-true, leb-false, le-leb, lt-leb}
-use Rattle.digits.proofs.Tests.{by-test, and-true}
+use Rattle.digits.proofs.Tests.{by-test}
 use Rattle.desk.specs.declared.held.Held.{Held}
 use Rattle.desk.specs.declared.held.Held.the-variants.{Cell, Nothing}
-use Rattle.desk.specs.Below.{first}
-use Rattle.desk.specs.Memory.{Memory, capacityOf, cellAt, markAt, recordsOf, heldBy}
+use Rattle.desk.specs.Memory.{Memory, cellAt, markAt, recordsOf}
 use Rattle.desk.specs.Calls.{heldCells, heldFrom, heldAnswer, nextHeld}
 use Rattle.desk.specs.ReadBack.{ReadBack, over, tells, ReadsBack}
-use Rattle.desk.proofs.Below.{eq-case, first-at, first-ext}
+use Rattle.desk.proofs.Below.{eq-case, first-ext}
 use Rattle.desk.proofs.ClauseLaws.{desk-facts}
 use Rattle.desk.proofs.HeldLaws.{from-none, found-cell, none-found}
 

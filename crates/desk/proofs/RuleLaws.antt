@@ -2,7 +2,7 @@
 use Prim.Native.Nat.{ℕ}
 use mathlib.Core.List.{List, [], _∷_}
 use mathlib.Core.Bool.{Bool, true, false, cond, not, _||_}
-use mathlib.Core.Path.{_≡_, refl, ap, _∙_}
+use mathlib.Core.Path.{_≡_, refl, ap}
 use Rattle.digits.specs.Refusals.{ENDED, OUT-OF-PLACE}
 use Rattle.digits.specs.Told.{Told, gives, refuses}
 use Rattle.frames.specs.Kind.{read}
@@ -14,7 +14,7 @@ use Rattle.desk.specs.Key.{sameKey}
 use Rattle.desk.specs.Hearing as C
 
 use Rattle.desk.specs.Rule.{Frame, isTo, letterIn, hasStatusE, hasStatusZ, withoutZ, upToE, keptFirst, kept, saidEnded, saidAmong, saidFirst, said}
-use Rattle.desk.specs.Mix.{Event, toReply, addressed}
+use Rattle.desk.specs.Mix.{toReply, addressed}
 
 -- ---- as the desk tries a frame
 

@@ -2,7 +2,6 @@
 use Prim.Native.Nat.{ℕ}
 use mathlib.Core.List.{List}
 use Rattle.digits.specs.Once.{Once}
-use Rattle.desk.specs.declared.opening.OpenDone.{OpenDone}
 use Rattle.desk.specs.declared.reply.ReplyDone.{ReplyDone}
 use Rattle.desk.specs.declared.capture.CaptureDone.{CaptureDone}
 use Rattle.desk.specs.Memory.{Memory, memory}

@@ -23,7 +23,7 @@ ghost use Rattle.frames.specs.Reply.{checkTold};
 ghost use Rattle.desk.specs.Limits.{seatCount, mostCells, cellSize};
 ghost use Rattle.desk.specs.Below.{allBelow};
 ghost use Rattle.desk.specs.Memory.{memory};
-ghost use Rattle.desk.specs.Desk.{isDesk, isZero, markNames, apartAt, apartBelow};
+ghost use Rattle.desk.specs.Desk.{isDesk, isZero, markNames, apartBelow};
 ghost use Rattle.desk.specs.inside.Clauses.{seatGood, seatGoodAt, apart, turnOf, agrees, agreesAt, rowsHold};
 
 // The bits of all seats.

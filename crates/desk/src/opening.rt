@@ -70,9 +70,9 @@ pub(crate) struct OpenStep {
 }
 
 // The seat that a request gets, and its key.
-pub struct Opening {
-    pub seat: usize,
-    pub key: Key,
+struct Opening {
+    seat: usize,
+    key: Key,
 }
 
 enum OpenJudged {

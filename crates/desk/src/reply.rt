@@ -74,9 +74,9 @@ pub(crate) struct ReplyStep {
 }
 
 // The seat that takes a reply, and the reply's status.
-pub struct Taking {
-    pub seat: usize,
-    pub status: u8,
+struct Taking {
+    seat: usize,
+    status: u8,
 }
 
 enum ReplyJudged {

@@ -15,21 +15,23 @@ use Rattle.frames.specs.Timing.{timingKind, timeAndDate, timed}
 use Rattle.frames.specs.Request as Q
 use Rattle.frames.specs.Reply as P
 use Rattle.frames.specs.Dynamic as D
+use Rattle.text.specs.Decimal.{widthWithin, width, decimal}
 use Rattle.finder.specs.Leads.{isLead}
 use Rattle.finder.specs.Demands.{isInner, isOpen}
 use Rattle.finder.proofs.Demands.{found-whole}
 use Rattle.finder.specs.Pieces.{Piece, whole, cut, pieces, walk, piecesFrom}
 use Rattle.desk.specs.Below.{allBelow, countBelow, first}
 use Rattle.desk.specs.Key.{sameKey, isKey}
-use Rattle.desk.specs.Call.{heard, ends, inPlace}
+use Rattle.desk.specs.Hearing.{heard, ends, inPlace}
 use Rattle.desk.specs.Seats.{keyed, seatWith, lowestClear}
 use Rattle.desk.specs.declared.capture.Counts.{Counts}
 use Rattle.desk.specs.Memory.{Memory, capacityOf, recordsOf}
 use Rattle.desk.specs.Desk.{isZero, markNames, lastEnds, isDesk}
-use Rattle.desk.specs.Calls.{keyTried, requestTried, openTried, opens, seatTried, callTried, replyTried, replies}
+use Rattle.desk.specs.Calls.{keyTried, requestTried, openTried, opens, seatTried, labelTried, replyTried, replies}
 use Rattle.desk.specs.Capture.{meets, fates, afterAll, howMany, countsOf}
-use Rattle.listing.specs.Text.{width, decimal, columns, rowText, endText}
+use Rattle.listing.specs.Text.{columns, rowText, endText}
 use Rattle.listing.specs.Listing.{store, seatsText, listText, listOf}
+use Rattle.listing.specs.Sizes.{longestRow, longestEnd, longestList}
 use Rattle.listing.specs.Cases.{framed, small, ListWorked}
 
 -- ---- the frames found, one after the other
@@ -83,11 +85,11 @@ abbrev four : Counts
 four = record { opened = 2; collected = 3; dynamic = 1; refused = 2 }
 
 after-small : afterAll (store (replicate 204 0) (replicate 4 0)) found ≡ kept
-unfolding numberAt numberFrom oneOf ticksOf between upTo isRaw isRequester isOutput firstWrong values headTold read timingKind timeAndDate timed Q.isInformation Q.isChannel Q.requestFields P.isStatus P.isLetter P.isChannel P.leastRun P.replyFields D.isOrder D.isChannel D.leastPeriod D.dynamicFields allBelow countBelow first sameKey isKey heard ends inPlace keyed seatWith lowestClear capacityOf isZero markNames lastEnds isDesk keyTried requestTried openTried opens seatTried callTried replyTried replies meets fates afterAll howMany
+unfolding numberAt numberFrom oneOf ticksOf between upTo isRaw isRequester isOutput firstWrong values headTold read timingKind timeAndDate timed Q.isInformation Q.isChannel Q.requestFields P.isStatus P.isLetter P.isChannel P.leastRun P.replyFields D.isOrder D.isChannel D.leastPeriod D.dynamicFields allBelow countBelow first sameKey isKey heard ends inPlace keyed seatWith lowestClear capacityOf isZero markNames lastEnds isDesk keyTried requestTried openTried opens seatTried labelTried replyTried replies meets fates afterAll howMany
 after-small = refl
 
 counts-small : countsOf (fates (store (replicate 204 0) (replicate 4 0)) found) ≡ four
-unfolding numberAt numberFrom oneOf ticksOf between upTo isRaw isRequester isOutput firstWrong values headTold read timingKind timeAndDate timed Q.isInformation Q.isChannel Q.requestFields P.isStatus P.isLetter P.isChannel P.leastRun P.replyFields D.isOrder D.isChannel D.leastPeriod D.dynamicFields allBelow countBelow first sameKey isKey heard ends inPlace keyed seatWith lowestClear capacityOf isZero markNames lastEnds isDesk keyTried requestTried openTried opens seatTried callTried replyTried replies meets fates afterAll howMany
+unfolding numberAt numberFrom oneOf ticksOf between upTo isRaw isRequester isOutput firstWrong values headTold read timingKind timeAndDate timed Q.isInformation Q.isChannel Q.requestFields P.isStatus P.isLetter P.isChannel P.leastRun P.replyFields D.isOrder D.isChannel D.leastPeriod D.dynamicFields allBelow countBelow first sameKey isKey heard ends inPlace keyed seatWith lowestClear capacityOf isZero markNames lastEnds isDesk keyTried requestTried openTried opens seatTried labelTried replyTried replies meets fates afterAll howMany
 counts-small = refl
 
 text-small : listText kept four
@@ -96,9 +98,13 @@ text-small : listText kept four
     ++ codes "0\tA\t007\t00015\t003\t014\t015\t006\tP\t2122232425\t26272829\tE\n"
     ++ codes "1\t1\t012\t00009\t004\t001\t002\t003\tP\t1112131415\t16171819\tR\n"
     ++ codes "end\t2\t3\t1\t2\n"
-unfolding digits recordsOf width decimal columns rowText endText seatsText listText
+unfolding digits recordsOf widthWithin width decimal columns rowText endText seatsText listText
 text-small = refl
+
+longest-is : longestList ≡ 14170
+unfolding widthWithin width columns longestRow longestEnd
+longest-is = refl
 
 pub list-worked : ListWorked
 unfolding listOf
-list-worked = record { small-list = rw (pieces-small, after-small, counts-small) text-small; not-too-long = refl; too-long = refl }
+list-worked = record { small-list = rw (pieces-small, after-small, counts-small) text-small; not-too-long = refl; too-long = refl; longest = longest-is }

@@ -5,7 +5,7 @@ use mathlib.Core.Bool.{Bool, true, _&&_}
 use mathlib.Core.Path.{_≡_, refl, sym, ap, _∙_}
 use native.Mathlib.Omega.{arith}
 use native.Mathlib.Numerals.{add-one}
-use lib.ListN.{length, getD, take, drop, set, length-append, length-drop, length-take, List·getD-map}
+use lib.ListN.{length, getD, take, drop, length-append, length-drop, length-take, List·getD-map}
 use lib.Seq.{slice, take-suc, take-all, length-take-le}
 use lib.Dec.{ltb, leb}
 use borrow.Author.Tests.{ltb-true, leb-true}
@@ -13,9 +13,14 @@ use Rattle.finder.proofs.Step.{part-is}
 use Rattle.desk.specs.Below.{allBelow}
 use Rattle.digits.proofs.Tests.{and-l, and-r}
 use Rattle.desk.proofs.Below.{all-at}
-use Rattle.listing.specs.Text.{TAB, LF, width, decimal, rowText, Column, columns, shown, HeadingNamesColumns}
-use Rattle.listing.specs.Inside.{Put}
-use Rattle.listing.proofs.PutLaws.{put-one, put-then, decimal-length}
+use Rattle.text.specs.Put.{mostPlace, Put}
+use Rattle.text.specs.Lines.{TAB, LF}
+use Rattle.text.specs.Decimal.{width, decimal}
+use Rattle.text.proofs.PutLaws.{put-parted}
+use Rattle.text.proofs.DecimalLaws.{decimal-length}
+use Rattle.desk.specs.Limits.{cellSize}
+use Rattle.listing.specs.Text.{rowText, Column, columns, shown, HeadingNamesColumns}
+use Rattle.listing.specs.Sizes.{columnsSize}
 
 pub heading-names-columns : HeadingNamesColumns
 unfolding columns
@@ -53,26 +58,23 @@ unfolding columns
 eleven = refl
 
 abbrev fine : ℕ → Bool
-fine i = ltb (getD froms i 0) (getD tos i 0) && leb (getD tos i 0) 51 && leb (getD tos i 0) (getD froms i 0 + 10)
+fine i = ltb (getD froms i 0) (getD tos i 0) && leb (getD tos i 0) cellSize
 
 all-fine : allBelow 11 fine ≡ true
 unfolding allBelow
 all-fine = refl
 
--- a column begins before it ends, ends in the frame, and is ten bytes long at most
+-- a column begins before it ends, and ends in the frame
 pub record Cut (a e : ℕ) : Type 0 where
   pub some : a < e
-  pub inside : e ≤ 51
-  pub most : e ≤ a + 10
+  pub inside : e ≤ cellSize
 
 pub cut-at : (i : ℕ) → i < 11 → Cut (getD froms i 0) (getD tos i 0)
 cut-at i l =
     let h = all-at 11 fine all-fine i l in
-    let g = and-l (ltb (getD froms i 0) (getD tos i 0) && leb (getD tos i 0) 51) _ h in
     record {
-      some = ltb-true _ _ (and-l (ltb (getD froms i 0) (getD tos i 0)) _ g);
-      inside = leb-true _ _ (and-r (ltb (getD froms i 0) (getD tos i 0)) _ g);
-      most = leb-true _ _ (and-r (ltb (getD froms i 0) (getD tos i 0) && leb (getD tos i 0) 51) _ h);
+      some = ltb-true _ _ (and-l (ltb (getD froms i 0) (getD tos i 0)) _ h);
+      inside = leb-true _ _ (and-r (ltb (getD froms i 0) (getD tos i 0)) _ h);
     }
 
 -- ---- one column more
@@ -90,21 +92,13 @@ shown-more f i l =
     ∙ shown-last f (take i columns) (getD columns i none)
     ∙ rw (from-at i, to-at i)
 
-pub part-short : (f : List ℕ) (i : ℕ) → i < 11 → length (take (getD tos i 0 - getD froms i 0) (drop (getD froms i 0) f)) ≤ 10
-part-short f i l =
-    let k = cut-at i l in
-    let n = length-take (getD tos i 0 - getD froms i 0) (drop (getD froms i 0) f) in
-    omega (arith, k .most, n)
-
-pub columns-more : (out : List ℕ) (at : ℕ) (f : List ℕ) (i p : ℕ) (mid mid′ : List ℕ) (q : ℕ) (out′ : List ℕ) → i < 11
-    → Put out at (shown f (take i columns)) p mid → mid′ ≡ set mid p 9 → Put mid′ (p + 1) (take (getD tos i 0 - getD froms i 0) (drop (getD froms i 0) f)) q out′
-    → Put out at (shown f (take (i + 1) columns)) q out′
-columns-more out at f i p mid mid′ q out′ l x e y =
+pub columns-more : (out : List ℕ) (at : ℕ) (f : List ℕ) (i p : ℕ) (mid : List ℕ) (q : ℕ) (mid′ : List ℕ) (r : ℕ) (out′ : List ℕ) → length out ≤ mostPlace → i < 11
+    → Put out at (shown f (take i columns)) p mid → Put mid p (TAB ∷ []) q mid′ → Put mid′ q (take (getD tos i 0 - getD froms i 0) (drop (getD froms i 0) f)) r out′
+    → Put out at (shown f (take (i + 1) columns)) r out′
+columns-more out at f i p mid q mid′ r out′ n l x y z =
     let a = getD froms i 0 in
     let b = getD tos i 0 in
-    let t = part-is f a b (cut-at i l .some) in
-    let z = put-then out at (shown f (take i columns) ++ (9 ∷ [])) (p + 1) mid′ (take (b - a) (drop a f)) q out′ (put-then out at (shown f (take i columns)) p mid (9 ∷ []) (p + 1) mid′ x (put-one mid p 9 mid′ e)) y in
-    rw (shown-more f i l, t, ← append-assoc (shown f (take i columns)) (9 ∷ []) (take (b - a) (drop a f))) z
+    rw (shown-more f i l, part-is f a b (cut-at i l .some)) (put-parted out at (shown f (take i columns)) p mid TAB q mid′ (take (b - a) (drop a f)) r out′ n x y z)
 
 pub columns-all : (out : List ℕ) (at : ℕ) (f : List ℕ) (i p : ℕ) (out′ : List ℕ) → i ≡ 11 → Put out at (shown f (take i columns)) p out′ → Put out at (shown f columns) p out′
 columns-all out at f i p out′ e x =
@@ -112,14 +106,9 @@ columns-all out at f i p out′ e x =
     let t : take i columns ≡ columns = take-all i columns (omega arith) in
     rw t at x
 
--- ---- a row is short
+-- ---- how long a row is
 
--- the bytes that columns take, with their tabs
-abbrev wide : List Column → ℕ
-wide [] = 0
-wide (c ∷ cs) = 1 + (c .to - c .from) + wide cs
-
-shown-short : (f : List ℕ) (cs : List Column) → length (shown f cs) ≤ wide cs
+shown-short : (f : List ℕ) (cs : List Column) → length (shown f cs) ≤ columnsSize cs
 shown-short f [] = omega arith
 shown-short f (c ∷ cs) =
     let h = shown-short f cs in
@@ -128,44 +117,36 @@ shown-short f (c ∷ cs) =
     let b = length-take (c .to) f in
     omega (arith, h, e, a, b)
 
-pub columns-short : (f : List ℕ) → length (shown f columns) ≤ 52
-unfolding columns
-columns-short f = shown-short f columns
-
-pub row-short : (s : ℕ) (f : List ℕ) → length (rowText s f) ≤ 53 + width s
+row-length : (s : ℕ) (f : List ℕ) → length (rowText s f) ≡ width s + length (shown f columns) + 1
 unfolding rowText
-row-short s f =
+row-length s f =
     let a = length-append (decimal s ++ shown f columns) (LF ∷ []) in
     let b = length-append (decimal s) (shown f columns) in
     let d = decimal-length s in
-    let c = columns-short f in
-    omega (arith, a, b, d, c)
+    omega (arith, a, b, d)
+
+pub row-short : (s : ℕ) (f : List ℕ) → length (rowText s f) ≤ width s + columnsSize columns + 1
+row-short s f = let r = row-length s f in let c = shown-short f columns in omega (arith, r, c)
 
 -- ---- a row of a whole frame
 
 abbrev within : List Column → Bool
 within [] = true
-within (c ∷ cs) = leb (c .to) 51 && within cs
+within (c ∷ cs) = leb (c .to) cellSize && within cs
 
-shown-whole : (f : List ℕ) (cs : List Column) → length f ≡ 51 → within cs ≡ true → length (shown f cs) ≡ wide cs
+shown-whole : (f : List ℕ) (cs : List Column) → length f ≡ cellSize → within cs ≡ true → length (shown f cs) ≡ columnsSize cs
 shown-whole f [] l w = refl
 shown-whole f (c ∷ cs) l w =
-    let h = shown-whole f cs l (and-r (leb (c .to) 51) (within cs) w) in
-    let k = leb-true (c .to) 51 (and-l (leb (c .to) 51) (within cs) w) in
+    let h = shown-whole f cs l (and-r (leb (c .to) cellSize) (within cs) w) in
+    let k = leb-true (c .to) cellSize (and-l (leb (c .to) cellSize) (within cs) w) in
     let e = length-append (slice (c .from) (c .to) f) (shown f cs) in
     let a = length-drop (c .from) (take (c .to) f) in
     let b = length-take-le (c .to) f (omega (arith, k, l)) in
     omega (arith, h, e, a, b)
 
-columns-whole : (f : List ℕ) → length f ≡ 51 → length (shown f columns) ≡ 52
+columns-whole : (f : List ℕ) → length f ≡ cellSize → length (shown f columns) ≡ 52
 unfolding columns
 columns-whole f l = shown-whole f columns l refl
 
-pub row-whole : (s : ℕ) (f : List ℕ) → length f ≡ 51 → length (rowText s f) ≡ width s + 53
-unfolding rowText
-row-whole s f l =
-    let a = length-append (decimal s ++ shown f columns) (LF ∷ []) in
-    let b = length-append (decimal s) (shown f columns) in
-    let d = decimal-length s in
-    let c = columns-whole f l in
-    omega (arith, a, b, d, c)
+pub row-whole : (s : ℕ) (f : List ℕ) → length f ≡ cellSize → length (rowText s f) ≡ width s + 53
+row-whole s f l = let r = row-length s f in let c = columns-whole f l in omega (arith, r, c)

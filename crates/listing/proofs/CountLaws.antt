@@ -14,7 +14,7 @@ use Rattle.desk.specs.Memory.{Memory, cellAt, markAt, recordsOf, heldBy}
 use Rattle.desk.specs.Seats.{usedBit}
 use Rattle.desk.specs.Desk.{markNames}
 use Rattle.digits.proofs.Tests.{by-test, and-l}
-use Rattle.desk.proofs.TestLaws.{desk-facts}
+use Rattle.desk.proofs.ClauseLaws.{desk-facts}
 use Rattle.desk.proofs.LeavesLaws.{all-desk}
 use Rattle.desk.proofs.CellLaws.{all-cells}
 use Rattle.listing.specs.Listing.{store, after, counts}

@@ -5,7 +5,8 @@ use mathlib.Core.Bool.{Bool, true, false, cond, _&&_}
 use mathlib.Core.Path.{_≡_, refl, sym, _∙_}
 use native.Mathlib.Omega.{arith}
 use Rattle.digits.specs.Told.{Told, gives, refuses, tried}
-use Rattle.frames.specs.Refusals.{ROOM}
+use Rattle.digits.specs.declared.refusal.Refusal.{Refusal}
+use Rattle.digits.specs.Refusals.{ROOM}
 use Rattle.listing.specs.Listing.{short, fits}
 use Rattle.listing.specs.Demands.{ListIsOfCapture, RefusedKeeps}
 use Rattle.listing.proofs.StoreLaws.{store-desk}
@@ -13,11 +14,11 @@ use Rattle.listing.proofs.StoreLaws.{store-desk}
 pub list-is-of-capture : ListIsOfCapture
 list-is-of-capture cells marks s = rw (store-desk cells marks s)
 
-not-fitting : (b : Bool) (n number offset : ℕ) → tried b ROOM 0 (gives n) ≡ refuses number offset → b ≡ false
-not-fitting true n number offset e = absurd (let z : _≡_ {A = ℕ} 0 1 = cc in omega arith)
-not-fitting false n number offset e = refl
+not-fitting : (b : Bool) (n : ℕ) (f : Refusal) → tried b ROOM (gives n) ≡ refuses f → b ≡ false
+not-fitting true n f e = absurd (let z : _≡_ {A = ℕ} 0 1 = cc in omega arith)
+not-fitting false n f e = refl
 
 pub refused-keeps : RefusedKeeps
-refused-keeps cells marks s out answer cells′ marks′ out′ number offset d h =
-    let no = not-fitting (fits cells marks s out) _ number offset (sym (d .told) ∙ h) in
+refused-keeps cells marks s out answer cells′ marks′ out′ f d h =
+    let no = not-fitting (fits cells marks s out) _ f (sym (d .told) ∙ h) in
     record { same-cells = d .cells ∙ rw no; same-marks = d .marks ∙ rw no; same-out = d .bytes ∙ rw no }

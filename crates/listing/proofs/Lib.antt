@@ -1,4 +1,3 @@
-pub mod PutLaws
 pub mod ColumnLaws
 pub mod RowLaws
 pub mod StoreLaws

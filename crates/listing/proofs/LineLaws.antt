@@ -1,5 +1,5 @@
 -- The lines of a list: a row has one, since no held frame shows a byte that ends a line. Assumes nothing.
-use Prim.Native.Nat.{ℕ, zero, suc, _+_, _/_, _%_, _≤_, _<_}
+use Prim.Native.Nat.{ℕ, zero, suc, _+_, _-_, _≤_, _<_}
 use mathlib.Core.List.{List, [], _∷_, _++_}
 use mathlib.Core.Bool.{Bool, true, cond, false≢true, _&&_}
 use mathlib.Core.Path.{_≡_, refl, ap, _∙_}
@@ -9,37 +9,33 @@ use lib.ListN.{length, take, drop, length-append}
 use lib.Seq.{slice, take-append-le}
 use borrow.Author.Tests.{leb-true, le-leb, ne-eqb}
 use Rattle.digits.specs.Told.{Told, gives, refuses}
-use Rattle.digits.specs.Digits.{digits}
 use Rattle.digits.proofs.Tests.{by-test, and-true, and-l, and-r}
+use Rattle.text.specs.Decimal.{decimal}
+use Rattle.text.specs.Lines.{LF, lines}
+use Rattle.text.proofs.LineLaws.{lines-both, decimal-none}
 use Rattle.frames.specs.declared.reply.StaticReply.{StaticReply}
+use Rattle.frames.specs.declared.reply.ReplyLabel.{ReplyLabel}
 use Rattle.frames.specs.Rules.{between, isRaw}
 use Rattle.frames.specs.Kind.{CR, read}
-use Rattle.frames.specs.Reply.{reply}
+use Rattle.frames.specs.Reply.{reply, labelled}
 use Rattle.finder.specs.Pieces.{pieces}
 use Rattle.finder.specs.Demands.{every}
 use Rattle.finder.proofs.Taken.{Printable, reply-printable}
-use Rattle.desk.specs.Limits.{seatCount}
-use Rattle.desk.specs.declared.call.Key.{Key}
-use Rattle.desk.specs.declared.call.Call.{Call}
+use Rattle.desk.specs.Limits.{seatCount, cellSize}
+use Rattle.desk.specs.declared.key.Key.{Key}
 use Rattle.desk.specs.declared.capture.Counts.{Counts}
-use Rattle.desk.specs.Call.{called, heard, hasKey}
+use Rattle.desk.specs.Hearing.{heard, hasKey}
 use Rattle.desk.specs.Key.{seatKey}
 use Rattle.desk.specs.Seats.{seatAt}
 use Rattle.desk.specs.Memory.{Memory, cellAt, markAt, recordsOf, heldBy}
-use Rattle.desk.proofs.TestLaws.{desk-facts}
+use Rattle.desk.proofs.ClauseLaws.{desk-facts}
 use Rattle.desk.proofs.LeavesLaws.{all-desk}
-use Rattle.desk.proofs.CallLaws.{heard-long}
-use Rattle.listing.specs.Text.{LF, decimal, width, Column, columns, shown, heading, rowText, rowsText, countText, endText}
-use Rattle.listing.specs.Listing.{store, seatsText, listText, after, counts, listOf}
-use Rattle.listing.specs.Sizes.{rowsIn, lines, LinesAreRows}
+use Rattle.desk.proofs.HearingLaws.{heard-long}
+use Rattle.listing.specs.Text.{Column, columns, shown, heading, rowText, rowsText, countText, endText}
+use Rattle.listing.specs.Listing.{mostInput, store, seatsText, listText, after, counts, listOf}
+use Rattle.listing.specs.Sizes.{rowsIn, LinesAreRows}
 use Rattle.listing.proofs.StoreLaws.{store-desk}
 use Rattle.listing.proofs.CountLaws.{rows-are-collected}
-
-lines-both : (a b : List ℕ) → lines (a ++ b) ≡ lines a + lines b
-lines-both [] b = omega arith
-lines-both (x ∷ a) b =
-    let h = lines-both a b in
-    by-test (eqb x LF) (λ e. rw e (omega (arith, h))) (λ e. rw e (omega (arith, h)))
 
 -- ---- texts that end no line
 
@@ -49,17 +45,6 @@ raw-none [] e = refl
 raw-none (x ∷ l) e =
     let h = leb-true 32 x (and-l (leb 32 x) (leb x 126) (and-l (isRaw x) (every isRaw l) e)) in
     rw (ne-eqb x LF (λ q. omega arith)) (raw-none l (and-r (isRaw x) (every isRaw l) e))
-
-digits-none : (w n : ℕ) → lines (digits w n) ≡ 0
-unfolding digits
-digits-none zero n = refl
-digits-none (suc w) n =
-    lines-both (digits w (n / 10)) ((48 + n % 10) ∷ [])
-    ∙ rw (digits-none w (n / 10), ne-eqb (48 + n % 10) LF (λ q. omega arith))
-
-decimal-none : (n : ℕ) → lines (decimal n) ≡ 0
-unfolding decimal
-decimal-none n = digits-none (width n) n
 
 count-none : (n : ℕ) → lines (countText n) ≡ 0
 count-none n = decimal-none n
@@ -79,10 +64,10 @@ every-drop p (suc n) (x ∷ l) e = every-drop p n l (and-r (p x) (every p l) e)
 -- between lead byte and CR
 abbrev within : List Column → Bool
 within [] = true
-within (c ∷ cs) = (leb 1 (c .from) && leb 1 (c .to) && leb (c .to) 50) && within cs
+within (c ∷ cs) = (leb 1 (c .from) && leb 1 (c .to) && leb (c .to) (cellSize - 1)) && within cs
 
-module _ (inner : List ℕ) (long : length inner ≡ 49) (raw : every isRaw inner ≡ true) where
-  part-none : (a e : ℕ) → 1 ≤ a → 1 ≤ e → e ≤ 50 → lines (slice a e (18 ∷ (inner ++ (CR ∷ [])))) ≡ 0
+module _ (inner : List ℕ) (long : length inner ≡ cellSize - 2) (raw : every isRaw inner ≡ true) where
+  part-none : (a e : ℕ) → 1 ≤ a → 1 ≤ e → e ≤ cellSize - 1 → lines (slice a e (18 ∷ (inner ++ (CR ∷ [])))) ≡ 0
   part-none zero e h k l = absurd (omega arith)
   part-none (suc a) zero h k l = absurd (omega arith)
   part-none (suc a) (suc e) h k l =
@@ -91,13 +76,13 @@ module _ (inner : List ℕ) (long : length inner ≡ 49) (raw : every isRaw inne
   shown-none : (cs : List Column) → within cs ≡ true → lines (shown (18 ∷ (inner ++ (CR ∷ []))) cs) ≡ 0
   shown-none [] w = refl
   shown-none (c ∷ cs) w =
-      let t = and-l (leb 1 (c .from) && leb 1 (c .to) && leb (c .to) 50) (within cs) w in
-      let u = and-l (leb 1 (c .from) && leb 1 (c .to)) (leb (c .to) 50) t in
-      let x = part-none (c .from) (c .to) (leb-true 1 (c .from) (and-l (leb 1 (c .from)) (leb 1 (c .to)) u)) (leb-true 1 (c .to) (and-r (leb 1 (c .from)) (leb 1 (c .to)) u)) (leb-true (c .to) 50 (and-r (leb 1 (c .from) && leb 1 (c .to)) (leb (c .to) 50) t)) in
-      let y = shown-none cs (and-r (leb 1 (c .from) && leb 1 (c .to) && leb (c .to) 50) (within cs) w) in
+      let t = and-l (leb 1 (c .from) && leb 1 (c .to) && leb (c .to) (cellSize - 1)) (within cs) w in
+      let u = and-l (leb 1 (c .from) && leb 1 (c .to)) (leb (c .to) (cellSize - 1)) t in
+      let x = part-none (c .from) (c .to) (leb-true 1 (c .from) (and-l (leb 1 (c .from)) (leb 1 (c .to)) u)) (leb-true 1 (c .to) (and-r (leb 1 (c .from)) (leb 1 (c .to)) u)) (leb-true (c .to) (cellSize - 1) (and-r (leb 1 (c .from) && leb 1 (c .to)) (leb (c .to) (cellSize - 1)) t)) in
+      let y = shown-none cs (and-r (leb 1 (c .from) && leb 1 (c .to) && leb (c .to) (cellSize - 1)) (within cs) w) in
       lines-both (slice (c .from) (c .to) (18 ∷ (inner ++ (CR ∷ [])))) (shown (18 ∷ (inner ++ (CR ∷ []))) cs) ∙ omega (arith, x, y)
 
-row-one : (s : ℕ) (f : List ℕ) → length f ≡ 51 → Printable 18 f → lines (rowText s f) ≡ 1
+row-one : (s : ℕ) (f : List ℕ) → length f ≡ cellSize → Printable 18 f → lines (rowText s f) ≡ 1
 unfolding rowText columns
 row-one s f l p =
     let n = length-append (p .inner) (CR ∷ []) in
@@ -112,15 +97,15 @@ row-one s f l p =
 
 -- a well formed reply
 Good : List ℕ → Type 0
-Good f = (length f ≡ 51) × Printable 18 f
+Good f = (length f ≡ cellSize) × Printable 18 f
 
-heard-good : (f : List ℕ) (x : Told StaticReply) → read reply f ≡ x → (k : Key) → hasKey k (called x) ≡ true → Printable 18 f
+heard-good : (f : List ℕ) (x : Told StaticReply) → read reply f ≡ x → (k : Key) → hasKey k (labelled x) ≡ true → Printable 18 f
 heard-good f (gives r) e k h = reply-printable f r e
-heard-good f (refuses n o) e k h = absurd (false≢true h)
+heard-good f (refuses why) e k h = absurd (false≢true h)
 
-given-long : (f : List ℕ) (x : Told Call) → heard f ≡ x → (k : Key) → hasKey k x ≡ true → length f ≡ 51
+given-long : (f : List ℕ) (x : Told ReplyLabel) → heard f ≡ x → (k : Key) → hasKey k x ≡ true → length f ≡ cellSize
 given-long f (gives c) e k h = heard-long f c e
-given-long f (refuses n o) e k h = absurd (false≢true h)
+given-long f (refuses why) e k h = absurd (false≢true h)
 
 keyed-good : (f : List ℕ) (k : Key) → hasKey k (heard f) ≡ true → Good f
 unfolding heard Good
@@ -174,4 +159,4 @@ lines-are-rows cells marks s l =
     let a = lines-both (heading ++ seatsText m seatCount) (endText c) in
     let b = lines-both heading (seatsText m seatCount) in
     let one : lines heading ≡ 1 = refl in
-    rw (le-leb (length s) 32768 l) (a ∙ omega (arith, b, one, rows, rows-are-collected cells marks s, end-one c))
+    rw (le-leb (length s) mostInput l) (a ∙ omega (arith, b, one, rows, rows-are-collected cells marks s, end-one c))

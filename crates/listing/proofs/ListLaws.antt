@@ -6,21 +6,23 @@ use mathlib.Core.Path.{_≡_, refl, ap, _∙_}
 use native.Mathlib.Omega.{arith}
 use native.Mathlib.Nat.{zero-add}
 use lib.ListN.{length, drop}
-use lib.Seq.{sets-eq}
+use lib.Seq.{sets, sets-eq}
 use lib.Dec.{leb}
 use borrow.Author.Tests.{le-leb, lt-leb, leb-true}
 use Rattle.digits.specs.Told.{gives, refuses, tried}
-use Rattle.frames.specs.Refusals.{ROOM}
+use Rattle.digits.specs.Refusals.{ROOM, DESK}
 use Rattle.desk.specs.declared.capture.CaptureAnswer.the-variants.{Taken as All, NoDesk}
-use Rattle.desk.specs.Limits.{seatCount}
+use Rattle.text.specs.Put.{mostPlace, placeAfter, Put}
+use Rattle.desk.specs.Limits.{seatCount, mostCells, cellSize, storeSize}
 use Rattle.desk.specs.Memory.{Memory, recordsOf}
 use Rattle.desk.specs.Capture.{TookCapture}
 use Rattle.listing.specs.declared.Taken.{Taken}
 use Rattle.listing.specs.declared.ListAnswer.{ListAnswer}
 use Rattle.listing.specs.declared.ListAnswer.the-variants.{Written, Room}
 use Rattle.listing.specs.Text.{tooLong, rowsText}
-use Rattle.listing.specs.Listing.{store, after, counts, short, listOf, seatsText, listText, Listed}
-use Rattle.listing.specs.Inside.{Put, seatsOf, listLines, TakenAs, WroteAll, copied}
+use Rattle.listing.specs.Listing.{mostInput, store, after, counts, short, listOf, seatsText, listText, Listed}
+use Rattle.listing.specs.inside.Rows.{seatsOf, listLines}
+use Rattle.listing.specs.inside.Steps.{TakenAs, WroteAll}
 use Rattle.listing.proofs.StoreLaws.{restored, store-desk, after-leaves, after-fits}
 
 -- ---- a text that fits
@@ -33,8 +35,8 @@ put-all out text end out′ p l =
 pub wrote-none : (text out : List ℕ) → length out < length text → WroteAll text out Room out
 wrote-none text out l = record { told = rw (lt-leb (length text) (length out) l); bytes = rw (lt-leb (length text) (length out) l) }
 
-pub wrote-all : (text out : List ℕ) (end : ℕ) (out′ : List ℕ) → length text ≤ length out → Put out 0 text end out′ → WroteAll text out (Written end) out′
-wrote-all text out end out′ l p =
+pub wrote-all : (text out : List ℕ) (end : ℕ) (out′ : List ℕ) → length out < mostPlace → length text ≤ length out → Put out 0 text end out′ → WroteAll text out (Written end) out′
+wrote-all text out end out′ r l p =
     let n : end ≡ length text = omega (arith, p .next) in
     record { told = rw (le-leb (length text) (length out) l, n); bytes = rw (le-leb (length text) (length out) l) (put-all out text end out′ p l) }
 
@@ -52,25 +54,25 @@ module _ (cells marks s : List ℕ) (m : Memory) where
   pub never-no-desk : {A : Type 0} → TookCapture (store cells marks) s NoDesk m → A
   never-no-desk k =
       let d = store-desk cells marks s in
-      let a : refuses 9 0 ≡ gives (counts cells marks s) = rw d at (k .told) in
+      let a : refuses DESK ≡ gives (counts cells marks s) = rw d at (k .told) in
       let z : _≡_ {A = ℕ} 0 1 = cc in absurd (omega arith)
 
 module _ (cells marks s : List ℕ) (t : Taken) (cells′ marks′ : List ℕ) (k : TakenAs cells marks s t cells′ marks′) where
   -- what is held is there
-  pub taken-fits : (t .count ≤ 256) × ((t .count ≤ length marks′) × (t .count * 51 ≤ length cells′))
+  pub taken-fits : (t .count ≤ length marks′) × (t .count * cellSize ≤ length cells′)
   taken-fits =
       let f = after-fits cells marks s in
-      (rw (k .count) (f .most), (rw (k .count, k .kept-marks) (f .marked), rw (k .count, k .kept-cells) (f .celled)))
+      (rw (k .count, k .kept-marks) (f .marked), rw (k .count, k .kept-cells) (f .celled))
 
-  pub cells-back : (zeros old back : List ℕ) → length zeros ≡ 13056 → old ≡ copied cells zeros → back ≡ copied old cells′ → back ≡ cells
+  pub cells-back : (zeros old back : List ℕ) → length zeros ≡ storeSize → old ≡ sets zeros 0 cells → back ≡ sets cells′ 0 old → back ≡ cells
   cells-back zeros old back z o b =
       let f = after-leaves cells marks s in
-      restored 13056 cells cells′ zeros old back z (rw (k .kept-cells) (f .cells)) (rw (k .kept-cells) (f .cells-behind)) o b
+      restored storeSize cells cells′ zeros old back z (rw (k .kept-cells) (f .cells)) (rw (k .kept-cells) (f .cells-behind)) o b
 
-  pub marks-back : (zeros old back : List ℕ) → length zeros ≡ 256 → old ≡ copied marks zeros → back ≡ copied old marks′ → back ≡ marks
+  pub marks-back : (zeros old back : List ℕ) → length zeros ≡ mostCells → old ≡ sets zeros 0 marks → back ≡ sets marks′ 0 old → back ≡ marks
   marks-back zeros old back z o b =
       let f = after-leaves cells marks s in
-      restored 256 marks marks′ zeros old back z (rw (k .kept-marks) (f .marks)) (rw (k .kept-marks) (f .marks-behind)) o b
+      restored mostCells marks marks′ zeros old back z (rw (k .kept-marks) (f .marks)) (rw (k .kept-marks) (f .marks-behind)) o b
 
 -- ---- the list
 
@@ -79,9 +81,9 @@ unfolding seatsText seatsOf
 seats-are m zero = refl
 seats-are m (suc n) = ap (λ (l : List ℕ). l ++ rowsText n (recordsOf (m .cells) (m .marks) n (m .count))) (seats-are m n)
 
-module _ (cells marks s : List ℕ) (l : length s ≤ 32768) where
+module _ (cells marks s : List ℕ) (l : length s ≤ mostInput) where
   is-short : short cells marks s ≡ true
-  is-short = le-leb (length s) 32768 l
+  is-short = le-leb (length s) mostInput l
 
   lines-are : (t : Taken) (cells′ marks′ : List ℕ) → TakenAs cells marks s t cells′ marks′ → listLines cells′ marks′ t ≡ listOf cells marks s
   unfolding listOf listText
@@ -92,15 +94,16 @@ module _ (cells marks s : List ℕ) (l : length s ≤ 32768) where
       → Put scratch 0 (listLines cells′ marks′ t) end scratch′ → length out < end → back-cells ≡ cells → back-marks ≡ marks → Listed cells marks s out Room back-cells back-marks out
   listed-room out t cells′ marks′ end scratch scratch′ back-cells back-marks k p h ec em =
       let e = lines-are t cells′ marks′ k in
-      let n : end ≡ length (listOf cells marks s) = p .next ∙ ap (λ (x : List ℕ). 0 + length x) e ∙ omega arith in
+      let n : end ≡ placeAfter 0 (length (listOf cells marks s)) = p .next ∙ ap (λ (x : List ℕ). placeAfter 0 (length x)) e in
       let b = lt-leb (length (listOf cells marks s)) (length out) (omega (arith, n)) in
       record { told = rw b; bytes = rw b; cells = rw b ec; marks = rw b em }
 
-  pub listed-written : (out : List ℕ) (t : Taken) (cells′ marks′ : List ℕ) (end : ℕ) (scratch scratch′ : List ℕ) (last : ℕ) (out′ : List ℕ) → TakenAs cells marks s t cells′ marks′
+  pub listed-written : (out : List ℕ) (t : Taken) (cells′ marks′ : List ℕ) (end : ℕ) (scratch scratch′ : List ℕ) (last : ℕ) (out′ : List ℕ) → length out < mostPlace → TakenAs cells marks s t cells′ marks′
       → Put scratch 0 (listLines cells′ marks′ t) end scratch′ → end ≤ length out → Put out 0 (listLines cells′ marks′ t) last out′ → Listed cells marks s out (Written end) cells′ marks′ out′
-  listed-written out t cells′ marks′ end scratch scratch′ last out′ k p h q =
+  listed-written out t cells′ marks′ end scratch scratch′ last out′ r k p h q =
       let e = lines-are t cells′ marks′ k in
-      let n : end ≡ length (listOf cells marks s) = p .next ∙ ap (λ (x : List ℕ). 0 + length x) e ∙ omega arith in
+      let m : end ≡ placeAfter 0 (length (listOf cells marks s)) = p .next ∙ ap (λ (x : List ℕ). placeAfter 0 (length x)) e in
+      let n : end ≡ length (listOf cells marks s) = omega (arith, m, r, h) in
       let b = le-leb (length (listOf cells marks s)) (length out) (omega (arith, n)) in
       let f : Put out 0 (listOf cells marks s) last out′ = rw e at q in
       record {
@@ -114,10 +117,10 @@ neither : (x y : List ℕ) (t : Bool) → y ≡ cond (t && false) x y
 neither x y true = refl
 neither x y false = refl
 
-pub listed-long : (cells marks s out : List ℕ) (a : ListAnswer) (out′ : List ℕ) → 32768 < length s → WroteAll tooLong out a out′ → Listed cells marks s out a cells marks out′
+pub listed-long : (cells marks s out : List ℕ) (a : ListAnswer) (out′ : List ℕ) → mostInput < length s → WroteAll tooLong out a out′ → Listed cells marks s out a cells marks out′
 unfolding listOf
 listed-long cells marks s out a out′ l w =
-    let b = lt-leb (length s) 32768 l in
+    let b = lt-leb (length s) mostInput l in
     record {
       told = rw b (w .told);
       bytes = rw b (w .bytes);
@@ -127,7 +130,7 @@ listed-long cells marks s out a out′ l w =
 
 -- ---- what a caller goes by
 
-given-is : (b : Bool) (n m : ℕ) → gives n ≡ tried b ROOM 0 (gives m) → (b ≡ true) × (n ≡ m)
+given-is : (b : Bool) (n m : ℕ) → gives n ≡ tried b ROOM (gives m) → (b ≡ true) × (n ≡ m)
 given-is true n m e = (refl, let h : n ≡ m = cc in h)
 given-is false n m e = absurd (let z : _≡_ {A = ℕ} 0 1 = cc in omega arith)
 

@@ -1,36 +1,43 @@
 -- Laws of memory that is kept aside and put back, and of what a capture leaves of it. Assumes nothing.
-use Prim.Native.Nat.{ℕ, suc, _+_, _*_, _<_, _≤_, min}
+use Prim.Native.Nat.{ℕ, _+_, _*_, _<_, _≤_, min}
 use mathlib.Core.List.{List, _++_}
 use mathlib.Core.Bool.{true}
-use mathlib.Core.Path.{_≡_, sym, ap, ap₂, _∙_}
+use mathlib.Core.Path.{_≡_, sym, ap, _∙_}
 use native.Mathlib.Omega.{arith}
 use native.Mathlib.Nat.{zero-add}
-use native.Mathlib.Numerals.{add-one}
-use native.Mathlib.Decide.{decLt}
-use lib.ListN.{length, getD, take, drop, set, length-append, length-drop, take-append-drop, drop-of-length-le}
-use lib.Seq.{paste-suc, take-at, length-take-le}
+use lib.ListN.{length, getD, take, drop, set, take-append-drop, drop-of-length-le}
+use lib.Seq.{sets, sets-eq, length-sets, length-take-le, take-at}
+use Rattle.digits.proofs.Tests.{by-less}
+use Rattle.digits.proofs.Writing.{sets-beyond, run-more, run-whole}
 use Rattle.finder.specs.Pieces.{pieces}
+use Rattle.desk.specs.Limits.{mostCells, cellSize}
 use Rattle.desk.specs.Memory.{capacityOf}
 use Rattle.desk.specs.Desk.{isDesk}
-use Rattle.desk.proofs.TestLaws.{desk-facts}
+use Rattle.desk.proofs.ClauseLaws.{desk-facts}
 use Rattle.desk.proofs.MixLaws.{stays-desk}
 use Rattle.desk.proofs.LeavesLaws.{Leaves, all-leaves, all-desk}
 use Rattle.listing.specs.Listing.{store, after}
-use Rattle.listing.specs.Inside.{copied}
 
 -- ---- a copy, element by element
 
-pub copy-more : (d s : List ℕ) (i : ℕ) → i < length d → i < length s → set (take i s ++ drop i d) i (getD s i 0) ≡ take (i + 1) s ++ drop (i + 1) d
-copy-more d s i k l =
-    let z : 0 + i < length d = omega arith in
-    let h = paste-suc d 0 s i 0 z l in
-    rw (add-one i) (rw (zero-add i, zero-add (suc i)) at h)
+pub copy-more : (l vs : List ℕ) (i : ℕ) → i < length vs → set (sets l 0 (take i vs)) i (getD vs i 0) ≡ sets l 0 (take (i + 1) vs)
+copy-more l vs i h = ap (λ (k : ℕ). set (sets l 0 (take i vs)) k (getD vs i 0)) (sym (zero-add i)) ∙ run-more l 0 vs i h
+
+pub copy-whole : (l vs : List ℕ) (n : ℕ) → n ≡ min (length l) (length vs) → sets l 0 (take n vs) ≡ sets l 0 vs
+copy-whole l vs n e =
+    by-less 0 (length l)
+    (λ h. run-whole l 0 vs n (omega (arith, e)) h)
+    (λ h. sets-beyond l 0 (take n vs) h ∙ sym (sets-beyond l 0 vs h))
 
 -- ---- put back
 
-by-less {ℓ} : {A : Type ℓ} (a b : ℕ) → (a < b → A) → (b ≤ a → A) → Dec (a < b) → A
-by-less a b f g (yes h) = f h
-by-less a b f g (no h) = g (omega arith)
+-- a list's first elements in place of another's
+front : (l vs : List ℕ) (n : ℕ) → n ≡ min (length l) (length vs) → sets l 0 vs ≡ take n vs ++ drop n l
+front l vs n e =
+    let t = length-take-le n vs (omega (arith, e)) in
+    sym (copy-whole l vs n e)
+    ∙ sets-eq (take n vs) l 0 (omega (arith, e, t))
+    ∙ ap (λ (k : ℕ). take n vs ++ drop k l) (ap (λ (k : ℕ). 0 + k) t ∙ zero-add n)
 
 -- what is behind n stayed, so it is behind the shorter of both too
 behind-min : (n : ℕ) (c c′ : List ℕ) → length c′ ≡ length c → drop n c′ ≡ drop n c → drop (min (length c) n) c′ ≡ drop (min (length c) n) c
@@ -42,17 +49,16 @@ behind-min n c c′ l d =
     let a : length c′ ≤ length c = omega arith in
     let b : length c ≤ length c = omega arith in
     rw e (drop-of-length-le c′ a ∙ sym (drop-of-length-le c b)))
-    (decLt n (length c))
 
-pub restored : (n : ℕ) (c c′ zeros old back : List ℕ) → length zeros ≡ n → length c′ ≡ length c → drop n c′ ≡ drop n c → old ≡ copied c zeros → back ≡ copied old c′ → back ≡ c
+-- kept on zeros, and put back on what has changed in the first n elements alone
+pub restored : (n : ℕ) (c c′ zeros old back : List ℕ) → length zeros ≡ n → length c′ ≡ length c → drop n c′ ≡ drop n c → old ≡ sets zeros 0 c → back ≡ sets c′ 0 old → back ≡ c
 restored n c c′ zeros old back z l d o b =
     let m : ℕ = min (length c) n in
     let t = length-take-le m c (omega arith) in
-    let e : old ≡ take m c ++ drop m zeros = rw z at o in
-    let k : length old ≡ n = ap length e ∙ length-append (take m c) (drop m zeros) ∙ omega (arith, t, length-drop m zeros, z) in
-    let q : min (length old) (length c′) ≡ m = omega (arith, k, l) in
+    let e : old ≡ take m c ++ drop m zeros = o ∙ front zeros c m (omega (arith, z)) in
+    let k : length old ≡ n = ap length o ∙ length-sets zeros 0 c ∙ z in
     let f : take m old ≡ take m c = ap (take m) e ∙ take-at (take m c) (drop m zeros) m t in
-    b ∙ rw q (ap₂ (λ (x y : List ℕ). x ++ y) f (behind-min n c c′ l d) ∙ take-append-drop m c)
+    b ∙ front c′ old m (omega (arith, k, l)) ∙ rw (f, behind-min n c c′ l d) (take-append-drop m c)
 
 module _ (cells marks s : List ℕ) where
   pub store-desk : isDesk (store cells marks) ≡ true
@@ -63,9 +69,9 @@ module _ (cells marks s : List ℕ) where
 
   -- what is held is there
   pub record Fits : Type 0 where
-    pub most : after cells marks s .count ≤ 256
+    pub most : after cells marks s .count ≤ mostCells
     pub marked : after cells marks s .count ≤ length (after cells marks s .marks)
-    pub celled : after cells marks s .count * 51 ≤ length (after cells marks s .cells)
+    pub celled : after cells marks s .count * cellSize ≤ length (after cells marks s .cells)
 
   pub after-fits : Fits
   unfolding capacityOf

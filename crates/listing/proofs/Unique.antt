@@ -10,7 +10,7 @@ use Rattle.listing.specs.Unique.{OneOutcome}
 
 abbrev listBack : Told ℕ → ListAnswer
 listBack (gives n) = Written n
-listBack (refuses number offset) = Room
+listBack (refuses f) = Room
 
 list-back : (a : ListAnswer) → listBack (listTold a) ≡ a
 list-back (Written n) = refl

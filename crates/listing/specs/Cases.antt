@@ -7,6 +7,7 @@ use mathlib.Core.Path.{_≡_}
 use lib.ListN.{replicate}
 use Rattle.digits.specs.Text.{codes}
 use Rattle.listing.specs.Listing.{short, listOf}
+use Rattle.listing.specs.Sizes.{longestList}
 
 -- a frame of these letters between its lead byte and its CR
 abbrev pub framed : ℕ → String → List ℕ → List ℕ
@@ -34,3 +35,5 @@ pub record ListWorked : Type 0 where
   -- 32,768 bytes are listed, one more is too long
   pub not-too-long : short [] [] (replicate 32768 0) ≡ true
   pub too-long : listOf [] [] (replicate 32769 0) ≡ codes "input too long\n"
+  -- and the longest list, written out
+  pub longest : longestList ≡ 14170

@@ -2,6 +2,7 @@
 use Prim.Native.Nat.{ℕ}
 use mathlib.Core.List.{List}
 use mathlib.Core.Path.{_≡_}
+use Rattle.digits.specs.declared.refusal.Refusal.{Refusal}
 use Rattle.digits.specs.Told.{gives, refuses}
 use Rattle.desk.specs.Capture.{captures}
 use Rattle.listing.specs.declared.ListAnswer.{ListAnswer}
@@ -18,5 +19,5 @@ pub record Untouched (cells marks out cells′ marks′ out′ : List ℕ) : Typ
 
 abbrev pub RefusedKeeps : Type 0
 RefusedKeeps =
-    (cells marks s out : List ℕ) (answer : ListAnswer) (cells′ marks′ out′ : List ℕ) (number offset : ℕ)
-    → Listed cells marks s out answer cells′ marks′ out′ → listTold answer ≡ refuses number offset → Untouched cells marks out cells′ marks′ out′
+    (cells marks s out : List ℕ) (answer : ListAnswer) (cells′ marks′ out′ : List ℕ) (f : Refusal)
+    → Listed cells marks s out answer cells′ marks′ out′ → listTold answer ≡ refuses f → Untouched cells marks out cells′ marks′ out′

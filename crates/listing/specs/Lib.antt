@@ -4,4 +4,4 @@ pub mod Sizes
 pub mod Demands
 pub mod Unique
 pub mod Cases
-pub mod Inside
+pub mod inside

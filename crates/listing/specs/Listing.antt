@@ -6,7 +6,7 @@ use mathlib.Core.Path.{_≡_}
 use lib.ListN.{length, drop}
 use lib.Dec.{leb}
 use Rattle.digits.specs.Told.{Told, gives, refuses, tried}
-use Rattle.frames.specs.Refusals.{ROOM}
+use Rattle.digits.specs.Refusals.{ROOM}
 use Rattle.finder.specs.Pieces.{pieces}
 use Rattle.desk.specs.declared.capture.Counts.{Counts}
 use Rattle.desk.specs.Limits.{seatCount}
@@ -57,7 +57,7 @@ module _ (cells marks s : List ℕ) where
 
     -- the size of the list
     abbrev pub listed : Told ℕ
-    listed = tried fits ROOM 0 (gives (length listOf))
+    listed = tried fits ROOM (gives (length listOf))
 
     abbrev pub outAfter : List ℕ
     outAfter = cond fits (listOf ++ drop (length listOf) out) out
@@ -72,7 +72,7 @@ module _ (cells marks s : List ℕ) where
 
 abbrev pub listTold : ListAnswer → Told ℕ
 listTold (Written n) = gives n
-listTold Room = refuses ROOM 0
+listTold Room = refuses ROOM
 
 -- what is promised of listing s to an output: the answer, and every byte and mark that is lent
 pub record Listed (lent-cells lent-marks s out : List ℕ) (answer : ListAnswer) (cells′ marks′ out′ : List ℕ) : Type 0 where

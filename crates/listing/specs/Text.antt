@@ -1,27 +1,12 @@
 -- The lines of a list.
 use Prim.Native.Nat.{ℕ}
 use mathlib.Core.List.{List, [], _∷_, _++_}
-use mathlib.Core.Bool.{cond}
 use mathlib.Core.Path.{_≡_}
-use lib.Dec.{ltb}
 use lib.Seq.{slice}
 use Rattle.digits.specs.Text.{codes}
-use Rattle.digits.specs.Digits.{digits}
+use Rattle.text.specs.Decimal.{decimal}
+use Rattle.text.specs.Lines.{TAB, LF}
 use Rattle.desk.specs.declared.capture.Counts.{Counts}
-
-abbrev pub TAB : ℕ
-TAB = 9
-
-abbrev pub LF : ℕ
-LF = 10
-
--- how many digits a number has: none in a list has more than five
-unfoldable pub width : ℕ → ℕ
-width n = cond (ltb n 10) 1 (cond (ltb n 100) 2 (cond (ltb n 1000) 3 (cond (ltb n 10000) 4 5)))
-
--- without leading zeros
-unfoldable pub decimal : ℕ → List ℕ
-decimal n = digits (width n) n
 
 -- ---- columns: a name, and the bytes of a frame that stand below it
 
@@ -74,11 +59,14 @@ rowsText s (f ∷ fs) = rowText s f ++ rowsText s fs
 
 -- ---- the end line
 
+abbrev pub end : List ℕ
+end = codes "end"
+
 abbrev pub countText : ℕ → List ℕ
 countText n = TAB ∷ decimal n
 
 unfoldable pub endText : Counts → List ℕ
-endText c = codes "end" ++ countText (c .opened) ++ countText (c .collected) ++ countText (c .dynamic) ++ countText (c .refused) ++ (LF ∷ [])
+endText c = end ++ countText (c .opened) ++ countText (c .collected) ++ countText (c .dynamic) ++ countText (c .refused) ++ (LF ∷ [])
 
 abbrev pub tooLong : List ℕ
 tooLong = codes "input too long\n"

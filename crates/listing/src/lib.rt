@@ -6,25 +6,34 @@ mod store;
 use desk::capture::CaptureAnswer;
 use desk::capture::Counts;
 use desk::capture::take_capture;
+use desk::limits::CELLS;
+use desk::limits::STORE;
 use desk::state::reset;
+use digits::put_bytes;
+use line::LONGEST_END;
+use line::LONGEST_ROW;
 use line::put_end;
-use line::put_text;
 use rows::put_seats;
-use store::copy_bytes;
 use store::copy_marks;
-ghost use Prim.Native.Nat.{_*_, _≤_, _<_};
+use text::put_text;
+ghost use Prim.Native.Nat.{_*_, _≤_};
 ghost use lib.ListN.{length};
+ghost use Rattle.text.specs.Put.{Put};
+ghost use Rattle.desk.specs.Limits.{cellSize};
 ghost use Rattle.listing.specs.Listing.{Listed};
-ghost use Rattle.listing.specs.Inside.{Put, TakenAs, listLines, WroteAll};
+ghost use Rattle.listing.specs.inside.Rows.{listLines};
+ghost use Rattle.listing.specs.inside.Steps.{TakenAs, WroteAll};
 
-pub const HEADING: [u8; 62] =
+pub const HEADING_SIZE: usize = 62;
+
+pub const HEADING: [u8; HEADING_SIZE] =
     *b"seat\tfrom\tnumber\tbib\tgroup\trun\tphys\tlog\tinfo\ttime\tdate\tstatus\n";
 
 // A longer capture is not listed.
 pub const MOST_INPUT: usize = 32768;
 
 // No list is longer: an output of so many bytes has room for every one.
-pub const LONGEST_LIST: usize = 14170;
+pub const LONGEST_LIST: usize = HEADING_SIZE + CELLS * LONGEST_ROW + LONGEST_END;
 
 const TOO_LONG: [u8; 15] = *b"input too long\n";
 
@@ -48,15 +57,15 @@ pub fn list(capture: &[u8], cells: &mut [u8], marks: &mut [u32], out: &mut [u8])
     if capture.len() > MOST_INPUT {
         return put_all(out, &TOO_LONG);
     }
-    let mut old_cells = [0u8; 13056];
-    let mut old_marks = [0u32; 256];
-    copy_bytes(cells, &mut old_cells);
+    let mut old_cells = [0u8; STORE];
+    let mut old_marks = [0u32; CELLS];
+    put_bytes(&mut old_cells, 0, cells);
     copy_marks(marks, &mut old_marks);
     let t = take(cells, marks, capture);
     let mut scratch = [0u8; 1];
     let size = put_list(&mut scratch, t, cells, marks);
     if out.len() < size {
-        copy_bytes(&old_cells, cells);
+        put_bytes(cells, 0, &old_cells);
         copy_marks(&old_marks, marks);
         return ListAnswer::Room;
     }
@@ -93,7 +102,7 @@ fn take(cells: &mut [u8], marks: &mut [u32], capture: &[u8]) -> Taken
 
 // Heading, rows and end line.
 fn put_list(out: &mut [u8], t: Taken, cells: &[u8], marks: &[u32]) -> usize
-    requires { ⌜ (t .count ≤ 256) × ((t .count ≤ length (now marks)) × (t .count * 51 ≤ length (now cells))) ⌝ }
+    requires { ⌜ (t .count ≤ length (now marks)) × (t .count * cellSize ≤ length (now cells)) ⌝ }
     ensures { λ r. ⌜ Put (now (out .entry)) 0 (listLines (now (cells .entry)) (now (marks .entry)) t) r (now (out .exit)) ⌝ }
 {
     let p = put_text(out, 0, &HEADING);
@@ -104,7 +113,6 @@ fn put_list(out: &mut [u8], t: Taken, cells: &[u8], marks: &[u32]) -> usize
 }
 
 fn put_all(out: &mut [u8], text: &[u8]) -> ListAnswer
-    requires { ⌜ length (now text) < 4294967296 ⌝ }
     ensures { λ r. ⌜ WroteAll (now (text .entry)) (now (out .entry)) r (now (out .exit)) ⌝ }
 {
     if out.len() < text.len() {

@@ -28,6 +28,10 @@ pub more-digits : (k n : ℕ) → 10 ≤ n → widthWithin (suc k) n ≡ suc (wi
 unfolding widthWithin
 more-digits k n h = rw (le-ltb n 10 h)
 
+within-one : (n : ℕ) → widthWithin zero n ≡ 1
+unfolding widthWithin
+within-one n = refl
+
 -- ---- bounds
 
 within-some : (k n : ℕ) → (1 ≤ widthWithin k n) × (widthWithin k n ≤ suc k)
@@ -37,15 +41,16 @@ within-some (suc k) n =
     let r = within-some k (n / 10) in
     by-test (ltb n 10) (λ e. rw e (omega arith, omega arith)) (λ e. rw e (omega arith, omega (arith, r .1)))
 
--- a number below 10 ^ j has no more than j digits
-within-most : (k n j : ℕ) → 1 ≤ j → n < 10 ^ j → widthWithin k n ≤ j
-unfolding widthWithin
-within-most zero n j h l = h
-within-most (suc k) n zero h l = absurd (omega arith)
-within-most (suc k) n (suc zero) h l = rw (one-digit (suc k) n (omega (arith, l))) (omega arith)
-within-most (suc k) n (suc (suc j)) h l =
-    let r = within-most k (n / 10) (suc j) (omega arith) (omega (arith, l, pow-suc 10 (suc j))) in
-    by-test (ltb n 10) (λ e. rw e (omega arith)) (λ e. rw e (omega (arith, r)))
+within-grows : (k n m : ℕ) → n ≤ m → widthWithin k n ≤ widthWithin k m
+within-grows zero n m h = rw (within-one n, within-one m) (omega arith)
+within-grows (suc k) n m h =
+    by-less n 10
+    (λ l. let w = within-some (suc k) m in let e = one-digit (suc k) n l in omega (arith, w .0, e))
+    (λ l.
+    let r = within-grows k (n / 10) (m / 10) (omega arith) in
+    let a = more-digits k n l in
+    let b = more-digits k m (omega arith) in
+    omega (arith, r, a, b))
 
 within-holds : (k n : ℕ) → n < 10 ^ suc k → n < 10 ^ widthWithin k n
 unfolding widthWithin
@@ -74,9 +79,10 @@ pub width-some : (n : ℕ) → (1 ≤ width n) × (width n ≤ 20)
 unfolding width
 width-some n = within-some 19 n
 
-pub width-most : (n j : ℕ) → 1 ≤ j → n < 10 ^ j → width n ≤ j
+-- a smaller number has no more digits
+pub width-grows : (n m : ℕ) → n ≤ m → width n ≤ width m
 unfolding width
-width-most n j h l = within-most 19 n j h l
+width-grows n m h = within-grows 19 n m h
 
 pub decimal-length : (n : ℕ) → length (decimal n) ≡ width n
 unfolding decimal

@@ -1,6 +1,6 @@
 -- Laws of texts put one after the other. Assumes nothing.
 use Prim.Native.Nat.{ℕ, _+_, _≤_}
-use mathlib.Core.List.{List, [], _++_}
+use mathlib.Core.List.{List, [], _∷_, _++_, append-assoc}
 use mathlib.Core.Path.{_≡_, refl, sym, ap, ap₂, _∙_}
 use native.Mathlib.Omega.{arith}
 use lib.ListN.{length, length-append}
@@ -35,3 +35,9 @@ put-then out at a p mid b q out′ l x y = record {
   next = let n = length-append a b in omega (arith, x .next, y .next, n);
   bytes = y .bytes ∙ ap₂ (λ (m : List ℕ) (i : ℕ). sets m i b) (x .bytes) (x .next) ∙ after out at a b l;
 }
+
+-- and a text, a byte and a text likewise
+pub put-parted : (out : List ℕ) (at : ℕ) (a : List ℕ) (p : ℕ) (mid : List ℕ) (b q : ℕ) (mid′ c : List ℕ) (r : ℕ) (out′ : List ℕ)
+    → length out ≤ mostPlace → Put out at a p mid → Put mid p (b ∷ []) q mid′ → Put mid′ q c r out′ → Put out at (a ++ (b ∷ c)) r out′
+put-parted out at a p mid b q mid′ c r out′ l x y z =
+    rw (← append-assoc a (b ∷ []) c) (put-then out at (a ++ (b ∷ [])) q mid′ c r out′ l (put-then out at a p mid (b ∷ []) q mid′ l x y) z)

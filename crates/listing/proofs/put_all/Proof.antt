@@ -1,6 +1,7 @@
 -- `listing::put_all` meets its contract. Assumes nothing.
-use Rattle.listing.proofs.ListLaws.{wrote-none, wrote-all}
+use native.Mathlib.Omega.{arith}
 use borrow.Author.Needs.{needs}
+use Rattle.listing.proofs.ListLaws.{wrote-none, wrote-all}
 use Rattle.listing.proofs.put_all.Statement.{statement}
 use Rattle.listing.proofs.put_all.Tie as tie
 
@@ -14,7 +15,7 @@ same-length : tie.Need-same-length
 same-length c = search needs
 
 returns-2 : tie.Need-returns-2
-returns-2 c = wrote-all (c .before .before .before .before .before .before .before .args .text .now) (c .before .before .before .before .before .before .before .args .out .now) _ _ (c .before .before .before .before .if1 .left) (c .before .before .put-text .ensures)
+returns-2 c = wrote-all (c .before .before .before .before .before .before .before .args .text .now) (c .before .before .before .before .before .before .before .args .out .now) _ _ (omega arith) (c .before .before .before .before .if1 .left) (c .before .before .put-text .ensures)
 
 pub put-all-spec : {M : Type 1} → statement M
 put-all-spec = tie.close (tie.spec returns put-text-requires same-length returns-2)

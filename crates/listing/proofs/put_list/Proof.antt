@@ -1,9 +1,7 @@
 -- `listing::put_list` meets its contract. Assumes nothing.
-use Rattle.desk.specs.Limits.{seatCount}
-use Rattle.listing.proofs.PutLaws.{put-then}
-use Rattle.listing.proofs.RowLaws.{seats-most}
 use native.Mathlib.Omega.{arith}
 use borrow.Author.Needs.{needs}
+use Rattle.text.proofs.PutLaws.{put-then}
 use Rattle.listing.proofs.put_list.Statement.{statement}
 use Rattle.listing.proofs.put_list.Tie as tie
 
@@ -14,16 +12,16 @@ put-text-requires : tie.Need-put-text-requires
 put-text-requires c κs = search needs
 
 put-seats-requires : tie.Need-put-seats-requires
-put-seats-requires c κs = let h = c .before .before .before .before .before .before .before .before .before .before .pre in (omega (arith, c .before .before .before .before .put-text .ensures .next), h)
+put-seats-requires c κs = search needs
 
 put-end-requires : tie.Need-put-end-requires
-put-end-requires c κs = let a = c .before .before .before .before .before .before .before .before .before .before .before .before .before .before .args in let r = seats-most (a .cells .now) (a .marks .now) (a .t .count) seatCount (c .before .before .before .before .before .before .before .before .before .before .before .before .before .before .pre .0) in omega (arith, r, c .before .before .before .put-seats .ensures .next, c .before .before .before .before .before .before .before .before .put-text .ensures .next)
+put-end-requires c κs = search needs
 
 same-length : tie.Need-same-length
 same-length c = search needs
 
 returns : tie.Need-returns
-returns c = put-then _ _ _ _ _ _ _ _ (put-then _ _ _ _ _ _ _ _ (c .before .before .before .before .before .before .before .before .before .before .before .put-text .ensures) (c .before .before .before .before .before .before .put-seats .ensures)) (c .before .before .put-end .ensures)
+returns c = put-then _ _ _ _ _ _ _ _ (omega arith) (put-then _ _ _ _ _ _ _ _ (omega arith) (c .before .before .before .before .before .before .before .before .before .before .before .put-text .ensures) (c .before .before .before .before .before .before .put-seats .ensures)) (c .before .before .put-end .ensures)
 
 pub put-list-spec : {M : Type 1} → statement M
 put-list-spec =

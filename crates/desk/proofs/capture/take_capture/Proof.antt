@@ -1,14 +1,12 @@
 -- `desk::capture::take_capture` meets its contract. Assumes nothing.
-use Rattle.desk.proofs.CaptureLaws.{goes-cut, goes-whole}
-use mathlib.Core.Path.{subst}
+use Rattle.desk.proofs.CaptureLaws.{goes-cut, goes-whole, Going, begins, took-none, took-all}
+use mathlib.Core.Path.{subst, _≡_, refl, sym, _∙_}
 use denote.Ref.{now}
 use lib.ListN.{length}
 use Rattle.finder.proofs.Step.{Told, told}
 use Rattle.desk.specs.Memory.{Memory, memory}
 use Rattle.desk.proofs.Below.{not-came, not-left}
-use Rattle.desk.proofs.CaptureLaws.{Going, begins, took-none, took-all}
 use native.Mathlib.Omega.{arith}
-use mathlib.Core.Path.{_≡_, refl, sym, _∙_}
 use Prim.Native.Nat.{_-_, _≤_}
 use borrow.Author.Needs.{needs}
 use Rattle.desk.proofs.capture.take_capture.Statement.{statement}

@@ -1,20 +1,15 @@
 -- `desk::clauses::all_apart` meets its contract: all seats passed are apart from those below them. Assumes nothing.
 use mathlib.Core.Bool.{true}
 use Rattle.desk.specs.Below.{allBelow}
-use Rattle.desk.specs.Seats.{seatAt}
 use Rattle.desk.specs.Desk.{apartAt, apartBelow}
 use Rattle.desk.specs.inside.Clauses.{apart}
 use Rattle.desk.specs.Limits.{seatCount}
 use Rattle.desk.proofs.Below.{all-more, all-fails, all-to, not-came, not-left}
-use native.Mathlib.Omega.{arith}
-use mathlib.Core.Path.{_≡_, refl, sym, ap, _∙_}
-use Prim.Native.Nat.{ℕ, zero, suc, _+_, _*_, _-_, _≤_, _<_}
+use mathlib.Core.Path.{_≡_, refl, sym}
+use Prim.Native.Nat.{_-_, _≤_}
 use borrow.Author.Needs.{needs}
 use Rattle.desk.proofs.clauses.all_apart.Statement.{statement}
 use Rattle.desk.proofs.clauses.all_apart.Tie as tie
-use Rattle.desk.proofs.clauses.all_apart.Reads as reads
-use Rattle.desk.proofs.clauses.all_apart.Lts as lts
-use Rattle.desk.proofs.clauses.are_apart.Reads as are-apart-reads
 
 abbrev Inv-loop2 : tie.InvT-loop2
 Inv-loop2 bits row i s j₀ j = (j ≤ i) × (allBelow j (apartAt row bits i) ≡ true)

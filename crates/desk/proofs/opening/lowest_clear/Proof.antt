@@ -1,7 +1,6 @@
 -- `desk::opening::lowest_clear` meets its contract. Assumes nothing.
-use Rattle.desk.proofs.Bits.{trailing-most}
+use Rattle.desk.proofs.Bits.{trailing-most, lowest-clear}
 use Rattle.desk.specs.Seats.{lowestClear}
-use Rattle.desk.proofs.Bits.{lowest-clear}
 use borrow.Author.Needs.{needs}
 use Rattle.desk.proofs.opening.lowest_clear.Statement.{statement}
 use Rattle.desk.proofs.opening.lowest_clear.Tie as tie

@@ -1,7 +1,8 @@
 -- `listing::store::copy_marks` meets its contract. Assumes nothing.
-use mathlib.Core.List.{List, _++_}
-use lib.ListN.{length, take, drop, getD, set, length-set}
-use Rattle.listing.proofs.StoreLaws.{copy-more}
+use mathlib.Core.List.{List}
+use lib.ListN.{length, take, getD, set, length-set}
+use lib.Seq.{sets}
+use Rattle.listing.proofs.StoreLaws.{copy-more, copy-whole}
 use native.Mathlib.Omega.{arith}
 use mathlib.Core.Path.{_≡_, refl, ap, _∙_}
 use Prim.Native.Nat.{ℕ, _-_, _≤_}
@@ -10,7 +11,7 @@ use Rattle.listing.proofs.store.copy_marks.Statement.{statement}
 use Rattle.listing.proofs.store.copy_marks.Tie as tie
 
 abbrev Inv-loop : tie.InvT-loop
-Inv-loop from to₀ n i₀ to i = (i ≤ n) × ((length to ≡ length to₀) × (to ≡ take i from ++ drop i to₀))
+Inv-loop from to₀ n i₀ to i = (i ≤ n) × ((length to ≡ length to₀) × (to ≡ sets to₀ 0 (take i from)))
 
 abbrev μ-loop : tie.MeasureT-loop
 μ-loop from to₀ n i₀ to i = n - i
@@ -47,7 +48,7 @@ loop-again c =
       search needs,
       (
         simp length-set (l .inv .1 .0),
-        ap (λ (x : List ℕ). set x (l .i) (getD (a .from .now) (l .i) 0)) (l .inv .1 .1) ∙ copy-more (a .to .now) (a .from .now) (l .i) (omega (arith, e)) (omega (arith, e)),
+        ap (λ (x : List ℕ). set x (l .i) (getD (a .from .now) (l .i) 0)) (l .inv .1 .1) ∙ copy-more (a .to .now) (a .from .now) (l .i) (omega (arith, e)),
       ),
     )
 
@@ -55,7 +56,10 @@ same-length : tie.Need-same-length Inv-loop μ-loop
 same-length c = search needs
 
 returns : tie.Need-returns Inv-loop μ-loop
-returns c = let e : c .before .loop .i ≡ c .before .before .least .result = search needs in rw (e, c .before .before .least .ensures) at (c .before .loop .inv .1 .1)
+returns c =
+    let a = c .before .before .before .before .before .args in
+    let e : c .before .loop .i ≡ c .before .before .least .result = search needs in
+    rw e at (c .before .loop .inv .1 .1) ∙ copy-whole (a .to .now) (a .from .now) (c .before .before .least .result) (c .before .before .least .ensures)
 
 pub copy-marks-spec : {M : Type 1} → statement M
 copy-marks-spec =

@@ -1,0 +1,3 @@
+-- What the private steps of the code compute. Nothing here is needed to read the promise of the call.
+pub mod Rows
+pub mod Steps
