@@ -12,7 +12,6 @@ use Rattle.frames.specs.declared.reply.StaticReply.{StaticReply}
 use Rattle.desk.specs.declared.key.Key.{Key}
 use Rattle.desk.specs.Key.{sameKey}
 use Rattle.desk.specs.Hearing as C
-
 use Rattle.desk.specs.Rule.{Frame, isTo, letterIn, hasStatusE, hasStatusZ, withoutZ, upToE, keptFirst, kept, saidEnded, saidAmong, saidFirst, said}
 use Rattle.desk.specs.Mix.{toReply, addressed}
 

@@ -1,12 +1,12 @@
 // A whole capture at once: the desk is tested once, and each frame goes where its lead byte says.
+use crate::clauses::is_desk;
+use crate::limits::SEATS;
 use crate::opening::OpenAnswer;
 use crate::opening::open_on_desk;
 use crate::reply::ReplyAnswer;
 use crate::reply::reply_on_desk;
 use crate::state::Desk;
-use crate::limits::SEATS;
 use crate::state::Seat;
-use crate::clauses::is_desk;
 use digits::byte_at;
 use finder::Cursor;
 use finder::Found;

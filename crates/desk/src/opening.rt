@@ -2,8 +2,8 @@
 use crate::clauses::is_desk;
 use crate::key::Key;
 use crate::key::find;
-use crate::state::Desk;
 use crate::limits::SEATS;
+use crate::state::Desk;
 use crate::state::Seat;
 use crate::state::with_seat;
 use digits::refusal as table;

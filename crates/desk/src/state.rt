@@ -1,6 +1,6 @@
 // The state of a desk: what goes by value, and what it is when empty.
-use crate::limits::CELLS;
 use crate::limits::CELL_SIZE;
+use crate::limits::CELLS;
 use crate::limits::SEATS;
 use digits::least;
 ghost use mathlib.Core.Path.{_≡_};

@@ -57,14 +57,16 @@ returns c =
     let j = t .before .before in
     let a = j .before .before .before .before .args in
     let opening = t .opening .given .0 .0 in
-    let state = c .before .opened-state .ensures in
-    (known t .below, opening-done (M j) (F j) opening _ (judged-opens t) (λ i. record {
-      row = set (a .t2) (opening .seat) (c .new-seat .ensures i);
-      bits = state .0 i;
-      count = state .1 i;
-      cells = now (a .cells);
-      marks = now (a .marks);
-    }))
+    let state = c .before .opened-state .ensures in (
+      known t .below,
+      opening-done (M j) (F j) opening _ (judged-opens t) (λ i. record {
+        row = set (a .t2) (opening .seat) (c .new-seat .ensures i);
+        bits = state .0 i;
+        count = state .1 i;
+        cells = now (a .cells);
+        marks = now (a .marks);
+      }),
+    )
 
 returns-2 : tie.Need-returns-2
 returns-2 c =

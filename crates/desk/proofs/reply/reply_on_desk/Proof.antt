@@ -96,14 +96,16 @@ returns c =
     let j = t .before .before in
     let a = j .before .before .before .before .before .before .args in
     let taking = t .taking .given .0 .0 in
-    let stored = c .before .before .before .before .put-bytes .ensures ∙ with-cell (now (a .cells)) (a .desk .count * cellSize) (F j) (room t .cells) (room t .frame) in
-    (room t .seat, reply-done (M j) (F j) taking _ (judged-takes t) (λ i. record {
-      row = set (a .t2) (taking .seat) (c .grown-seat .ensures i);
-      bits = a .desk .bits;
-      count = a .desk .count + 1;
-      cells = stored i;
-      marks = set (now (a .marks)) (a .desk .count) (taking .seat);
-    }))
+    let stored = c .before .before .before .before .put-bytes .ensures ∙ with-cell (now (a .cells)) (a .desk .count * cellSize) (F j) (room t .cells) (room t .frame) in (
+      room t .seat,
+      reply-done (M j) (F j) taking _ (judged-takes t) (λ i. record {
+        row = set (a .t2) (taking .seat) (c .grown-seat .ensures i);
+        bits = a .desk .bits;
+        count = a .desk .count + 1;
+        cells = stored i;
+        marks = set (now (a .marks)) (a .desk .count) (taking .seat);
+      }),
+    )
 
 returns-2 : tie.Need-returns-2
 returns-2 c =
