@@ -34,13 +34,15 @@ use Rattle.desk.specs.Calls.{keyTried, requestTried, openTried, opens, seatTrie
 use Rattle.desk.specs.Capture.{captures, countsOf, meets, fates, afterAll, howMany}
 use Rattle.desk.specs.Mix.{run}
 use Rattle.desk.specs.Cases.{asking, replying, bare, asked}
+use Rattle.text.specs.Decimal.{widthWithin, width, decimal}
 use Rattle.listing.specs.Text as T
+use Rattle.listing.specs.Sizes.{longestRow, longestEnd}
 use Rattle.listing.specs.Listing.{seatsText, listText, listOf}
 use Rattle.rei2.specs.declared.lent.CapturedAnswer.{CapturedAnswer}
 use Rattle.rei2.specs.Lent.{stateIn, captureAnswer, capturedOf}
 use Rattle.rei2.specs.Reply.{timingOf, leftOver, wrongInC}
 use Rattle.rei2.specs.Names.{names, nameOf}
-use Rattle.rei2.specs.Cases.{FramesFound, CellsHeld, DeskCalls, CapturesTaken, FramesRead, FramesWritten, TimingNumbered, OtherCalls, NamesWritten, Worked}
+use Rattle.rei2.specs.Cases.{FramesFound, CellsHeld, DeskCalls, CapturesTaken, FramesRead, FramesWritten, TimingNumbered, OtherCalls, NamesWritten, Lends, Worked}
 
 frames-found : FramesFound
 unfolding oneOf isLead walk piecesFrom foundFrom
@@ -145,12 +147,16 @@ timing-numbered = record {
 }
 
 other-calls : OtherCalls
-unfolding inRange runningTime digits T.width T.decimal recordsOf piecesFrom walk fates afterAll howMany seatsText listText listOf T.endText
+unfolding inRange runningTime digits widthWithin width decimal recordsOf piecesFrom walk fates afterAll howMany seatsText listText listOf T.endText
 other-calls = record { running = refl; not-running = refl; list = refl; no-room = refl }
 
 names-written : NamesWritten
 unfolding names nameOf
 names-written = record { written = refl; bytes = refl; no-room = refl }
+
+lends : Lends
+unfolding widthWithin width T.columns longestRow longestEnd
+lends = record { limits-are = refl }
 
 pub worked : Worked
 worked = record {
@@ -163,5 +169,5 @@ worked = record {
   timing-numbered = timing-numbered;
   other-calls = other-calls;
   names-written = names-written;
-  lends = record { limits-are = refl };
+  lends = lends;
 }

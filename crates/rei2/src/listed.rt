@@ -23,6 +23,9 @@ pub extern "C" fn rei2_list(
 {
     match list(capture, cells, marks, out) {
         ListAnswer::Written(size) => ListedAnswer { refusal: 0, size },
-        ListAnswer::Room => ListedAnswer { refusal: table::ROOM, size: 0 },
+        ListAnswer::Room => ListedAnswer {
+            refusal: table::ROOM,
+            size: 0,
+        },
     }
 }
