@@ -5,6 +5,7 @@ use crate::plain;
 pub const SEATS: usize = 16;
 pub const CELLS: usize = 256;
 pub const CELL_SIZE: usize = 51;
+pub const NAME_SIZE: usize = 14;
 
 pub const RAW: u32 = 0;
 pub const CLOCK: u32 = 1;
@@ -103,4 +104,5 @@ calls! {
         out: *mut u8, out_len: usize,
     ) -> ListedAnswer;
     running_time rei2_running_time(of: RunningOf) -> RunningAnswer;
+    refusal_name rei2_refusal_name(refusal: u32, out: *mut u8, out_len: usize) -> WrittenAnswer;
 }

@@ -303,5 +303,19 @@ fn numbers(random: &mut Random) -> usize {
             (got(|answer| side.reset(answer, &mut seats[..length], desk)), seats)
         });
     }
-    5 * TIMES
+    5 * TIMES + names()
+}
+
+/// Every name, on outputs of each length up to one byte more than the longest needs.
+fn names() -> usize {
+    let refusals = || (0..20).chain([255, 256, u32::MAX]);
+    for refusal in refusals() {
+        for room in 0..=NAME_SIZE + 1 {
+            same(&(refusal, room), |side| {
+                let mut out = [7; NAME_SIZE + 1];
+                (side.refusal_name(refusal, &mut out[..room]), out)
+            });
+        }
+    }
+    refusals().count() * (NAME_SIZE + 2)
 }

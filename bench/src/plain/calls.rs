@@ -1,7 +1,7 @@
 //! The calls in the shape that C gives them. No pointer is null here, with no elements either.
 #![allow(clippy::missing_safety_doc, clippy::too_many_arguments)]
 
-use super::refusal::{Refusal, DESK};
+use super::refusal::{put_name, Refusal, DESK};
 use super::{desk, dynamic, finder, listing, reply, request, times};
 use crate::abi::*;
 use std::slice::{from_raw_parts, from_raw_parts_mut};
@@ -208,4 +208,9 @@ pub unsafe extern "C" fn running_time(of: RunningOf) -> RunningAnswer {
         Ok(ticks) => RunningAnswer { refusal: 0, ticks },
         Err(refusal) => RunningAnswer { refusal: refusal.number, ticks: 0 },
     }
+}
+
+#[inline(never)]
+pub unsafe extern "C" fn refusal_name(refusal: u32, out: *mut u8, len: usize) -> WrittenAnswer {
+    written(put_name(refusal, from_raw_parts_mut(out, len)))
 }
