@@ -201,5 +201,5 @@ records-match = record {
   back-and-there = λ c fine.
       let f = all-fine (wrongIn reply (recordOf c)) (leftOver (c .timing)) fine in
       let same : numbersOf (timingOf (c .timing)) ≡ c .timing = numbers-back (c .timing) (λ e. no-time-wrong _ _ _ _ (rw e at (tail-fine (recordOf c) (f .0)))) (f .1) in
-      λ i. record { program = c .program; mode = c .mode; status = c .status; requester = c .requester; number = c .number; bib = c .bib; group = c .group; run = c .run; physical = c .physical; channel = c .channel; information = c .information; timing = same i; «raw_time» = c .«raw_time»; «raw_date» = c .«raw_date»; spare = c .spare };
+      λ i. record { head = c .head; timing = same i; «raw_time» = c .«raw_time»; «raw_date» = c .«raw_date»; spare = c .spare };
 }

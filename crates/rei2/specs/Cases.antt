@@ -96,12 +96,12 @@ pub record CapturesTaken : Type 0 where
 -- the record of a reply of the frames' cases with this bib, letter and timing, and no raw parts
 abbrev pub told : ℕ → ℕ → TimingNumbers → ReplyRecord
 told bib letter timing =
-    record { program = 83; mode = 79; status = 69; requester = 65; number = 12; bib = bib; group = 0; run = 1; physical = 15; channel = 255; information = letter; timing = timing; «raw_time» = replicate 10 0; «raw_date» = replicate 8 0; spare = 32 ∷ 32 ∷ [] }
+    record { head = record { program = 83; mode = 79; status = 69; requester = 65; number = 12; bib = bib; group = 0; run = 1; physical = 15; channel = 255; information = letter }; timing = timing; «raw_time» = replicate 10 0; «raw_date» = replicate 8 0; spare = 32 ∷ 32 ∷ [] }
 
 -- one with letter P and raw parts
 abbrev pub shownRaw : TimingNumbers → ReplyRecord
 shownRaw timing =
-    record { program = 83; mode = 79; status = 69; requester = 65; number = 12; bib = 41; group = 0; run = 1; physical = 15; channel = 255; information = 80; timing = timing; «raw_time» = replicate 10 32; «raw_date» = replicate 8 33; spare = 32 ∷ 32 ∷ [] }
+    record { head = record { program = 83; mode = 79; status = 69; requester = 65; number = 12; bib = 41; group = 0; run = 1; physical = 15; channel = 255; information = 80 }; timing = timing; «raw_time» = replicate 10 32; «raw_date» = replicate 8 33; spare = 32 ∷ 32 ∷ [] }
 
 -- a time of the clock, with a net value beside it
 abbrev pub clocked : ℕ → TimingNumbers
@@ -115,7 +115,7 @@ pub record FramesRead : Type 0 where
   pub reply-read : replyAnswer (read reply (F.replying "00041" "255" "0" "0001125400" "29022024"))
       ≡ record { refusal = 0; offset = 0; reply = told 41 48 (record { kind = 1; ticks = 725400; day = 29; month = 2; year = 2024; net = pos 0 }) }
   pub reply-refused : replyAnswer (read reply (F.replying "60000" "255" "0" "0001125400" "29022024"))
-      ≡ record { refusal = 5; offset = 12; reply = record { program = 0; mode = 0; status = 0; requester = 0; number = 0; bib = 0; group = 0; run = 0; physical = 0; channel = 0; information = 0; timing = record { kind = 0; ticks = 0; day = 0; month = 0; year = 0; net = pos 0 }; «raw_time» = 0 ∷ 0 ∷ 0 ∷ 0 ∷ 0 ∷ 0 ∷ 0 ∷ 0 ∷ 0 ∷ 0 ∷ []; «raw_date» = 0 ∷ 0 ∷ 0 ∷ 0 ∷ 0 ∷ 0 ∷ 0 ∷ 0 ∷ []; spare = 0 ∷ 0 ∷ [] } }
+      ≡ record { refusal = 5; offset = 12; reply = record { head = record { program = 0; mode = 0; status = 0; requester = 0; number = 0; bib = 0; group = 0; run = 0; physical = 0; channel = 0; information = 0 }; timing = record { kind = 0; ticks = 0; day = 0; month = 0; year = 0; net = pos 0 }; «raw_time» = 0 ∷ 0 ∷ 0 ∷ 0 ∷ 0 ∷ 0 ∷ 0 ∷ 0 ∷ 0 ∷ 0 ∷ []; «raw_date» = 0 ∷ 0 ∷ 0 ∷ 0 ∷ 0 ∷ 0 ∷ 0 ∷ 0 ∷ []; spare = 0 ∷ 0 ∷ [] } }
   pub dynamic-read : dynamicAnswer (read dynamic (F.running "A" "00041" "00001"))
       ≡ record { refusal = 0; offset = 0; request = record { requester = 49; order = 65; bib = 41; channel = 0; run = 1; «stop_bib» = 60000; «stop_channel» = 255; «stop_run» = 0; sign = 0; time = 0; days = 0; period = 1; output = 83 } }
   pub dynamic-refused : dynamicAnswer (read dynamic (F.running "A" "00041" "00000"))

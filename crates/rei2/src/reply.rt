@@ -37,7 +37,7 @@ pub struct TimingNumbers {
 }
 
 #[repr(C)]
-pub struct ReplyRecord {
+pub struct ReplyHead {
     pub program: u8,
     pub mode: u8,
     pub status: u8,
@@ -49,6 +49,11 @@ pub struct ReplyRecord {
     pub physical: u32,
     pub channel: u32,
     pub information: u8,
+}
+
+#[repr(C)]
+pub struct ReplyRecord {
+    pub head: ReplyHead,
     pub timing: TimingNumbers,
     pub raw_time: [u8; 10],
     pub raw_date: [u8; 8],
@@ -223,17 +228,19 @@ fn shown(r: StaticReply) -> ReplyRecord
     let raw_date = r.raw_date;
     let spare = r.spare;
     ReplyRecord {
-        program: r.program,
-        mode: r.mode,
-        status: r.status,
-        requester: r.requester,
-        number: r.number,
-        bib: r.bib,
-        group: r.group,
-        run: r.run,
-        physical: r.physical,
-        channel: r.channel,
-        information: r.information,
+        head: ReplyHead {
+            program: r.program,
+            mode: r.mode,
+            status: r.status,
+            requester: r.requester,
+            number: r.number,
+            bib: r.bib,
+            group: r.group,
+            run: r.run,
+            physical: r.physical,
+            channel: r.channel,
+            information: r.information,
+        },
         timing: numbers_of(timing),
         raw_time,
         raw_date,
@@ -244,22 +251,23 @@ fn shown(r: StaticReply) -> ReplyRecord
 fn record_of(r: ReplyRecord) -> StaticReply
     ensures { λ a. ⌜ a ≡ recordOf r ⌝ }
 {
+    let head = r.head;
     let timing = r.timing;
     let raw_time = r.raw_time;
     let raw_date = r.raw_date;
     let spare = r.spare;
     StaticReply {
-        program: r.program,
-        mode: r.mode,
-        status: r.status,
-        requester: r.requester,
-        number: r.number,
-        bib: r.bib,
-        group: r.group,
-        run: r.run,
-        physical: r.physical,
-        channel: r.channel,
-        information: r.information,
+        program: head.program,
+        mode: head.mode,
+        status: head.status,
+        requester: head.requester,
+        number: head.number,
+        bib: head.bib,
+        group: head.group,
+        run: head.run,
+        physical: head.physical,
+        channel: head.channel,
+        information: head.information,
         timing: timing_of(timing),
         raw_time,
         raw_date,
