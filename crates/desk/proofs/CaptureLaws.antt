@@ -24,7 +24,7 @@ use Rattle.desk.specs.Memory.{Memory, memory}
 use Rattle.desk.specs.Desk.{isDesk}
 use Rattle.desk.specs.Calls.{opens, replies, Did}
 use Rattle.desk.specs.Capture.{fateBy, dynamicFate, Step, openLead, replyLead, meets, meetsPiece, fates, afterAll, isOpened, isCollected, isDynamic, isRefused, howMany, countsOf, TookCapture, CountsAddUp}
-use Rattle.desk.specs.inside.Capture.{Meets, oneMore}
+use Rattle.desk.specs.inside.Counting.{Meets, oneMore}
 use Rattle.digits.proofs.Tests.{by-test}
 use Rattle.desk.proofs.MixLaws.{stays-desk}
 

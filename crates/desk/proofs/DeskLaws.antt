@@ -2,11 +2,11 @@
 use Prim.Native.Nat.{ℕ, zero, suc, _+_, _*_, _<_, _≤_}
 use mathlib.Core.Bool.{Bool, true, false, cond, not}
 use mathlib.Core.Path.{_≡_, refl, sym, ap, ap₂, _∙_}
-use mathlib.Core.List.{List, [], _∷_, _++_, append-assoc, append-nil}
+use mathlib.Core.List.{List, [], _∷_, _++_, append-nil}
 use native.Mathlib.Omega.{arith}
 use native.Mathlib.Numerals.{add-one}
-use lib.ListN.{length, take, drop, length-set, length-append, length-drop, length-replicate, getD-replicate, take-append-drop}
-use lib.Seq.{getD-set-same, getD-set-other, take-append-le, drop-append-le, take-at, drop-at, length-take-le}
+use lib.ListN.{length, length-set, length-replicate, getD-replicate}
+use lib.Seq.{getD-set-same, getD-set-other}
 use lib.Dec.{eqb, ltb}
 use borrow.Author.Tests.{eq-eqb, ne-eqb, lt-ltb}
 use Rattle.desk.specs.declared.key.Key.{Key}
@@ -19,13 +19,14 @@ use Rattle.desk.specs.Hearing.{heard, endedIn}
 use Rattle.desk.specs.Seats.{zeroSeat, seatAt, usedBit, keyed}
 use Rattle.desk.specs.Memory.{Memory, capacity, capacityOf, cellAt, markAt, recordsOf, heldBy}
 use Rattle.desk.specs.Desk.{isZero, apartAt, markNames, markGood, cellKeyed, named, lastEnds}
-use Rattle.desk.specs.Calls.{newSeat, opened, grown, withCell, taken, emptyRow, emptied}
+use Rattle.desk.specs.Calls.{newSeat, opened, grown, taken, emptyRow, emptied}
 use Rattle.desk.specs.inside.Clauses.{takes, takenAt}
 use Rattle.digits.proofs.Tests.{and-r, and-true, by-test}
 use Rattle.desk.proofs.Below.{never, below-case, eq-case, count-ext, count-more}
 use Rattle.desk.proofs.Bits.{set-own, set-other, set-below, none-used}
 use Rattle.desk.proofs.KeyLaws.{same-key, own-key}
 use Rattle.desk.proofs.ClauseLaws.{Facts}
+use Rattle.desk.proofs.WrittenLaws.{length-with, cell-before, cell-new}
 use Rattle.desk.proofs.StepLaws.{Took, took-used, took-key, Room, took-room, Opens}
 
 -- ---- rows that stay
@@ -46,42 +47,6 @@ module _ (cells marks cells′ marks′ : List ℕ) where
   records-same s zero em ec = refl
   records-same s (suc n) em ec =
       rw (em n (omega arith), ec n (omega arith), records-same s n (λ j l. em j (omega arith)) (λ j l. ec j (omega arith)))
-
--- ---- a cell that is written
-
-front : (a r : List ℕ) (k : ℕ) → k + cellSize ≤ length a → take cellSize (drop k (a ++ r)) ≡ take cellSize (drop k a)
-front a r k h =
-    let l : k ≤ length a = omega arith in
-    let n : cellSize ≤ length (drop k a) = simp length-drop (omega arith) in
-    ap (take cellSize) (drop-append-le k a r l) ∙ take-append-le cellSize (drop k a) r n
-
-module _ (d : List ℕ) (at : ℕ) (f : List ℕ) (room : at + cellSize ≤ length d) (full : length f ≡ cellSize) where
-  head-length : length (take at d) ≡ at
-  head-length = length-take-le at d (omega arith)
-
-  cell-before : (k : ℕ) → k + cellSize ≤ at → take cellSize (drop k (withCell d at f)) ≡ take cellSize (drop k d)
-  cell-before k h =
-      let e = head-length in
-      let a : k + cellSize ≤ length (take at d) = omega arith in
-      let b : k + cellSize ≤ length (take at d ++ f) = simp length-append (omega arith) in
-      front (take at d ++ f) (drop (at + cellSize) d) k b
-      ∙ front (take at d) f k a
-      ∙ sym (front (take at d) (drop at d) k a)
-      ∙ ap (λ (l : List ℕ). take cellSize (drop k l)) (take-append-drop at d)
-
-  cell-new : take cellSize (drop at (withCell d at f)) ≡ f
-  cell-new =
-      ap (λ (l : List ℕ). take cellSize (drop at l)) (append-assoc (take at d) f (drop (at + cellSize) d))
-      ∙ ap (take cellSize) (drop-at (take at d) (f ++ drop (at + cellSize) d) at head-length)
-      ∙ take-at f (drop (at + cellSize) d) cellSize full
-
-  pub length-with : length (withCell d at f) ≡ length d
-  length-with =
-      let e = head-length in
-      let a = length-append (take at d ++ f) (drop (at + cellSize) d) in
-      let b = length-append (take at d) f in
-      let c = length-drop (at + cellSize) d in
-      omega arith
 
 -- ---- the memory after a taken reply
 

@@ -1,12 +1,12 @@
 -- A frame that is heard is as long as a cell. Assumes nothing.
 use Prim.Native.Nat.{ℕ}
 use mathlib.Core.List.{List}
-use mathlib.Core.Path.{_≡_, refl}
-use native.Mathlib.Omega.{arith}
+use mathlib.Core.Path.{_≡_, refl, sym}
 use lib.ListN.{length}
 use lib.Dec.{eqb}
 use borrow.Author.Tests.{eqb-true}
 use Rattle.digits.specs.Told.{Told, gives, refuses}
+use Rattle.digits.proofs.Sure.{not-refused}
 use Rattle.frames.specs.declared.reply.StaticReply.{StaticReply}
 use Rattle.frames.specs.declared.reply.ReplyLabel.{ReplyLabel}
 use Rattle.frames.specs.Kind.{Kind, leadIs, headTold, read}
@@ -26,7 +26,7 @@ read-long k s r e =
 
 labelled-gives : (x : Told StaticReply) (l : ReplyLabel) → labelled x ≡ gives l → (r : StaticReply) × (x ≡ gives r)
 labelled-gives (gives r) l e = (r, refl)
-labelled-gives (refuses why) l e = absurd (let z : _≡_ {A = ℕ} 0 1 = cc in omega arith)
+labelled-gives (refuses why) l e = absurd (not-refused l why (sym e))
 
 pub heard-long : (f : List ℕ) (l : ReplyLabel) → heard f ≡ gives l → length f ≡ cellSize
 unfolding heard

@@ -1,11 +1,10 @@
 -- What a call leaves as it was. Assumes nothing.
 use Prim.Native.Nat.{ℕ, _+_, _*_, _-_, _<_, _≤_}
-use mathlib.Core.List.{List, _++_}
+use mathlib.Core.List.{List}
 use mathlib.Core.Bool.{Bool, true, false, cond}
-use mathlib.Core.Path.{_≡_, refl, sym, ap, _∙_}
-use native.Mathlib.Omega.{arith}
-use lib.ListN.{length, getD, take, drop, length-set, length-append}
-use lib.Seq.{getD-append-add, getD-drop, getD-take, getD-set-other, take-at, length-take-le}
+use mathlib.Core.Path.{_≡_, refl, sym, _∙_}
+use lib.ListN.{length, getD, length-set}
+use lib.Seq.{getD-set-other}
 use Rattle.digits.specs.declared.refusal.Refusal.{Refusal}
 use Rattle.digits.specs.Refusals.{DESK}
 use Rattle.digits.specs.Told.{Told, gives, refuses, tried}
@@ -17,33 +16,13 @@ use Rattle.desk.specs.Limits.{cellSize}
 use Rattle.desk.specs.Memory.{Memory, markAt}
 use Rattle.desk.specs.declared.capture.Counts.{Counts}
 use Rattle.desk.specs.Desk.{isDesk, allSeats}
-use Rattle.desk.specs.Calls.{Outcome, openTried, opens, withCell, replyTried, replies, emptied, resets}
+use Rattle.desk.specs.Calls.{Outcome, openTried, opens, replyTried, replies, emptied, resets}
 use Rattle.desk.specs.Capture.{fates, afterAll, countsOf}
 use Rattle.desk.specs.Keeps.{RefusedKeeps, SameSeat, KeepsMemory}
+use Rattle.desk.proofs.WrittenLaws.{length-with, before-with, behind-with}
 use Rattle.desk.proofs.StepLaws.{took, took-room, opens-taken}
-use Rattle.desk.proofs.DeskLaws.{length-with, taken-other, records-other, opened-other, other-bit}
-use Rattle.desk.proofs.MixLaws.{after-taken, after-refused, after-opened, after-not-opened}
-
-getD-front : (a r : List ℕ) (j : ℕ) → j < length a → getD (a ++ r) j 0 ≡ getD a j 0
-getD-front a r j l = sym (getD-take (length a) (a ++ r) j 0 l) ∙ ap (λ (x : List ℕ). getD x j 0) (take-at a r (length a) refl)
-
-module _ (d : List ℕ) (at : ℕ) (f : List ℕ) (room : at + cellSize ≤ length d) (full : length f ≡ cellSize) where
-  before : (j : ℕ) → j < at → getD (withCell d at f) j 0 ≡ getD d j 0
-  before j l =
-      let e = length-take-le at d (omega arith) in
-      let a : j < length (take at d ++ f) = simp length-append (omega arith) in
-      getD-front (take at d ++ f) (drop (at + cellSize) d) j a ∙ getD-front (take at d) f j (omega arith) ∙ getD-take at d j 0 l
-
-  behind : (j : ℕ) → at + cellSize ≤ j → getD (withCell d at f) j 0 ≡ getD d j 0
-  behind j l =
-      let e = length-take-le at d (omega arith) in
-      let a = length-append (take at d) f in
-      let n : length (take at d ++ f) + (j - (at + cellSize)) ≡ j = omega arith in
-      let k : at + cellSize + (j - (at + cellSize)) ≡ j = omega arith in
-      ap (λ (i : ℕ). getD (withCell d at f) i 0) (sym n)
-      ∙ getD-append-add (take at d ++ f) (drop (at + cellSize) d) (j - (at + cellSize)) 0
-      ∙ getD-drop (at + cellSize) d (j - (at + cellSize)) 0
-      ∙ ap (λ (i : ℕ). getD d i 0) k
+use Rattle.desk.proofs.DeskLaws.{taken-other, records-other, opened-other, other-bit}
+use Rattle.desk.proofs.MixLaws.{after-taken, after-refused, after-opened, after-not-opened, lent}
 
 -- ---- openings
 
@@ -51,18 +30,6 @@ module _ (m : Memory) (f : List ℕ) where
   not-opened : (why : Refusal) → opens m f .answer ≡ refuses why → (a : Told Opening) → openTried m f ≡ a → opens m f .after ≡ m
   not-opened why h (gives o) e = absurd (not-refused (o .seat) why (rw (after-opened m f o e) at h))
   not-opened why h (refuses g) e = rw (after-not-opened m f g e)
-
-  lends-count : (a : Told Opening) → openTried m f ≡ a → opens m f .after .count ≡ m .count
-  lends-count (gives o) e = rw (after-opened m f o e)
-  lends-count (refuses why) e = rw (after-not-opened m f why e)
-
-  lends-cells : (a : Told Opening) → openTried m f ≡ a → opens m f .after .cells ≡ m .cells
-  lends-cells (gives o) e = rw (after-opened m f o e)
-  lends-cells (refuses why) e = rw (after-not-opened m f why e)
-
-  lends-marks : (a : Told Opening) → openTried m f ≡ a → opens m f .after .marks ≡ m .marks
-  lends-marks (gives o) e = rw (after-opened m f o e)
-  lends-marks (refuses why) e = rw (after-not-opened m f why e)
 
   -- ---- replies
 
@@ -83,13 +50,13 @@ module _ (m : Memory) (f : List ℕ) where
   front-cells : (j : ℕ) → j < m .count * cellSize → (a : Told Taking) → replyTried m f ≡ a → getD (replies m f .after .cells) j 0 ≡ getD (m .cells) j 0
   front-cells j l (gives t) e =
       let r = took-room m f t (took m f t e) in
-      rw (after-taken m f t e) (before (m .cells) (m .count * cellSize) f (r .cells) (r .frame) j l)
+      rw (after-taken m f t e) (before-with (m .cells) (m .count * cellSize) f (r .cells) (r .frame) j l)
   front-cells j l (refuses why) e = rw (after-refused m f why e)
 
   back-cells : (j : ℕ) → m .count * cellSize + cellSize ≤ j → (a : Told Taking) → replyTried m f ≡ a → getD (replies m f .after .cells) j 0 ≡ getD (m .cells) j 0
   back-cells j l (gives t) e =
       let r = took-room m f t (took m f t e) in
-      rw (after-taken m f t e) (behind (m .cells) (m .count * cellSize) f (r .cells) (r .frame) j l)
+      rw (after-taken m f t e) (behind-with (m .cells) (m .count * cellSize) f (r .cells) (r .frame) j l)
   back-cells j l (refuses why) e = rw (after-refused m f why e)
 
   else-marks : (j : ℕ) → (j ≡ m .count → ⊥) → (a : Told Taking) → replyTried m f ≡ a → markAt (replies m f .after .marks) j ≡ markAt (m .marks) j
@@ -142,9 +109,9 @@ pub keeps-memory : KeepsMemory
 keeps-memory = record {
   opening-others = λ m f s h i n. opened-else m f s i n h (openTried m f) refl;
   reply-others = λ m f s h i n. taken-else m f s i n h (replyTried m f) refl;
-  opening-count = λ m f. lends-count m f (openTried m f) refl;
-  opening-cells = λ m f. lends-cells m f (openTried m f) refl;
-  opening-marks = λ m f. lends-marks m f (openTried m f) refl;
+  opening-count = λ m f. lent m f .count;
+  opening-cells = λ m f. lent m f .cells;
+  opening-marks = λ m f. lent m f .marks;
   reply-bits = λ m f. same-bits m f (replyTried m f) refl;
   reply-sizes = λ m f. sizes m f (replyTried m f) refl;
   cells-before = λ m f j l. front-cells m f j l (replyTried m f) refl;

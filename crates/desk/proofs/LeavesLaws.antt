@@ -1,19 +1,20 @@
 -- What a capture leaves of the lent memory. Assumes nothing.
-use Prim.Native.Nat.{ℕ, zero, suc, _+_, _*_, _-_, _<_, _≤_}
-use mathlib.Core.List.{List, [], _∷_, _++_}
+use Prim.Native.Nat.{ℕ, _*_, _-_}
+use mathlib.Core.List.{List, [], _∷_}
 use mathlib.Core.Bool.{true}
-use mathlib.Core.Path.{_≡_, refl, sym, ap, _∙_}
+use mathlib.Core.Path.{_≡_, refl, ap, _∙_}
 use native.Mathlib.Omega.{arith}
-use lib.ListN.{length, take, drop, set, length-append}
-use lib.Seq.{drop-drop, drop-at, length-take-le}
+use lib.ListN.{length, drop}
+use lib.Seq.{drop-set-lt}
 use Rattle.digits.specs.Told.{Told, gives, refuses}
 use Rattle.finder.specs.Pieces.{Piece, whole, cut}
 use Rattle.desk.specs.declared.reply.Taking.{Taking}
 use Rattle.desk.specs.Limits.{mostCells, cellSize, storeSize}
 use Rattle.desk.specs.Memory.{Memory}
 use Rattle.desk.specs.Desk.{isDesk}
-use Rattle.desk.specs.Calls.{opens, withCell, replyTried, replies}
+use Rattle.desk.specs.Calls.{opens, replyTried, replies}
 use Rattle.desk.specs.Capture.{Step, meets, meetsPiece, afterAll}
+use Rattle.desk.proofs.WrittenLaws.{drop-with}
 use Rattle.desk.proofs.StepLaws.{took, took-room}
 use Rattle.desk.proofs.MixLaws.{after-taken, after-refused}
 use Rattle.desk.proofs.KeepsLaws.{keeps-memory}
@@ -29,23 +30,6 @@ pub record Leaves (m x : Memory) : Type 0 where
 same : (m : Memory) → Leaves m m
 same m = record { cells = refl; marks = refl; cells-behind = refl; marks-behind = refl }
 
-drop-set : (l : List ℕ) (n i v : ℕ) → i < n → drop n (set l i v) ≡ drop n l
-drop-set [] n i v h = refl
-drop-set (x ∷ l) zero i v h = absurd (omega arith)
-drop-set (x ∷ l) (suc n) zero v h = refl
-drop-set (x ∷ l) (suc n) (suc i) v h = drop-set l n i v (omega arith)
-
--- a cell that ends by n
-drop-cell : (d : List ℕ) (at : ℕ) (f : List ℕ) (n : ℕ) → at + cellSize ≤ length d → length f ≡ cellSize → at + cellSize ≤ n → drop n (withCell d at f) ≡ drop n d
-drop-cell d at f n room full l =
-    let t = length-take-le at d (omega arith) in
-    let a : length (take at d ++ f) ≡ at + cellSize = length-append (take at d) f ∙ omega (arith, t, full) in
-    let k : (at + cellSize) + (n - (at + cellSize)) ≡ n = omega arith in
-    let e : drop (at + cellSize) (withCell d at f) ≡ drop (at + cellSize) d = drop-at (take at d ++ f) (drop (at + cellSize) d) (at + cellSize) a in
-    let x = drop-drop (n - (at + cellSize)) (at + cellSize) (withCell d at f) in
-    let y = drop-drop (n - (at + cellSize)) (at + cellSize) d in
-    rw k at (sym x ∙ ap (drop (n - (at + cellSize))) e ∙ y)
-
 leaves-by : (m : Memory) (f : List ℕ) (a : Told Taking) → replyTried m f ≡ a → Leaves m (replies m f .after)
 leaves-by m f (gives t) e =
     let r = took-room m f t (took m f t e) in
@@ -53,8 +37,8 @@ leaves-by m f (gives t) e =
     record {
       cells = s .0;
       marks = s .1;
-      cells-behind = rw (after-taken m f t e) (drop-cell (m .cells) (m .count * cellSize) f storeSize (r .cells) (r .frame) (omega (arith, r .count)));
-      marks-behind = rw (after-taken m f t e) (drop-set (m .marks) mostCells (m .count) (t .seat) (r .count));
+      cells-behind = rw (after-taken m f t e) (drop-with (m .cells) (m .count * cellSize) f (r .cells) (r .frame) storeSize (omega (arith, r .count)));
+      marks-behind = rw (after-taken m f t e) (drop-set-lt mostCells (m .marks) (m .count) (t .seat) (r .count));
     }
 leaves-by m f (refuses why) e = rw (after-refused m f why e) (same m)
 

@@ -3,6 +3,7 @@ pub mod Bits
 pub mod KeyLaws
 pub mod HearingLaws
 pub mod ClauseLaws
+pub mod WrittenLaws
 pub mod StepLaws
 pub mod OutcomeLaws
 pub mod HeldLaws

@@ -327,14 +327,17 @@ sorts-from-any-desk m es s d st r l u = sorted m es s (seatKey (seatAt (m .row) 
 -- ---- openings first
 
 -- an opening leaves cells, marks and count
-record Lent (m x : Memory) : Type 0 where
-  count : x .count ≡ m .count
-  cells : x .cells ≡ m .cells
-  marks : x .marks ≡ m .marks
+pub record Lent (m x : Memory) : Type 0 where
+  pub count : x .count ≡ m .count
+  pub cells : x .cells ≡ m .cells
+  pub marks : x .marks ≡ m .marks
 
 lent-by : (m : Memory) (f : Frame) (a : Told Opening) → openTried m f ≡ a → Lent m (opens m f .after)
 lent-by m f (gives o) e = rw (after-opened m f o e) (record { count = refl; cells = refl; marks = refl })
 lent-by m f (refuses why) e = rw (after-not-opened m f why e) (record { count = refl; cells = refl; marks = refl })
+
+pub lent : (m : Memory) (f : Frame) → Lent m (opens m f .after)
+lent m f = lent-by m f (openTried m f) refl
 
 -- a request that was just opened, at seat s
 record Fresh (m : Memory) (s : ℕ) (k : Key) : Type 0 where
@@ -359,7 +362,7 @@ ready-run : (m x : Memory) (l : List Frame) → Ready m x → Ready m (run x (op
 unfolding run
 ready-run m x [] h = h
 ready-run m x (f ∷ l) h =
-    let k = lent-by x f (openTried x f) refl in
+    let k = lent x f in
     ready-run m (opens x f .after) l
     (record { facts = open-by x f (h .facts) (openTried x f) refl; lent = record { count = k .count ∙ h .lent .count; cells = k .cells ∙ h .lent .cells; marks = k .marks ∙ h .lent .marks } })
 

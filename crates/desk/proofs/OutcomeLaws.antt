@@ -1,10 +1,10 @@
 -- How the steps of a call make up its outcome. Assumes nothing.
-use Prim.Native.Nat.{ℕ, _+_, _≤_}
-use mathlib.Core.List.{List, _++_}
+use Prim.Native.Nat.{ℕ}
+use mathlib.Core.List.{List}
 use mathlib.Core.Bool.{true, false}
-use mathlib.Core.Path.{_≡_, refl, ap, _∙_}
-use lib.ListN.{length, set, take, drop}
-use lib.Seq.{sets, sets-eq, set-getD}
+use mathlib.Core.Path.{_≡_, refl, ap}
+use lib.ListN.{set}
+use lib.Seq.{set-getD}
 use lib.Dec.{ltb}
 use Rattle.digits.specs.declared.refusal.Refusal.{Refusal}
 use Rattle.digits.specs.Refusals.{DESK}
@@ -13,12 +13,11 @@ use Rattle.frames.specs.Kind.{read}
 use Rattle.frames.specs.Request.{request}
 use Rattle.desk.specs.declared.opening.Opening.{Opening}
 use Rattle.desk.specs.declared.reply.Taking.{Taking}
-use Rattle.desk.specs.Limits.{cellSize}
 use Rattle.desk.specs.Hearing.{heard}
 use Rattle.desk.specs.Seats.{zeroSeat, seatAt}
 use Rattle.desk.specs.Memory.{Memory, capacity}
 use Rattle.desk.specs.Desk.{isDesk}
-use Rattle.desk.specs.Calls.{whatIsGiven, requestTried, openTried, labelTried, replyTried, opens, opened, replies, taken, withCell, Did}
+use Rattle.desk.specs.Calls.{whatIsGiven, requestTried, openTried, labelTried, replyTried, opens, opened, replies, taken, Did}
 
 -- ---- what is tried further of an answer that is known
 
@@ -65,12 +64,6 @@ module _ (m : Memory) (f : List ℕ) where
   not-opened why e = rw (← e) (record { answer = refl; memory = refl })
 
 -- ---- the outcome of a reply
-
--- a frame stored byte by byte
-pub with-cell : (cells : List ℕ) (at : ℕ) (f : List ℕ) → at + cellSize ≤ length cells → length f ≡ cellSize → sets cells at f ≡ withCell cells at f
-with-cell cells at f room full =
-    let h : at + length f ≤ length cells = rw full room in
-    sets-eq f cells at h ∙ ap (λ (n : ℕ). take at cells ++ f ++ drop (at + n) cells) full
 
 module _ (m : Memory) (f : List ℕ) where
   pub reply-done : (t : Taking) (after : Memory) → gives t ≡ replyTried m f → after ≡ taken m f t → Did (gives (t .seat)) after (replies m f)

@@ -2,12 +2,13 @@
 use Prim.Native.Nat.{ℕ, _+_, _*_, _≤_, _<_}
 use mathlib.Core.List.{List}
 use mathlib.Core.Bool.{true, false, not}
-use mathlib.Core.Path.{_≡_, refl, ap, _∙_}
+use mathlib.Core.Path.{_≡_, refl, sym, ap, _∙_}
 use native.Mathlib.Omega.{arith}
 use lib.ListN.{length}
 use lib.Dec.{eqb, leb, ltb}
 use borrow.Author.Tests.{eqb-true, ltb-true, leb-true, not-true, not-false}
 use Rattle.digits.specs.Told.{Told, gives, refuses}
+use Rattle.digits.proofs.Sure.{not-refused}
 use Rattle.frames.specs.Kind.{read}
 use Rattle.frames.specs.Request.{request}
 use Rattle.frames.specs.declared.request.StaticRequest.{StaticRequest}
@@ -40,7 +41,7 @@ module _ {A B : Type 0} where
 
   given : (x : Told A) (further : A → Told B) (b : B) → whatIsGiven x further ≡ gives b → Given x further b
   given (gives a) further b e = record { one = a; is = refl; rest = e }
-  given (refuses why) further b e = absurd (let z : _≡_ {A = ℕ} 0 1 = cc in omega arith)
+  given (refuses why) further b e = absurd (not-refused b why (sym e))
 
 -- ---- the seat that is found is in use and has the key
 

@@ -1,5 +1,6 @@
 -- How many seats a desk has, how many cells it uses at most, how long a cell is, and how long all of them are.
 use Prim.Native.Nat.{ℕ, _*_}
+use Rattle.frames.specs.Reply.{reply}
 
 abbrev pub seatCount : ℕ
 seatCount = 16
@@ -9,7 +10,7 @@ mostCells = 256
 
 -- a reply fills a cell
 abbrev pub cellSize : ℕ
-cellSize = 51
+cellSize = reply .size
 
 abbrev pub storeSize : ℕ
 storeSize = mostCells * cellSize

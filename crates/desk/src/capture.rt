@@ -24,7 +24,7 @@ ghost use Rattle.desk.specs.Memory.{memory};
 ghost use Rattle.desk.specs.Desk.{isDesk};
 ghost use Rattle.desk.specs.Calls.{openTold, replyTold};
 ghost use Rattle.desk.specs.Capture.{fateBy, dynamicFate, meets, TookCapture};
-ghost use Rattle.desk.specs.inside.Capture.{oneMore, Meets};
+ghost use Rattle.desk.specs.inside.Counting.{oneMore, Meets};
 ghost use Rattle.desk.specs.declared.capture.Fate.the-variants.{Opened, Collected};
 
 // What becomes of a frame.

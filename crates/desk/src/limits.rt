@@ -1,4 +1,5 @@
 // How much a desk holds: each limit once.
+use frames::reply::REPLY_SIZE;
 
 pub const SEATS: usize = 16;
 
@@ -6,7 +7,7 @@ pub const SEATS: usize = 16;
 pub const CELLS: usize = 256;
 
 // A reply fills a cell.
-pub const CELL_SIZE: usize = 51;
+pub const CELL_SIZE: usize = REPLY_SIZE;
 
 // Bytes of all the cells that a desk can use.
 pub const STORE: usize = CELLS * CELL_SIZE;

@@ -5,23 +5,25 @@ use mathlib.Core.Bool.{Bool, true, false≢true, _||_}
 use mathlib.Core.Path.{_≡_, refl, sym, _∙_}
 use native.Mathlib.Omega.{arith}
 use lib.Dec.{T, leb, ltb, eqb, ltb→lt}
-use lib.ListN.{length, drop, replicate, length-replicate, drop-of-length-le}
+use lib.ListN.{length, getD, drop, replicate, length-replicate, drop-of-length-le}
 use borrow.Author.Tests.{leb-true, le-leb, eqb-true, ne-eqb}
 use Rattle.digits.specs.Text.{oneOf}
 use Rattle.digits.specs.Told.{gives}
 use Rattle.digits.specs.Digits.{digits}
-use Rattle.digits.specs.Form.{Form}
 use Rattle.digits.proofs.Tests.{and-true, and-l, and-r}
+use Rattle.times.specs.Net.{isNet}
 use Rattle.frames.specs.declared.timing.TimingKind.{TimingKind}
 use Rattle.frames.specs.declared.timing.TimingKind.the-variants.{Clock as clockKind, Net as netKind, Raw as rawKind}
 use Rattle.frames.specs.declared.reply.StaticReply.{StaticReply}
-use Rattle.frames.specs.Rules.{between, isRaw, isRequester, isOutput}
-use Rattle.frames.specs.Layout.{Mark, first, further, Layout, piece, end, recordWrong, write}
+use Rattle.frames.specs.Rules.{between, upTo, space, isAddress, isRaw, isRequester, isOutput}
+use Rattle.frames.specs.Status.{isStatus}
+use Rattle.frames.specs.Shape.{Shape, byte, number, time, run, bytesOf, allFrom}
+use Rattle.frames.specs.Layout.{Layout, field, suits, end, recordWrong, write, within}
 use Rattle.frames.specs.Kind.{Kind, CR, letterR, read, wrongIn, frameOf, writeTried}
-use Rattle.frames.specs.Demand2.{Faithful}
-use Rattle.frames.specs.Timing.{raw, isSign, spareAnd, timeAndDate, timed, timingKind}
+use Rattle.frames.specs.Faithful.{Faithful}
+use Rattle.frames.specs.Timing.{areRaw, isSign, netOf, timed, timingKind}
 use Rattle.frames.specs.Request.{request, requestFields, isInformation}
-use Rattle.frames.specs.Reply.{reply, replyFields, Whole as Whole-reply, isStatus, isLetter}
+use Rattle.frames.specs.Reply.{reply, replyFields, Whole as Whole-reply, isLetter, leastRun, fromBib, tailOf, withTail}
 use Rattle.frames.specs.Dynamic.{dynamic, dynamicFields, isOrder}
 use Rattle.frames.proofs.RuleLaws.{or-cases}
 use Rattle.frames.proofs.HeadLaws.{tried-gives}
@@ -63,6 +65,12 @@ range-raw lo hi h k b e =
     let m = leb-true b hi (and-r (leb lo b) (leb b hi) e) in
     is-raw b (omega arith) (omega arith)
 
+-- n bytes that are all raw
+run-raw : (l : List ℕ) (i n : ℕ) → allFrom isRaw l i n ≡ true → every isRaw (bytesOf l i n) ≡ true
+unfolding allFrom
+run-raw l i zero e = refl
+run-raw l i (suc n) e = and-true (and-l (isRaw (getD l i 0)) (allFrom isRaw l (suc i) n) e) (run-raw l (suc i) n (and-r (isRaw (getD l i 0)) (allFrom isRaw l (suc i) n) e))
+
 requester-raw : (b : ℕ) → isRequester b ≡ true → isRaw b ≡ true
 unfolding isRequester
 requester-raw b e =
@@ -72,91 +80,122 @@ requester-raw b e =
 
 -- ---- a layout all of whose fields are written in such bytes
 
-data Printed : Layout → Type 0 where
-  printed : {mark : Mark} {at : ℕ} {form : Form} {rule : ℕ → Bool} {next : ℕ → Layout}
-      → T (ltb 0 at) → ((v : ℕ) → rule v ≡ true → every isRaw (form .put v) ≡ true) → ((v : ℕ) → rule v ≡ true → Printed (next v)) → Printed (piece mark at form rule next)
-  printed-end : {cr unused : ℕ} → Printed (end cr unused)
+data Printed {R : Type 0} : Layout R → Type 1 where
+  printed : {A : Type 0} {at : ℕ} {shape : Shape A} {rule : A → Bool} {part : R → A} {next : A → Layout R}
+      → T (ltb 0 at) → ((v : A) → rule v ≡ true → every isRaw (shape .put v) ≡ true) → ((v : A) → rule v ≡ true → Printed (next v)) → Printed (field at shape rule part next)
+  printed-suits : {at : ℕ} {test : R → Bool} {rest : Layout R} → T (ltb 0 at) → Printed rest → Printed (suits at test rest)
+  printed-end : {r : R} → Printed (end r)
 
-write-raw : {L : Layout} → Printed L → (vs : List ℕ) → recordWrong L vs ≡ 0 → every isRaw (write L vs) ≡ true
+write-raw : {R : Type 0} {L : Layout R} → Printed L → (r : R) → recordWrong L r ≡ 0 → every isRaw (write L r) ≡ true
 unfolding recordWrong write
-write-raw (printed {mark} {at} {form} {rule} {next} some shows rest) [] e = refl
-write-raw (printed {mark} {at} {form} {rule} {next} some shows rest) (v ∷ vs) e =
-    let u = unless-none (rule v) at (recordWrong (next v) vs) (ltb→lt 0 at some) e in
-    every-both isRaw (form .put v) (write (next v) vs) (shows v (u .0)) (write-raw (rest v (u .0)) vs (u .1))
-write-raw printed-end vs e = refl
+write-raw (printed {A} {at} {shape} {rule} {part} {next} some shows rest) r e =
+    let v = part r in
+    let u = unless-none (rule v) at (recordWrong (next v) r) (ltb→lt 0 at some) e in
+    every-both isRaw (shape .put v) (write (next v) r) (shows v (u .0)) (write-raw (rest v (u .0)) r (u .1))
+write-raw (printed-suits {at} {test} {rest} some prints) r e =
+    write-raw prints r (unless-none (test r) at (recordWrong rest r) (ltb→lt 0 at some) e .1)
+write-raw printed-end r e = refl
+
+within-printed : {Q R : Type 0} (of : R → Q) (whole : Q → R) {L : Layout Q} → Printed L → Printed (within of whole L)
+within-printed of whole (printed some shows rest) = printed some shows λ v good. within-printed of whole (rest v good)
+within-printed of whole (printed-suits some rest) = printed-suits some (within-printed of whole rest)
+within-printed of whole printed-end = printed-end
+
+-- ---- by its shape
+
+module _ {R : Type 0} {at : ℕ} where
+  module _ {rule : ℕ → Bool} {part : R → ℕ} {next : ℕ → Layout R} where
+    byte-printed : T (ltb 0 at) → ((v : ℕ) → rule v ≡ true → isRaw v ≡ true) → ((v : ℕ) → rule v ≡ true → Printed (next v)) → Printed (field at byte rule part next)
+    byte-printed some raw rest = printed some (λ v q. and-true (raw v q) refl) rest
+
+    number-printed : (w : ℕ) → T (ltb 0 at) → ((v : ℕ) → rule v ≡ true → Printed (next v)) → Printed (field at (number w) rule part next)
+    number-printed w some rest = printed some (λ v _. digits-raw w v) rest
+
+    time-printed : T (ltb 0 at) → ((v : ℕ) → rule v ≡ true → Printed (next v)) → Printed (field at time rule part next)
+    time-printed some rest = printed some (λ v _. digits-raw 10 _) rest
+
+  run-printed : {part : R → List ℕ} {next : List ℕ → Layout R} (n : ℕ) → T (ltb 0 at) → ((v : List ℕ) → areRaw n v ≡ true → Printed (next v)) → Printed (field at (run n) (areRaw n) part next)
+  run-printed n some rest = printed some (λ v q. run-raw v 0 n q) rest
+
+address-raw : (b : ℕ) → isAddress b ≡ true → isRaw b ≡ true
+unfolding isRaw between
+address-raw b e = rw (eqb-true b space e)
 
 request-printed : Printed requestFields
 unfolding requestFields isInformation isOutput isRaw between
 request-printed =
-    printed tt (λ v q. and-true (requester-raw v q) refl) λ _ _.
-    printed tt (λ v _. digits-raw 3 v) λ _ _.
-    printed tt (λ v _. digits-raw 5 v) λ _ _.
-    printed tt (λ v q. and-true (listed-raw _ refl v q) refl) λ _ _.
-    printed tt (λ v _. digits-raw 3 v) λ _ _.
-    printed tt (λ v _. digits-raw 3 v) λ _ _.
-    printed tt (λ v _. digits-raw 3 v) λ _ _.
-    printed tt (λ v q. and-true (listed-raw _ refl v q) refl) λ _ _.
+    byte-printed tt address-raw λ _ _.
+    byte-printed tt requester-raw λ _ _.
+    number-printed 3 tt λ _ _.
+    number-printed 5 tt λ _ _.
+    byte-printed tt (listed-raw _ refl) λ _ _.
+    number-printed 3 tt λ _ _.
+    number-printed 3 tt λ _ _.
+    number-printed 3 tt λ _ _.
+    byte-printed tt (listed-raw _ refl) λ _ _.
     printed-end
 
 dynamic-printed : Printed dynamicFields
 unfolding dynamicFields isOrder isOutput isRaw between
 dynamic-printed =
-    printed tt (λ v q. and-true (requester-raw v q) refl) λ _ _.
-    printed tt (λ v q. and-true (listed-raw _ refl v q) refl) λ _ _.
-    printed tt (λ v _. digits-raw 5 v) λ _ _.
-    printed tt (λ v _. digits-raw 3 v) λ _ _.
-    printed tt (λ v _. digits-raw 3 v) λ _ _.
-    printed tt (λ v _. digits-raw 5 v) λ _ _.
-    printed tt (λ v _. digits-raw 3 v) λ _ _.
-    printed tt (λ v _. digits-raw 3 v) λ _ _.
-    printed tt (λ v _. digits-raw 1 v) λ _ _.
-    printed tt (λ v _. digits-raw 10 _) λ _ _.
-    printed tt (λ v _. digits-raw 1 v) λ _ _.
-    printed tt (λ v _. digits-raw 5 v) λ _ _.
-    printed tt (λ v q. and-true (listed-raw _ refl v q) refl) λ _ _.
+    byte-printed tt address-raw λ _ _.
+    byte-printed tt requester-raw λ _ _.
+    byte-printed tt (listed-raw _ refl) λ _ _.
+    number-printed 5 tt λ _ _.
+    number-printed 3 tt λ _ _.
+    number-printed 3 tt λ _ _.
+    number-printed 5 tt λ _ _.
+    number-printed 3 tt λ _ _.
+    number-printed 3 tt λ _ _.
+    number-printed 1 tt λ _ _.
+    time-printed tt λ _ _.
+    number-printed 1 tt λ _ _.
+    number-printed 5 tt λ _ _.
+    byte-printed tt (listed-raw _ refl) λ _ _.
     printed-end
 
-raw-printed : (mark : Mark) (at n : ℕ) {L : Layout} → T (ltb 0 at) → Printed L → Printed (raw mark at n L)
-raw-printed mark at zero h l = l
-raw-printed mark at (suc n) h l = printed h (λ v q. and-true q refl) (λ _ _. raw-printed further at n h l)
-
-spare-printed : (unused : ℕ) → Printed (spareAnd unused)
-spare-printed unused = raw-printed first 48 2 tt printed-end
-
-time-printed : (kind : TimingKind) → Printed (timeAndDate kind)
-unfolding timeAndDate isSign isRaw between
-time-printed clockKind =
-    printed tt (λ v _. digits-raw 10 _) λ _ _.
-    printed tt (λ v _. digits-raw 2 v) λ _ _.
-    printed tt (λ v _. digits-raw 2 v) λ _ _.
-    printed tt (λ v _. digits-raw 4 v) λ _ _.
-    spare-printed 18
-time-printed netKind =
-    printed tt (λ v _. digits-raw 10 _) λ _ _.
-    printed tt (λ v q. and-true (listed-raw _ refl v q) refl) λ _ _.
-    printed tt (λ v _. digits-raw 7 v) λ _ _.
-    spare-printed 18
-time-printed rawKind = raw-printed further 30 10 tt (raw-printed first 40 8 tt (spare-printed 0))
-
 timed-printed : (kind : TimingKind) → Printed (timed kind)
-unfolding timed
-timed-printed kind = printed tt (λ _ _. refl) (λ _ _. time-printed kind)
+unfolding timed isSign isRaw between
+timed-printed clockKind =
+    printed-suits tt
+    (time-printed tt λ _ _.
+    printed tt (λ (d : ℕ × (ℕ × ℕ)) _. every-both isRaw (digits 2 (d .0)) (digits 2 (d .1 .0) ++ digits 4 (d .1 .1)) (digits-raw 2 (d .0)) (every-both isRaw (digits 2 (d .1 .0)) (digits 4 (d .1 .1)) (digits-raw 2 (d .1 .0)) (digits-raw 4 (d .1 .1)))) λ _ _.
+    run-printed 2 tt λ _ _.
+    printed-suits tt printed-end)
+timed-printed netKind =
+    printed-suits tt
+    (time-printed tt λ ticks _.
+    printed tt (λ (d : ℕ × ℕ) q. and-true (listed-raw _ refl (d .0) (and-l (isSign (d .0)) (isNet (netOf ticks (d .0) (d .1))) q)) (digits-raw 7 (d .1))) λ _ _.
+    run-printed 2 tt λ _ _.
+    printed-suits tt printed-end)
+timed-printed rawKind =
+    printed-suits tt
+    (run-printed 10 tt λ _ _.
+    run-printed 8 tt λ _ _.
+    run-printed 2 tt λ _ _.
+    printed-end)
+
+tail-printed : (status : ℕ) → Printed (fromBib (leastRun status) (number 3) (upTo 999) isLetter (timingKind status))
+unfolding fromBib isLetter isRaw between
+tail-printed status =
+    number-printed 5 tt λ bib _.
+    number-printed 3 tt λ group _.
+    number-printed 3 tt λ run _.
+    number-printed 3 tt λ physical _.
+    number-printed 3 tt λ channel _.
+    byte-printed tt (listed-raw _ refl) λ letter _.
+    within-printed (λ t. t .times) (λ times. record { bib = bib; group = group; run = run; physical = physical; channel = channel; information = letter; times = times }) (timed-printed (timingKind status letter))
 
 reply-printed : Printed replyFields
-unfolding replyFields isStatus isLetter isRaw between
+unfolding replyFields isStatus isRaw between
 reply-printed =
-    printed tt (λ v q. and-true q refl) λ _ _.
-    printed tt (λ v q. and-true q refl) λ _ _.
-    printed tt (λ v q. and-true (listed-raw _ refl v q) refl) λ status _.
-    printed tt (λ v q. and-true (requester-raw v q) refl) λ _ _.
-    printed tt (λ v _. digits-raw 5 v) λ _ _.
-    printed tt (λ v _. digits-raw 5 v) λ _ _.
-    printed tt (λ v _. digits-raw 3 v) λ _ _.
-    printed tt (λ v _. digits-raw 3 v) λ _ _.
-    printed tt (λ v _. digits-raw 3 v) λ _ _.
-    printed tt (λ v _. digits-raw 3 v) λ _ _.
-    printed tt (λ v q. and-true (listed-raw _ refl v q) refl) λ letter _.
-    timed-printed (timingKind status letter)
+    byte-printed tt address-raw λ _ _.
+    byte-printed tt (λ v q. q) λ program _.
+    byte-printed tt (λ v q. q) λ mode _.
+    byte-printed tt (listed-raw _ refl) λ status _.
+    byte-printed tt requester-raw λ requester _.
+    number-printed 5 tt λ n _.
+    within-printed tailOf (withTail program mode status requester n) (tail-printed status)
 
 -- ---- such a frame is found whole
 
@@ -183,7 +222,7 @@ module _ {R : Type 0} (k : Kind R) (Whole : R → Type 0) (faithful : Faithful k
   taken-is f r e =
       let size : length {A = ℕ} (replicate (k .size) 0) ≡ k .size = length-replicate (k .size) 0 in
       let w = faithful .writes-again f r e (replicate (k .size) 0) (omega (arith, size)) in
-      let fine = tried-gives (eqb (wrongIn k r) 0) _ _ _ tt (w .0) in
+      let fine = tried-gives (eqb (wrongIn k r) 0) _ _ tt (w .0) in
       let least : length {A = ℕ} (replicate (k .size) 0) ≤ k .size = omega (arith, size) in
       let none : drop {A = ℕ} (k .size) (replicate (k .size) 0) ≡ [] = drop-of-length-le (replicate (k .size) 0) least in
       (eqb-true (wrongIn k r) 0 (fine .0), sym (append-nil (frameOf k r)) ∙ (rw (w .0, none) at (w .1)) ∙ append-nil f)
@@ -192,8 +231,7 @@ module _ {R : Type 0} (k : Kind R) (Whole : R → Type 0) (faithful : Faithful k
   unfolding isRaw between wrongIn frameOf
   taken-printable f r e =
       let t = taken-is f r e in
-      let written = write (k .fields) (k .valuesOf r) in
-      record { inner = letterR ∷ 32 ∷ written; is = sym (t .1); raw = write-raw prints (k .valuesOf r) (t .0) }
+      record { inner = letterR ∷ write (k .fields) r; is = sym (t .1); raw = write-raw prints r (t .0) }
 
   finds-whole : isLead (k .lead) ≡ true → FindsWhole k
   unfolding isOpen

@@ -7,10 +7,12 @@ use Rattle.times.specs.Day.{leap, monthLength, realDay}
 use Rattle.times.specs.Net.{isNet}
 use Rattle.times.specs.Running.{inRange, runningTime}
 use Rattle.frames.specs.Rules.{between, upTo, isRaw, isRequester, isOutput}
-use Rattle.frames.specs.Layout.{firstWrong, values, recordWrong, write}
+use Rattle.frames.specs.Layout.{fieldsOf, recordWrong, write}
 use Rattle.frames.specs.Kind.{headTold, read, wrongIn, frameOf, writeTried}
+use Rattle.frames.specs.Status.{isStatus}
+use Rattle.frames.specs.Shape.{allFrom}
 use Rattle.frames.specs.Request as Q
-use Rattle.frames.specs.Timing.{timingKind, isSign, timeAndDate, timed}
+use Rattle.frames.specs.Timing.{timingKind, isSign, timed}
 use Rattle.frames.specs.Reply as P
 use Rattle.frames.specs.Dynamic as D
 use Rattle.frames.specs.Cases.{Worked}
@@ -20,7 +22,7 @@ use Rattle.frames.specs.ReplyCases.{ReplyWorked}
 use Rattle.frames.specs.DynamicCases.{DynamicWorked}
 
 pub worked : Worked
-unfolding numberAt numberFrom oneOf ticksOf leap monthLength realDay isNet inRange runningTime between upTo isRaw isRequester isOutput firstWrong values recordWrong headTold read wrongIn writeTried timingKind isSign timeAndDate timed Q.isInformation Q.isChannel Q.requestFields P.isStatus P.isLetter P.isChannel P.leastRun P.replyFields D.isOrder D.isChannel D.leastPeriod D.dynamicFields
+unfolding numberAt numberFrom oneOf ticksOf leap monthLength realDay isNet inRange runningTime between upTo isRaw isRequester isOutput allFrom fieldsOf recordWrong headTold read wrongIn writeTried timingKind isSign timed Q.isInformation Q.isRequestChannel Q.requestFields isStatus P.isLetter P.isReplyChannel P.leastRun P.fromBib P.replyFields D.isOrder D.isDynamicChannel D.leastPeriod D.dynamicFields
 worked = record {
   last-tick = refl;
   last-second = refl;
@@ -64,7 +66,7 @@ worked = record {
 }
 
 pub request-worked : RequestWorked
-unfolding digits numberAt numberFrom oneOf between upTo isRequester isOutput firstWrong values recordWrong write headTold read wrongIn frameOf Q.isInformation Q.isChannel Q.requestFields
+unfolding digits numberAt numberFrom oneOf between upTo isRequester isOutput allFrom fieldsOf recordWrong write headTold read wrongIn frameOf Q.isInformation Q.isRequestChannel Q.requestFields
 request-worked = record {
   spelled = refl;
   written = refl;
@@ -105,7 +107,7 @@ request-worked = record {
 }
 
 pub reply-worked : ReplyWorked
-unfolding digits numberAt numberFrom oneOf between upTo isRequester isOutput firstWrong values recordWrong write headTold read wrongIn frameOf ticksOf clockNumber leap monthLength realDay isNet isRaw timingKind isSign timeAndDate timed P.isStatus P.isLetter P.isChannel P.leastRun P.replyFields
+unfolding digits numberAt numberFrom oneOf between upTo isRequester isOutput allFrom fieldsOf recordWrong write headTold read wrongIn frameOf ticksOf clockNumber leap monthLength realDay isNet isRaw timingKind isSign timed isStatus P.isLetter P.isReplyChannel P.leastRun P.fromBib P.replyFields
 reply-worked = record {
   net = refl;
   clock = refl;
@@ -164,7 +166,7 @@ reply-worked = record {
 }
 
 pub dynamic-worked : DynamicWorked
-unfolding digits numberAt numberFrom oneOf between upTo isRequester isOutput firstWrong values recordWrong write headTold read wrongIn frameOf ticksOf clockNumber D.isOrder D.isChannel D.leastPeriod D.dynamicFields
+unfolding digits numberAt numberFrom oneOf between upTo isRequester isOutput allFrom fieldsOf recordWrong write headTold read wrongIn frameOf ticksOf clockNumber D.isOrder D.isDynamicChannel D.leastPeriod D.dynamicFields
 dynamic-worked = record {
   spelled = refl;
   written = refl;
@@ -212,7 +214,7 @@ dynamic-worked = record {
 }
 
 pub rules-worked : RulesWorked
-unfolding oneOf between isRaw isRequester isOutput timingKind isSign Q.isInformation Q.isChannel P.isStatus P.isLetter P.isChannel D.isOrder D.isChannel D.leastPeriod
+unfolding oneOf between isRaw isRequester isOutput timingKind isSign Q.isInformation Q.isRequestChannel isStatus P.isLetter P.isReplyChannel D.isOrder D.isDynamicChannel D.leastPeriod
 rules-worked = record {
   requesters = refl;
   outputs = refl;

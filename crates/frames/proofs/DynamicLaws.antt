@@ -2,30 +2,34 @@
 use Prim.Native.Nat.{ℕ, _≤_}
 use mathlib.Core.List.{List, [], _∷_, _++_, append-assoc}
 use mathlib.Core.Bool.{true}
-use mathlib.Core.Path.{_≡_, refl}
+use mathlib.Core.Path.{_≡_, refl, sym}
 use native.Mathlib.Omega.{arith}
-use lib.ListN.{set}
+use lib.ListN.{length, getD, set}
 use lib.Seq.{sets}
-use Rattle.digits.specs.Text.{oneOf}
+use borrow.Author.Tests.{eqb-true}
 use Rattle.digits.specs.Digits.{digits}
 use Rattle.digits.proofs.Writing.{sets-append, length-digits}
 use Rattle.times.specs.Clock.{clock}
-use Rattle.frames.specs.Rules.{between, upTo, isRequester, isOutput}
-use Rattle.frames.specs.Layout.{Sound, end-sound, values, write}
-use Rattle.frames.specs.Demand2.{Faithful}
-use Rattle.frames.specs.Inside.{held}
-use Rattle.frames.specs.Dynamic.{isOrder, isChannel, leastPeriod, dynamicFields, dynamic}
+use Rattle.frames.specs.declared.dynamic.DynamicRequest.{DynamicRequest}
+use Rattle.frames.specs.Rules.{between, upTo, space, isAddress}
+use Rattle.frames.specs.Layout.{recordWrong, write}
+use Rattle.frames.specs.Kind.{letterR, CR, wrongIn, frameOf}
+use Rattle.frames.specs.Faithful.{Faithful}
+use Rattle.frames.specs.Dynamic.{isDynamicChannel, leastPeriod, dynamicFields, dynamic}
+use Rattle.frames.specs.inside.Held.{dynamicAt}
 use Rattle.frames.proofs.RuleLaws.{up-to, in-range, none-in-range, or-one, to-240}
-use Rattle.frames.proofs.LayoutLaws.{NoneRefused, none-field, none-end, byte-sound, number-sound, clock-sound}
-use Rattle.frames.proofs.KindLaws.{Plain, plain-faithful}
+use Rattle.frames.proofs.LayoutLaws.{Sound, end-sound, byte-sound, number-sound, time-sound, Sees, sees-end}
+use Rattle.frames.proofs.SeesLaws.{sees-byte, sees-number, sees-time}
+use Rattle.frames.proofs.KindLaws.{SoundKind, faithful, length-frame, sees-address}
 
-channel-bound : (v : ℕ) → isChannel v ≡ true → v ≤ 255
-unfolding isChannel
+channel-bound : (v : ℕ) → isDynamicChannel v ≡ true → v ≤ 255
+unfolding isDynamicChannel
 channel-bound v = or-one v _ 255 tt (or-one v _ 255 tt (to-240 v))
 
-sound : Sound dynamicFields 42
+sound : Sound (λ _. Unit {0}) dynamicFields (λ _. Unit {0}) (Unit {0}) 43
 unfolding dynamicFields
 sound =
+    byte-sound tt λ address own.
     byte-sound tt λ _ _.
     byte-sound tt λ order _.
     number-sound 5 _ tt (up-to _) λ _ _.
@@ -35,51 +39,63 @@ sound =
     number-sound 3 255 tt channel-bound λ _ _.
     number-sound 3 _ tt (up-to _) λ _ _.
     number-sound 1 _ tt (up-to _) λ _ _.
-    clock-sound tt λ _ _.
+    time-sound tt λ _ _.
     number-sound 1 _ tt (up-to _) λ _ _.
     number-sound 5 99999 tt (in-range (leastPeriod order) 99999) λ _ _.
     byte-sound tt λ _ _.
-    end-sound (omega arith)
+    end-sound ((((((((((((((tt, sym (eqb-true address space own)), refl), refl), refl), refl), refl), refl), refl), refl), refl), refl), refl), refl), refl)
+    (λ _. tt)
+    (λ r _ h i. record {
+      requester = sym (h .0 .0 .0 .0 .0 .0 .0 .0 .0 .0 .0 .0 .1) i;
+      order = sym (h .0 .0 .0 .0 .0 .0 .0 .0 .0 .0 .0 .1) i;
+      bib = sym (h .0 .0 .0 .0 .0 .0 .0 .0 .0 .0 .1) i;
+      channel = sym (h .0 .0 .0 .0 .0 .0 .0 .0 .0 .1) i;
+      run = sym (h .0 .0 .0 .0 .0 .0 .0 .0 .1) i;
+      «stop_bib» = sym (h .0 .0 .0 .0 .0 .0 .0 .1) i;
+      «stop_channel» = sym (h .0 .0 .0 .0 .0 .0 .1) i;
+      «stop_run» = sym (h .0 .0 .0 .0 .0 .1) i;
+      sign = sym (h .0 .0 .0 .0 .1) i;
+      time = sym (h .0 .0 .0 .1) i;
+      days = sym (h .0 .0 .1) i;
+      period = sym (h .0 .1) i;
+      output = sym (h .1) i;
+    })
 
-none-refused : NoneRefused dynamicFields
-unfolding dynamicFields isRequester isOrder between upTo isChannel isOutput oneOf
-none-refused =
-    none-field refl λ _ _.
-    none-field refl λ order _.
-    none-field refl λ _ _.
-    none-field refl λ _ _.
-    none-field refl λ _ _.
-    none-field refl λ _ _.
-    none-field refl λ _ _.
-    none-field refl λ _ _.
-    none-field refl λ _ _.
-    none-field refl λ _ _.
-    none-field refl λ _ _.
-    none-field (none-in-range (leastPeriod order) 99999 (omega arith)) λ _ _.
-    none-field refl λ _ _.
-    none-end
-
-pub dynamic-plain : Plain dynamic
-unfolding dynamicFields values held
-dynamic-plain = record {
-  bytes = 42;
-  sound = sound;
-  size = refl;
-  some = omega arith;
-  none = none-refused;
-  back = λ r. refl;
-  again = λ s. refl;
-  holding = λ s. refl;
-}
+dynamic-sound : SoundKind dynamic (λ _. Unit {0})
+unfolding dynamicFields frameOf write
+dynamic-sound = record { bytes = 43; sound = sound; size = refl; some = omega arith; address = λ r e. refl }
 
 -- what is demanded of reading and writing holds of the dynamic request
 pub dynamic-faithful : Faithful dynamic (λ _. Unit {0})
-dynamic-faithful = plain-faithful dynamic-plain
+dynamic-faithful = faithful dynamic-sound
 
--- the stores of thirteen values, one after the other, are one run
-pub stores-frame : (a b c d e f g h i j k m n : ℕ) (l : List ℕ) →
-    set (set (sets (sets (sets (sets (sets (sets (sets (sets (sets (sets (set (set (sets l 0 (19 ∷ 82 ∷ 32 ∷ [])) 3 a) 4 b) 5 (digits 5 c)) 10 (digits 3 d)) 13 (digits 3 e))
-    16 (digits 5 f)) 21 (digits 3 g)) 24 (digits 3 h)) 27 (digits 1 i)) 28 (clock .put j)) 38 (digits 1 k)) 39 (digits 5 m)) 44 n) 45 13
-    ≡ sets l 0 (19 ∷ 82 ∷ 32 ∷ (write dynamicFields (a ∷ b ∷ c ∷ d ∷ e ∷ f ∷ g ∷ h ∷ i ∷ j ∷ k ∷ m ∷ n ∷ []) ++ (13 ∷ [])))
-unfolding dynamicFields write
-stores-frame a b c d e f g h i j k m n l = simp (append-assoc, sets-append, length-digits)
+pub length-dynamic : (r : DynamicRequest) → wrongIn dynamic r ≡ 0 → length (frameOf dynamic r) ≡ 46
+length-dynamic r = length-frame dynamic-sound r
+
+-- what the code sees of a frame
+pub sees-dynamic : (s : List ℕ) → isAddress (getD s 2 0) ≡ true → Sees dynamicFields 2 s (wrongIn dynamic (dynamicAt s)) (dynamicAt s)
+unfolding dynamicFields wrongIn recordWrong upTo between isDynamicChannel
+sees-dynamic s =
+    sees-address
+    (sees-byte tt λ _.
+    sees-byte tt λ _.
+    sees-number 5 tt refl λ _.
+    sees-number 3 tt refl λ _.
+    sees-number 3 tt refl λ _.
+    sees-number 5 tt refl λ _.
+    sees-number 3 tt refl λ _.
+    sees-number 3 tt refl λ _.
+    sees-number 1 tt refl λ _.
+    sees-time tt λ _.
+    sees-number 1 tt refl λ _.
+    sees-number 5 tt (none-in-range (leastPeriod (getD s 4 0)) 99999 (omega arith)) λ _.
+    sees-byte tt λ _.
+    sees-end refl)
+
+-- the stores of a record, one after the other, are one run
+pub stores-frame : (r : DynamicRequest) (l : List ℕ) →
+    set (set (sets (sets (sets (sets (sets (sets (sets (sets (sets (sets (set (set (sets l 0 (19 ∷ letterR ∷ space ∷ [])) 3 (r .requester)) 4 (r .order)) 5 (digits 5 (r .bib))) 10 (digits 3 (r .channel))) 13 (digits 3 (r .run)))
+    16 (digits 5 (r .«stop_bib»))) 21 (digits 3 (r .«stop_channel»))) 24 (digits 3 (r .«stop_run»))) 27 (digits 1 (r .sign))) 28 (clock .put (r .time))) 38 (digits 1 (r .days))) 39 (digits 5 (r .period))) 44 (r .output)) 45 CR
+    ≡ sets l 0 (frameOf dynamic r)
+unfolding dynamicFields write frameOf
+stores-frame r l = simp (append-assoc, sets-append, length-digits)

@@ -1,19 +1,18 @@
 -- What is tried before the fields, and what is tried before a frame is written, test by test. Assumes nothing.
 use Prim.Native.Nat.{ℕ, _-_, _≤_, _<_}
 use mathlib.Core.List.{List, [], _∷_}
-use mathlib.Core.Bool.{Bool, true, false, not, _&&_}
-use mathlib.Core.Path.{_≡_, refl, sym, ap}
+use mathlib.Core.Bool.{Bool, true, false, _&&_}
+use mathlib.Core.Path.{_≡_, refl, sym}
 use native.Mathlib.Omega.{arith}
 use lib.Dec.{eqb}
 use lib.ListN.{length, getD}
 use borrow.Author.Tests.{eq-eqb, ne-eqb, le-leb, lt-leb}
 use Rattle.digits.specs.declared.refusal.Refusal.{Refusal}
-use Rattle.digits.specs.Refusals.{KIND, LENGTH, END, ADDRESS, FIELD, RECORD, ROOM}
+use Rattle.digits.specs.Refusals.{KIND, LENGTH, END, ADDRESS, RECORD, ROOM}
 use Rattle.digits.specs.Told.{Told, gives, refuses, tried, Sure}
 use Rattle.digits.proofs.Sure.{sure-refuses, sure-gives, sure-tried}
-use Rattle.frames.specs.Rules.{isAddress}
-use Rattle.frames.specs.Layout.{firstWrong, values}
-use Rattle.frames.specs.Kind.{Kind, leadIs, letterR, CR, headTold, andThen, read, writeTried}
+use Rattle.frames.specs.Rules.{space, isAddress}
+use Rattle.frames.specs.Kind.{leadIs, letterR, CR, headTold, andThen, writeTried}
 
 -- ---- answers that gave something
 
@@ -28,11 +27,11 @@ module _ {A : Type 0} where
 
 -- ---- refusals have a number
 
-sure-then : {A : Type 0} (t : Told (Unit {0})) (rest : Told A) → Sure t → Sure rest → Sure (andThen t rest)
+pub sure-then : {A : Type 0} (t : Told (Unit {0})) (rest : Told A) → Sure t → Sure rest → Sure (andThen t rest)
 sure-then (gives x) rest s s′ = s′
 sure-then (refuses f) rest s s′ = sure-refuses f (s f refl)
 
-sure-head : (lead size : ℕ) (s : List ℕ) → Sure (headTold lead size s)
+pub sure-head : (lead size : ℕ) (s : List ℕ) → Sure (headTold lead size s)
 unfolding headTold
 sure-head lead size s =
     sure-tried (leadIs lead s) KIND _ (λ _. refl)
@@ -40,12 +39,6 @@ sure-head lead size s =
     (sure-tried (eqb (getD s (size - 1) 0) CR) END _ (λ _. refl)
     (sure-tried (eqb (getD s 1 0) letterR && isAddress (getD s 2 0)) ADDRESS _ (λ _. refl)
     (sure-gives tt))))
-
-pub sure-read : {R : Type 0} (k : Kind R) (s : List ℕ) → Sure (read k s)
-unfolding read
-sure-read k s =
-    let wrong = firstWrong (k .fields) 3 s in
-    sure-then (headTold (k .lead) (k .size) s) _ (sure-head (k .lead) (k .size) s) (sure-tried (eqb wrong 0) (FIELD wrong) _ (λ e. ap not e) (sure-gives (k .ofValues (values (k .fields) 3 s))))
 
 -- ---- the head of a frame
 
@@ -76,15 +69,15 @@ module _ (lead size : ℕ) (s : List ℕ) (some : 0 < lead) where
             rw (lead-at lead s some, eq-eqb (getD s 0 0) lead kind, eq-eqb (length s) size long, eq-eqb (getD s (size - 1) 0) CR ended, ne-eqb (getD s 1 0) letterR a)
 
         module _ (letter : getD s 1 0 ≡ letterR) where
-          pub head-address : (getD s 2 0 ≡ 32 → ⊥) → refuses ADDRESS ≡ headTold lead size s
+          pub head-address : (getD s 2 0 ≡ space → ⊥) → refuses ADDRESS ≡ headTold lead size s
           unfolding headTold
           head-address a =
-              rw (lead-at lead s some, eq-eqb (getD s 0 0) lead kind, eq-eqb (length s) size long, eq-eqb (getD s (size - 1) 0) CR ended, eq-eqb (getD s 1 0) letterR letter, ne-eqb (getD s 2 0) 32 a)
+              rw (lead-at lead s some, eq-eqb (getD s 0 0) lead kind, eq-eqb (length s) size long, eq-eqb (getD s (size - 1) 0) CR ended, eq-eqb (getD s 1 0) letterR letter, ne-eqb (getD s 2 0) space a)
 
-          pub head-good : getD s 2 0 ≡ 32 → gives tt ≡ headTold lead size s
+          pub head-good : isAddress (getD s 2 0) ≡ true → gives tt ≡ headTold lead size s
           unfolding headTold
           head-good a =
-              rw (lead-at lead s some, eq-eqb (getD s 0 0) lead kind, eq-eqb (length s) size long, eq-eqb (getD s (size - 1) 0) CR ended, eq-eqb (getD s 1 0) letterR letter, eq-eqb (getD s 2 0) 32 a)
+              rw (lead-at lead s some, eq-eqb (getD s 0 0) lead kind, eq-eqb (length s) size long, eq-eqb (getD s (size - 1) 0) CR ended, eq-eqb (getD s 1 0) letterR letter, a)
 
 -- ---- the tests of writing
 

@@ -17,10 +17,9 @@ use Rattle.frames.specs.Reply.{reply}
 use Rattle.frames.specs.Dynamic.{dynamic}
 use Rattle.frames.specs.Keeps.{Keeps, WritersKeep}
 use Rattle.frames.proofs.HeadLaws.{tried-gives}
-use Rattle.frames.proofs.KindLaws.{plain-length}
-use Rattle.frames.proofs.RequestLaws.{request-plain}
+use Rattle.frames.proofs.RequestLaws.{length-request}
 use Rattle.frames.proofs.ReplyLaws.{length-reply}
-use Rattle.frames.proofs.DynamicLaws.{dynamic-plain}
+use Rattle.frames.proofs.DynamicLaws.{length-dynamic}
 
 module _ {R : Type 0} (k : Kind R) (long : (r : R) → wrongIn k r ≡ 0 → length (frameOf k r) ≡ k .size) where
   left : (r : R) (out out′ : List ℕ) (a : WriteAnswer) → Wrote k r out a out′ → (f : Refusal) → writeTold a ≡ refuses f → out′ ≡ out
@@ -44,4 +43,4 @@ module _ {R : Type 0} (k : Kind R) (long : (r : R) → wrongIn k r ≡ 0 → len
   keeps = record { refused = left; written = only-frame }
 
 pub writers-keep : WritersKeep
-writers-keep = (keeps request (plain-length request-plain), keeps reply length-reply, keeps dynamic (plain-length dynamic-plain))
+writers-keep = (keeps request length-request, keeps reply length-reply, keeps dynamic length-dynamic)

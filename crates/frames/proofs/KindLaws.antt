@@ -2,7 +2,7 @@
 use Prim.Native.Nat.{ℕ, suc, _+_, _-_, _≤_, _<_}
 use mathlib.Core.List.{List, [], _∷_, _++_}
 use mathlib.Core.Bool.{Bool, true, false, _&&_, and-eq-true-iff}
-use mathlib.Core.Path.{_≡_, refl, sym, ap, _∙_}
+use mathlib.Core.Path.{_≡_, refl, sym, ap, subst, _∙_}
 use native.Mathlib.Omega.{arith}
 use native.Mathlib.Nat.{zero-add}
 use lib.Dec.{eqb, leb}
@@ -13,7 +13,7 @@ use Rattle.digits.specs.declared.refusal.Refusal.{Refusal}
 use Rattle.digits.specs.Refusals.{FIELD}
 use Rattle.digits.specs.Told.{Told, gives, refuses, tried}
 use Rattle.frames.specs.declared.refusals.ReadRefusal.{ReadRefusal}
-use Rattle.frames.specs.declared.refusals.ReadRefusal.the-variants.{Kind as kind, Length, End, Address, Field}
+use Rattle.frames.specs.declared.refusals.ReadRefusal.the-variants.{Kind as kind}
 use Rattle.frames.specs.declared.refusals.ReadVerdict.{ReadVerdict}
 use Rattle.frames.specs.declared.refusals.ReadVerdict.the-variants.{Read, Refused as turned}
 use Rattle.frames.specs.declared.refusals.WriteRefusal.{WriteRefusal}
@@ -21,12 +21,13 @@ use Rattle.frames.specs.declared.refusals.WriteRefusal.the-variants.{Rec
 use Rattle.frames.specs.declared.refusals.WriteAnswer.{WriteAnswer}
 use Rattle.frames.specs.declared.refusals.WriteAnswer.the-variants.{Written, Refused}
 use Rattle.frames.specs.Refusals.{readRefused, verdictTold, writeTold}
-use Rattle.frames.specs.Layout.{firstWrong, values, recordWrong, write, Sound}
+use Rattle.frames.specs.Rules.{isAddress}
+use Rattle.frames.specs.Shape.{byte}
+use Rattle.frames.specs.Layout.{Layout, field, wrongUnless, fieldsOf, write}
 use Rattle.frames.specs.Kind.{Kind, leadIs, letterR, CR, headTold, andThen, read, wrongIn, frameOf, writeTried, Wrote}
-use Rattle.frames.specs.Demand2.{Faithful}
-use Rattle.frames.specs.Inside.{held}
+use Rattle.frames.specs.Faithful.{Faithful}
 use Rattle.frames.proofs.HeadLaws.{tried-gives, then-gives, head-good, write-done}
-use Rattle.frames.proofs.LayoutLaws.{written-reads, length-write, reads-write, NoneRefused, as-held}
+use Rattle.frames.proofs.LayoutLaws.{Sound, written-reads, length-write, reads-write, Sees, sees-field, seen-is}
 
 -- ---- the head of an accepted frame
 
@@ -35,7 +36,7 @@ record Passed (lead size : ℕ) (s : List ℕ) : Type 0 where
   long : length s ≡ size
   last : getD s (size - 1) 0 ≡ CR
   letter : getD s 1 0 ≡ letterR
-  address : getD s 2 0 ≡ 32
+  address : isAddress (getD s 2 0) ≡ true
 
 lead-is : (lead : ℕ) (s : List ℕ) → leadIs lead s ≡ true → getD s 0 0 ≡ lead
 lead-is lead [] e = absurd (let z : _≡_ {A = ℕ} 0 1 = cc in omega arith)
@@ -47,55 +48,52 @@ passed lead size s e =
     let a = tried-gives (leadIs lead s) _ _ _ e in
     let b = tried-gives (eqb (length s) size) _ _ _ (a .1) in
     let c = tried-gives (eqb (getD s (size - 1) 0) CR) _ _ _ (b .1) in
-    let d = tried-gives (eqb (getD s 1 0) letterR && eqb (getD s 2 0) 32) _ _ _ (c .1) in
-    let f = and-eq-true-iff (eqb (getD s 1 0) letterR) (eqb (getD s 2 0) 32) .0 (d .0) in
-    record { first = lead-is lead s (a .0); long = eqb-true _ _ (b .0); last = eqb-true _ _ (c .0); letter = eqb-true _ _ (f .0); address = eqb-true _ _ (f .1) }
+    let d = tried-gives (eqb (getD s 1 0) letterR && isAddress (getD s 2 0)) _ _ _ (c .1) in
+    let f = and-eq-true-iff (eqb (getD s 1 0) letterR) (isAddress (getD s 2 0)) .0 (d .0) in
+    record { first = lead-is lead s (a .0); long = eqb-true _ _ (b .0); last = eqb-true _ _ (c .0); letter = eqb-true _ _ (f .0); address = f .1 }
 
 with-last : (t : List ℕ) (n x : ℕ) → length t ≡ n + 1 → getD t n 0 ≡ x → take n t ++ (x ∷ []) ≡ t
 with-last t n x h e = rw (← e, ← take-suc t n 0 (omega arith)) (take-all (suc n) t (omega arith))
 
 -- a frame is its marks and what stands between them
-whole-frame : (lead n : ℕ) (s : List ℕ) → Passed lead (n + 4) s → lead ∷ letterR ∷ 32 ∷ (take n (drop 3 s) ++ (CR ∷ [])) ≡ s
+whole-frame : (lead n : ℕ) (s : List ℕ) → Passed lead (n + 3) s → lead ∷ letterR ∷ (take n (drop 2 s) ++ (CR ∷ [])) ≡ s
 whole-frame lead n [] p = absurd (let h = p .long in omega arith)
 whole-frame lead n (x ∷ []) p = absurd (let h = p .long in omega arith)
-whole-frame lead n (x ∷ y ∷ []) p = absurd (let h = p .long in omega arith)
-whole-frame lead n (x ∷ y ∷ z ∷ t) p =
+whole-frame lead n (x ∷ y ∷ t) p =
     let h = p .long in
-    let i : n + 4 - 1 ≡ suc (suc (suc n)) = omega arith in
-    let e : getD (x ∷ y ∷ z ∷ t) (suc (suc (suc n))) 0 ≡ CR = rw i at (p .last) in
-    rw (with-last t n CR (omega arith) e, ← p .first, ← p .letter, ← p .address)
+    let i : n + 3 - 1 ≡ suc (suc n) = omega arith in
+    let e : getD (x ∷ y ∷ t) (suc (suc n)) 0 ≡ CR = rw i at (p .last) in
+    rw (with-last t n CR (omega arith) e, ← p .first, ← p .letter)
 
--- ---- a kind whose layout is sound, and whose records are the values of its fields
+-- ---- a kind whose layout is sound
 
-pub record SoundKind {R : Type 0} (k : Kind R) (Whole : R → Type 0) : Type 0 where
+pub record SoundKind {R : Type 0} (k : Kind R) (Whole : R → Type 0) : Type 1 where
   pub bytes : ℕ
-  pub sound : Sound (k .fields) bytes
-  pub size : k .size ≡ bytes + 4
+  pub sound : Sound Whole (k .fields) (λ _. Unit {0}) (Unit {0}) bytes
+  pub size : k .size ≡ bytes + 3
   pub some : 0 < k .lead
-  pub back : (r : R) → Whole r → wrongIn k r ≡ 0 → k .ofValues (k .valuesOf r) ≡ r
-  pub whole : (s : List ℕ) → Whole (k .ofValues (values (k .fields) 3 s))
-  pub again : (s : List ℕ) → firstWrong (k .fields) 3 s ≡ 0 → k .valuesOf (k .ofValues (values (k .fields) 3 s)) ≡ values (k .fields) 3 s
+  -- the first byte that is written is an address
+  pub address : (r : R) → wrongIn k r ≡ 0 → isAddress (getD (frameOf k r) 2 0) ≡ true
 
 module _ {R : Type 0} {k : Kind R} {Whole : R → Type 0} (g : SoundKind k Whole) where
   pub length-frame : (r : R) → wrongIn k r ≡ 0 → length (frameOf k r) ≡ k .size
   unfolding wrongIn frameOf
   length-frame r e =
-      size-of (omega (arith, length-append (write (k .fields) (k .valuesOf r)) (CR ∷ []), length-write (g .sound) (k .valuesOf r) e))
+      size-of (omega (arith, length-append (write (k .fields) r) (CR ∷ []), length-write (g .sound) r e))
     where
-      size-of : {m : ℕ} → m ≡ g .bytes + 4 → m ≡ k .size
+      size-of : {m : ℕ} → m ≡ g .bytes + 3 → m ≡ k .size
       size-of q = q ∙ sym (g .size)
 
   -- a well formed record's frame is read as that record
   pub frame-back : (r : R) → Whole r → wrongIn k r ≡ 0 → read k (frameOf k r) ≡ gives r
   unfolding read wrongIn frameOf
   frame-back r w e =
-      let vs = k .valuesOf r in
       let s = frameOf k r in
-      let q = written-reads (g .sound) vs (k .lead ∷ letterR ∷ 32 ∷ []) (CR ∷ []) s 3 e refl refl in
-      let l = length-write (g .sound) vs e in
+      let q : fieldsOf (k .fields) 2 s ≡ gives r = written-reads (g .sound) r w tt (k .lead ∷ letterR ∷ []) (CR ∷ []) s 2 e refl refl in
+      let l = length-write (g .sound) r e in
       let long : length s ≡ k .size = length-frame r e in
-      let last : getD s (k .size - 1) 0 ≡ CR = getD-at (k .lead ∷ letterR ∷ 32 ∷ write (k .fields) vs) CR [] 0 (k .size - 1) (omega (arith, g .size)) in
-      rw (← head-good (k .lead) (k .size) s (g .some) refl long last refl refl, q .wrong, q .same, g .back r w e)
+      let last : getD s (k .size - 1) 0 ≡ CR = getD-at (k .lead ∷ letterR ∷ write (k .fields) r) CR [] 0 (k .size - 1) (omega (arith, g .size)) in
+      rw (← head-good (k .lead) (k .size) s (g .some) refl long last refl (g .address r e)) q
 
   -- an accepted frame is that of a well formed record, which is whole
   pub record Own (s : List ℕ) (r : R) : Type 0 where
@@ -107,16 +105,9 @@ module _ {R : Type 0} {k : Kind R} {Whole : R → Type 0} (g : SoundKind k Whole
   unfolding read wrongIn frameOf
   frame-again s r e =
       let h = then-gives (headTold (k .lead) (k .size) s) _ r e in
-      let f = tried-gives (eqb (firstWrong (k .fields) 3 s) 0) _ _ r (h .1) in
-      let is : k .ofValues (values (k .fields) 3 s) ≡ r = let g = f .1 in cc in
-      let p : Passed (k .lead) (g .bytes + 4) s = rw (g .size) at (passed (k .lead) (k .size) s (h .0)) in
-      let z = eqb-true (firstWrong (k .fields) 3 s) 0 (f .0) in
-      let w = reads-write (g .sound) 3 s (let l = p .long in omega arith) z in
-      record {
-        has = rw (← is) (g .whole s);
-        fine = rw (← is, g .again s z) (w .fine);
-        bytes = rw (← is, g .again s z, w .text) (whole-frame (k .lead) (g .bytes) s p);
-      }
+      let p : Passed (k .lead) (g .bytes + 3) s = rw (g .size) at (passed (k .lead) (k .size) s (h .0)) in
+      let w = reads-write (g .sound) tt 2 s r (let l = p .long in omega arith) (h .1) in
+      record { has = w .whole; fine = w .fine; bytes = rw (w .text) (whole-frame (k .lead) (g .bytes) s p) }
 
   room-enough : (r : R) → wrongIn k r ≡ 0 → (out : List ℕ) → k .size ≤ length out → gives tt ≡ writeTried (wrongIn k r) (k .size) (length out)
   room-enough r e out h = write-done (wrongIn k r) (k .size) (length out) e h
@@ -140,51 +131,26 @@ module _ {R : Type 0} {k : Kind R} {Whole : R → Type 0} (g : SoundKind k Whole
     );
   }
 
-  -- ---- `read`, from the head and from the values that the code holds: their first wrong field, and the record where there is none
+-- ---- `read`, from the head and from what the code sees of the fields
 
-  module _ (none : NoneRefused (k .fields)) (s : List ℕ) (w : ℕ) (r : R)
-      (wrong : w ≡ recordWrong (k .fields) (held (k .fields) 3 s)) (is : w ≡ 0 → r ≡ k .ofValues (held (k .fields) 3 s)) where
-    fields-told : tried (eqb w 0) (FIELD w) (gives r) ≡ tried (eqb (firstWrong (k .fields) 3 s) 0) (FIELD (firstWrong (k .fields) 3 s)) (gives (k .ofValues (values (k .fields) 3 s)))
-    fields-told = let a = as-held (g .sound) 3 s none in rw (a .wrong, ← wrong) (by-wrong (eqb w 0) refl)
-      where
-        by-wrong : (t : Bool) → eqb w 0 ≡ t → tried t (FIELD w) (gives r) ≡ tried t (FIELD w) (gives (k .ofValues (values (k .fields) 3 s)))
-        by-wrong true q =
-            let a = as-held (g .sound) 3 s none in
-            let z = eqb-true w 0 q in
-            rw (is z, a .same (a .wrong ∙ sym wrong ∙ z))
-        by-wrong false q = refl
+-- what is seen from the byte after the address on, where the head is good
+pub sees-address : {R : Type 0} {part : R → ℕ} {next : ℕ → Layout R} {s : List ℕ} {w : ℕ} {r : R}
+    → Sees (next (getD s 2 0)) 3 s w r → isAddress (getD s 2 0) ≡ true → Sees (field 2 byte isAddress part next) 2 s w r
+sees-address {R} {part} {next} {s} {w} {r} rest good =
+    subst (λ (t : Bool). Sees (field 2 byte isAddress part next) 2 s (wrongUnless t 2 w) r) good (sees-field (getD s 2 0) tt refl (λ _. rest))
 
-    pub read-fields : (h : ReadVerdict) (t : Told R) → h ≡ Read → verdictTold h ≡ headTold (k .lead) (k .size) s → t ≡ tried (eqb w 0) (FIELD w) (gives r) → t ≡ read k s
-    unfolding read
-    read-fields h t q e f = rw (← e, q) (f ∙ fields-told)
+pub read-fields : {R : Type 0} (k : Kind R) (s : List ℕ) (w : ℕ) (r : R) → (isAddress (getD s 2 0) ≡ true → Sees (k .fields) 2 s w r)
+    → (h : ReadVerdict) (t : Told R) → h ≡ Read → verdictTold h ≡ headTold (k .lead) (k .size) s → t ≡ tried (eqb w 0) (FIELD w) (gives r) → t ≡ read k s
+unfolding read
+read-fields k s w r sees h t q e f =
+    let good : gives tt ≡ headTold (k .lead) (k .size) s = rw q at e in
+    rw (← good) (f ∙ sym (seen-is (sees (passed (k .lead) (k .size) s (sym good) .address))))
 
--- ---- a kind whose records hold no array: the values of its fields, held or read, are one record's
-
-pub record Plain {R : Type 0} (k : Kind R) : Type 0 where
-  pub bytes : ℕ
-  pub sound : Sound (k .fields) bytes
-  pub size : k .size ≡ bytes + 4
-  pub some : 0 < k .lead
-  pub none : NoneRefused (k .fields)
-  pub back : (r : R) → k .ofValues (k .valuesOf r) ≡ r
-  pub again : (s : List ℕ) → k .valuesOf (k .ofValues (values (k .fields) 3 s)) ≡ values (k .fields) 3 s
-  pub holding : (s : List ℕ) → k .valuesOf (k .ofValues (held (k .fields) 3 s)) ≡ held (k .fields) 3 s
-
-module _ {R : Type 0} {k : Kind R} (g : Plain k) where
-  plain-sound : SoundKind k (λ _. Unit {0})
-  plain-sound = record { bytes = g .bytes; sound = g .sound; size = g .size; some = g .some; back = λ r w e. g .back r; whole = λ s. tt; again = λ s e. g .again s }
-
-  -- what is demanded of reading and writing, of such a kind
-  pub plain-faithful : Faithful k (λ _. Unit {0})
-  plain-faithful = faithful plain-sound
-
-  pub plain-length : (r : R) → wrongIn k r ≡ 0 → length (frameOf k r) ≡ k .size
-  plain-length = length-frame plain-sound
-
-  pub plain-read : (s : List ℕ) (r : R) → r ≡ k .ofValues (held (k .fields) 3 s) → (h : ReadVerdict) (t : Told R) → h ≡ Read → verdictTold h ≡ headTold (k .lead) (k .size) s
+-- for a kind whose fields the code holds as one record
+module _ {R : Type 0} (k : Kind R) (at : List ℕ → R) (sees : (s : List ℕ) → isAddress (getD s 2 0) ≡ true → Sees (k .fields) 2 s (wrongIn k (at s)) (at s)) where
+  pub read-record : (s : List ℕ) (r : R) → r ≡ at s → (h : ReadVerdict) (t : Told R) → h ≡ Read → verdictTold h ≡ headTold (k .lead) (k .size) s
       → t ≡ tried (eqb (wrongIn k r) 0) (FIELD (wrongIn k r)) (gives r) → t ≡ read k s
-  unfolding wrongIn
-  plain-read s r is = read-fields plain-sound (g .none) s (wrongIn k r) r (ap (recordWrong (k .fields)) (ap (k .valuesOf) is ∙ g .holding s)) (λ z. is)
+  read-record s r e h t q f g = read-fields k s (wrongIn k (at s)) (at s) (sees s) h t q f (rw e at g)
 
 pub read-head : {R : Type 0} (k : Kind R) (s : List ℕ) (h : ReadVerdict) (f : ReadRefusal) → h ≡ turned f → verdictTold h ≡ headTold (k .lead) (k .size) s → refuses (readRefused f) ≡ read k s
 unfolding read

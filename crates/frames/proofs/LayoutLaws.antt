@@ -1,169 +1,225 @@
--- The fields, once over every sound layout: what is written is read, what is read was written so, and a frame's wrong field is that of the values that the code holds. Assumes nothing.
+-- The fields, once over every sound layout: what is written is read, what is read was written so, and what the code sees is what is read. Assumes nothing.
 use Prim.Native.Nat.{ℕ, zero, suc, _+_, _-_, _^_, _≤_, _<_}
 use mathlib.Core.List.{List, [], _∷_, _++_, append-assoc}
-use mathlib.Core.Bool.{Bool, true, false, _&&_, and-eq-true-iff}
-use mathlib.Core.Path.{_≡_, refl, sym, ap, _∙_}
+use mathlib.Core.Bool.{Bool, true, false, _&&_}
+use mathlib.Core.Path.{_≡_, refl, sym, ap, subst, _∙_}
 use native.Mathlib.Omega.{arith}
 use lib.Dec.{T, eqb, leb, ltb, leb→le, ltb→lt}
-use borrow.Author.Tests.{eqb-true}
-use lib.ListN.{length, take, drop, replicate, length-append}
-use lib.Seq.{take-add, drop-drop}
-use Rattle.digits.specs.declared.Number.{Number}
-use Rattle.digits.specs.declared.Number.the-variants.{Is, Wrong}
-use Rattle.digits.specs.Form.{Form, byte, number}
-use Rattle.digits.proofs.Forms.{byte-lawful, number-lawful, number-back}
-use Rattle.times.specs.Clock.{clock, isTime}
+use borrow.Author.Tests.{ne-eqb}
+use lib.ListN.{length, take, drop, length-append}
+use Rattle.digits.specs.Refusals.{FIELD}
+use Rattle.digits.specs.Told.{Told, gives, refuses, tried}
+use Rattle.digits.proofs.Forms.{byte-lawful}
+use Rattle.digits.proofs.Sure.{not-refused}
+use Rattle.times.specs.Clock.{isTime}
 use Rattle.times.proofs.ClockLaws.{clock-inverse}
-use Rattle.frames.specs.Layout.{Mark, Layout, piece, end, holds, valueOf, unless, firstWrong, values, zeros, recordWrong, write, Sound, field-sound, end-sound}
-use Rattle.frames.specs.Inside.{held}
+use Rattle.frames.specs.Shape.{Value, is, none, Shape, byte, number, time, run}
+use Rattle.frames.specs.Layout.{Layout, field, suits, end, wrongUnless, taken, fieldsOf, recordWrong, write, within}
+use Rattle.frames.proofs.ShapeLaws.{Inverse, one-inverse, digits-inverse, run-inverse, join}
 
 -- ---- tests that came out well
 
-pub unless-none : (t : Bool) (at rest : ℕ) → 0 < at → unless t at rest ≡ 0 → (t ≡ true) × (rest ≡ 0)
+pub unless-none : (t : Bool) (at rest : ℕ) → 0 < at → wrongUnless t at rest ≡ 0 → (t ≡ true) × (rest ≡ 0)
 unless-none true at rest h e = (refl, e)
 unless-none false at rest h e = absurd (omega arith)
 
-record Kept (rule : ℕ → Bool) (x : Number) : Type 0 where
-  is : x ≡ Is (valueOf x)
-  good : rule (valueOf x) ≡ true
-
-kept : (rule : ℕ → Bool) (x : Number) → holds rule x ≡ true → Kept rule x
-kept rule (Is v) e = record { is = refl; good = e }
-kept rule Wrong e = absurd (let z : _≡_ {A = ℕ} 0 1 = cc in omega arith)
-
-both : (a b : Bool) → T (a && b) → T a × T b
+pub both : (a b : Bool) → T (a && b) → T a × T b
 both true b t = (tt, t)
 both false b t = absurd t
 
--- ---- the parts that are not used
+module _ {R A : Type 0} where
+  -- a field that was taken
+  record Kept (rule : A → Bool) (x : Value A) (rest : A → Told R) (r : R) : Type 0 where
+    of : A
+    there : x ≡ is of
+    good : rule of ≡ true
+    after : rest of ≡ gives r
 
-pub zeros-replicate : (n : ℕ) → zeros n (replicate n 0) ≡ true
-zeros-replicate zero = refl
-zeros-replicate (suc n) = zeros-replicate n
+  kept : (at : ℕ) (rule : A → Bool) (x : Value A) (rest : A → Told R) (r : R) → taken at rule x rest ≡ gives r → Kept rule x rest r
+  kept at rule (is v) rest r e = go (rule v) refl e
+    where
+      go : (t : Bool) → rule v ≡ t → tried t (FIELD at) (rest v) ≡ gives r → Kept rule (is v) rest r
+      go true q f = record { of = v; there = refl; good = q; after = f }
+      go false q f = absurd (not-refused r (FIELD at) (sym f))
+  kept at rule none rest r e = absurd (not-refused r (FIELD at) (sym e))
 
-zeros-are : (n : ℕ) (vs : List ℕ) → zeros n vs ≡ true → replicate n 0 ≡ vs
-zeros-are zero [] e = refl
-zeros-are zero (v ∷ vs) e = absurd (let z : _≡_ {A = ℕ} 0 1 = cc in omega arith)
-zeros-are (suc n) [] e = absurd (let z : _≡_ {A = ℕ} 0 1 = cc in omega arith)
-zeros-are (suc n) (v ∷ vs) e =
-    let q = and-eq-true-iff (eqb v 0) (zeros n vs) .0 e in
-    rw (eqb-true v 0 (q .0), zeros-are n vs (q .1))
+-- ---- what makes a layout sound over n bytes
 
--- ---- what is written is read
+-- P is what is known of a record whose parts hold the values met so far, F that these values fit, and W that a record is whole
+pub data Sound {R : Type 0} (W : R → Type 0) : Layout R → (R → Type 0) → Type 0 → ℕ → Type 1 where
+  -- an offset that is not 0, a shape that fits and that reads and writes what the rule takes, and after each such value a sound rest
+  field-sound : {A : Type 0} {at n : ℕ} {shape : Shape A} {rule : A → Bool} {part : R → A} {next : A → Layout R} {P : R → Type 0} {F : Type 0} {Fit : A → Type 0}
+      → 0 < at → shape .width ≤ n → Inverse shape rule Fit → ((r : R) → W r → Fit (part r))
+      → ((v : A) → rule v ≡ true → Sound W (next v) (λ r. P r × (part r ≡ v)) (F × Fit v) (n - shape .width))
+      → Sound W (field at shape rule part next) P F n
+  suits-sound : {at n : ℕ} {test : R → Bool} {rest : Layout R} {P : R → Type 0} {F : Type 0}
+      → 0 < at → Sound W rest (λ r. P r × (test r ≡ true)) F n → Sound W (suits at test rest) P F n
+  -- the record is the only whole one of which all this is known
+  end-sound : {q : R} {P : R → Type 0} {F : Type 0} → P q → (F → W q) → ((r : R) → W r → P r → q ≡ r) → Sound W (end q) P F 0
 
-pub record Reads (L : Layout) (p : ℕ) (s : List ℕ) (vs : List ℕ) : Type 0 where
-  pub wrong : firstWrong L p s ≡ 0
-  pub same : values L p s ≡ vs
+-- a record that was read from n bytes
+pub record Writes {R : Type 0} (W : R → Type 0) (L : Layout R) (P : R → Type 0) (p : ℕ) (s : List ℕ) (n : ℕ) (r : R) : Type 0 where
+  pub whole : W r
+  pub known : P r
+  pub fine : recordWrong L r ≡ 0
+  pub text : write L r ≡ take n (drop p s)
 
-pub written-reads : {L : Layout} {n : ℕ} → Sound L n → (vs pre post s : List ℕ) (p : ℕ) → recordWrong L vs ≡ 0 → s ≡ pre ++ write L vs ++ post → p ≡ length pre → Reads L p s vs
-unfolding firstWrong values write recordWrong
-written-reads (field-sound some fits inverse rest) [] pre post s p e is here = absurd (omega arith)
-written-reads (field-sound {mark} {at} {n} {form} {rule} {next} some fits inverse rest) (v ∷ vs) pre post s p e is here =
-    let q = unless-none (rule v) at (recordWrong (next v) vs) some e in
-    let is′ : s ≡ pre ++ form .put v ++ (write (next v) vs ++ post) = is ∙ simp append-assoc in
-    let got : form .got s p ≡ Is v = rw (is′, here) (inverse .lawful .local pre (form .put v) (write (next v) vs ++ post) (inverse .lawful .long v) ∙ inverse .back v (q .0)) in
-    let r = written-reads (rest v (q .0)) vs (pre ++ form .put v) post s (p + form .width) (q .1) (is ∙ simp append-assoc)
-    (rw (length-append, inverse .lawful .long v, here)) in
-    record { wrong = rw (got, q .0) (r .wrong); same = rw got (ap (λ (l : List ℕ). v ∷ l) (r .same)) }
-written-reads (end-sound {cr} {unused} some) vs pre post s p e is here =
-    record { wrong = refl; same = zeros-are unused vs (unless-none (zeros unused vs) cr 0 some e .0) }
+module _ {R : Type 0} {W : R → Type 0} where
+  -- ---- what is written is read
 
-pub length-write : {L : Layout} {n : ℕ} → Sound L n → (vs : List ℕ) → recordWrong L vs ≡ 0 → length (write L vs) ≡ n
-unfolding write recordWrong
-length-write (field-sound some fits inverse rest) [] e = absurd (omega arith)
-length-write (field-sound {mark} {at} {n} {form} {rule} {next} some fits inverse rest) (v ∷ vs) e =
-    let q = unless-none (rule v) at (recordWrong (next v) vs) some e in
-    let l = length-write (rest v (q .0)) vs (q .1) in
-    length-append (form .put v) (write (next v) vs) ∙ omega (arith, inverse .lawful .long v)
-length-write (end-sound some) vs e = refl
+  pub written-reads : {L : Layout R} {P : R → Type 0} {F : Type 0} {n : ℕ} → Sound W L P F n → (r : R) → W r → P r → (pre post s : List ℕ) (p : ℕ)
+      → recordWrong L r ≡ 0 → s ≡ pre ++ write L r ++ post → p ≡ length pre → fieldsOf L p s ≡ gives r
+  unfolding fieldsOf recordWrong write
+  written-reads (field-sound {A} {at} {n} {shape} {rule} {part} {next} some fits inverse fit rest) r whole known pre post s p e is-s here =
+      let v = part r in
+      let q = unless-none (rule v) at (recordWrong (next v) r) some e in
+      let s′ : s ≡ pre ++ shape .put v ++ (write (next v) r ++ post) = is-s ∙ simp append-assoc in
+      let got : shape .got s p ≡ is v =
+      rw (s′, here) (inverse .lawful .local pre (shape .put v) (write (next v) r ++ post) (inverse .lawful .long v) ∙ inverse .back v (q .0) (fit r whole)) in
+      let more = written-reads (rest v (q .0)) r whole (known, refl) (pre ++ shape .put v) post s (p + shape .width) (q .1) (is-s ∙ simp append-assoc)
+      (rw (length-append, inverse .lawful .long v, here)) in
+      rw (got, q .0) more
+  written-reads (suits-sound {at} {n} {test} {rest} some sound) r whole known pre post s p e is-s here =
+      let q = unless-none (test r) at (recordWrong rest r) some e in
+      written-reads sound r whole (known, q .0) pre post s p (q .1) is-s here
+  written-reads (end-sound own fits one) r whole known pre post s p e is-s here = ap gives (one r whole known)
 
--- ---- what is read was written so
+  pub length-write : {L : Layout R} {P : R → Type 0} {F : Type 0} {n : ℕ} → Sound W L P F n → (r : R) → recordWrong L r ≡ 0 → length (write L r) ≡ n
+  unfolding recordWrong write
+  length-write (field-sound {A} {at} {n} {shape} {rule} {part} {next} some fits inverse fit rest) r e =
+      let v = part r in
+      let q = unless-none (rule v) at (recordWrong (next v) r) some e in
+      let l = length-write (rest v (q .0)) r (q .1) in
+      length-append (shape .put v) (write (next v) r) ∙ omega (arith, inverse .lawful .long v)
+  length-write (suits-sound {at} {n} {test} {rest} some sound) r e =
+      let q = unless-none (test r) at (recordWrong rest r) some e in length-write sound r (q .1)
+  length-write (end-sound own fits one) r e = refl
 
-pub record Writes (L : Layout) (p : ℕ) (s : List ℕ) (n : ℕ) : Type 0 where
-  pub fine : recordWrong L (values L p s) ≡ 0
-  pub text : write L (values L p s) ≡ take n (drop p s)
+  -- ---- what is read was written so
 
-join : (n a p : ℕ) (s x y : List ℕ) → a ≤ n → take a (drop p s) ≡ x → take (n - a) (drop (p + a) s) ≡ y → x ++ y ≡ take n (drop p s)
-join n a p s x y h e q =
-    let split : n ≡ a + (n - a) = omega arith in
-    sym (ap (λ (m : ℕ). take m (drop p s)) split ∙ take-add a (n - a) (drop p s) ∙ rw (drop-drop a p s, e, q))
+  pub reads-write : {L : Layout R} {P : R → Type 0} {F : Type 0} {n : ℕ} → Sound W L P F n → F → (p : ℕ) (s : List ℕ) (r : R) → p + n ≤ length s → fieldsOf L p s ≡ gives r → Writes W L P p s n r
+  unfolding fieldsOf recordWrong write
+  reads-write (field-sound {A} {at} {n} {shape} {rule} {part} {next} some fits inverse fit rest) facts p s r h e =
+      let k = kept at rule (shape .got s p) (λ v. fieldsOf (next v) (p + shape .width) s) r e in
+      let w = reads-write (rest (k .of) (k .good)) (facts, inverse .fit s p (k .of) (k .there)) (p + shape .width) s r (omega arith) (k .after) in
+      let held = w .known .1 in
+      record {
+        whole = w .whole;
+        known = w .known .0;
+        fine = rw (held, k .good) (w .fine);
+        text = rw held (join n (shape .width) p s _ _ fits (inverse .lawful .again s p (k .of) (omega arith) (k .there)) (sym (w .text)));
+      }
+  reads-write (suits-sound {at} {n} {test} {rest} some sound) facts p s r h e =
+      let w = reads-write sound facts p s r h e in
+      record { whole = w .whole; known = w .known .0; fine = rw (w .known .1) (w .fine); text = w .text }
+  reads-write (end-sound {q} {P} own fits one) facts p s r h e =
+      let same : q ≡ r = let f : gives q ≡ gives r = e in cc in
+      record { whole = subst W same (fits facts); known = subst P same own; fine = refl; text = refl }
 
-pub reads-write : {L : Layout} {n : ℕ} → Sound L n → (p : ℕ) (s : List ℕ) → p + n ≤ length s → firstWrong L p s ≡ 0 → Writes L p s n
-unfolding firstWrong values write recordWrong
-reads-write (field-sound {mark} {at} {n} {form} {rule} {next} some fits inverse rest) p s h e =
-    let q = unless-none (holds rule (form .got s p)) at (firstWrong (next (valueOf (form .got s p))) (p + form .width) s) some e in
-    let g = kept rule (form .got s p) (q .0) in
-    let v = valueOf (form .got s p) in
-    let r = reads-write (rest v (g .good)) (p + form .width) s (omega arith) (q .1) in
-    record {
-      fine = rw (g .good) (r .fine);
-      text = join n (form .width) p s _ _ fits (inverse .lawful .again s p v (omega arith) (g .is)) (sym (r .text));
-    }
-reads-write (end-sound {cr} {unused} some) p s h e = record { fine = rw (zeros-replicate unused); text = refl }
+-- ---- a layout within a larger record
 
--- the values of a good frame are a good record's
-pub values-fine : {L : Layout} {n : ℕ} → Sound L n → (p : ℕ) (s : List ℕ) → firstWrong L p s ≡ 0 → recordWrong L (values L p s) ≡ 0
-unfolding firstWrong values recordWrong
-values-fine (field-sound {mark} {at} {n} {form} {rule} {next} some fits inverse rest) p s e =
-    let q = unless-none (holds rule (form .got s p)) at (firstWrong (next (valueOf (form .got s p))) (p + form .width) s) some e in
-    let g = kept rule (form .got s p) (q .0) in
-    rw (g .good) (values-fine (rest (valueOf (form .got s p)) (g .good)) (p + form .width) s (q .1))
-values-fine (end-sound {cr} {unused} some) p s e = rw (zeros-replicate unused)
+module _ {Q R : Type 0} (of : R → Q) (whole : Q → R) where
+  pub within-wrong : (L : Layout Q) (r : R) → recordWrong (within of whole L) r ≡ recordWrong L (of r)
+  unfolding recordWrong
+  within-wrong (field at shape rule part next) r = ap (wrongUnless (rule (part (of r))) at) (within-wrong (next (part (of r))) r)
+  within-wrong (suits at test rest) r = ap (wrongUnless (test (of r)) at) (within-wrong rest r)
+  within-wrong (end q) r = refl
 
--- ---- the values that the code holds: it checks a frame as it checks a record
+  pub within-write : (L : Layout Q) (r : R) → write (within of whole L) r ≡ write L (of r)
+  unfolding write
+  within-write (field at shape rule part next) r = ap (λ (t : List ℕ). shape .put (part (of r)) ++ t) (within-write (next (part (of r))) r)
+  within-write (suits at test rest) r = within-write rest r
+  within-write (end q) r = refl
 
--- no rule takes what stands for no number
-pub data NoneRefused : Layout → Type 0 where
-  none-field : {mark : Mark} {at : ℕ} {form : Form} {rule : ℕ → Bool} {next : ℕ → Layout}
-      → rule 4294967295 ≡ false → ((v : ℕ) → rule v ≡ true → NoneRefused (next v)) → NoneRefused (piece mark at form rule next)
-  none-end : {cr unused : ℕ} → NoneRefused (end cr unused)
+  module _ (W : Q → Type 0) (U : R → Type 0) (ofWhole : (q : Q) → of (whole q) ≡ q) (down : (r : R) → U r → W (of r)) (up : (q : Q) → W q → U (whole q)) where
+    pub within-sound : {L : Layout Q} {P : Q → Type 0} {F : Type 0} {n : ℕ} → Sound W L P F n → (O : R → Type 0) (G : Type 0) → (G → F)
+        → ((r : R) → O r → P (of r)) → ((q : Q) → P q → O (whole q)) → ((r : R) → O r → whole (of r) ≡ r) → Sound U (within of whole L) O G n
+    within-sound (field-sound {A} {at} {n} {shape} {rule} {part} {next} {P} {F} {Fit} some fits inverse fit rest) O G facts inner outer same =
+        field-sound some fits inverse (λ r u. fit (of r) (down r u))
+        (λ v good. within-sound (rest v good) (λ r. O r × (part (of r) ≡ v)) (G × Fit v) (λ g. (facts (g .0), g .1))
+        (λ r o. (inner r (o .0), o .1))
+        (λ q k. (outer q (k .0), ap part (ofWhole q) ∙ k .1))
+        (λ r o. same r (o .0)))
+    within-sound (suits-sound {at} {n} {test} {rest} some sound) O G facts inner outer same =
+        suits-sound some (within-sound sound (λ r. O r × (test (of r) ≡ true)) G facts
+        (λ r o. (inner r (o .0), o .1))
+        (λ q k. (outer q (k .0), ap test (ofWhole q) ∙ k .1))
+        (λ r o. same r (o .0)))
+    within-sound (end-sound {q} own fits one) O G facts inner outer same =
+        end-sound (outer q own) (λ g. up q (fits (facts g))) (λ r u o. ap whole (one (of r) (down r u) (inner r o)) ∙ same r o)
 
-pub record AsHeld (L : Layout) (p : ℕ) (s : List ℕ) : Type 0 where
-  pub wrong : firstWrong L p s ≡ recordWrong L (held L p s)
-  pub same : firstWrong L p s ≡ 0 → values L p s ≡ held L p s
+-- ---- what the code sees of a frame: a value for each field, and the offset of the first that is wrong
 
-pub as-held : {L : Layout} {n : ℕ} → Sound L n → (p : ℕ) (s : List ℕ) → NoneRefused L → AsHeld L p s
-unfolding firstWrong values recordWrong held
-as-held (field-sound {mark} {at} {n} {form} {rule} {next} some fits inverse rest) p s (none-field none later) =
-    by-number (λ v q. as-held (rest v q) (p + form .width) s (later v q)) (form .got s p) refl
-  where
-    by-rule : ((v : ℕ) → rule v ≡ true → AsHeld (next v) (p + form .width) s) → (v : ℕ) (t : Bool) → form .got s p ≡ Is v → rule v ≡ t → AsHeld (piece mark at form rule next) p s
-    by-rule more v true e q =
-        let a = more v q in
-        record { wrong = rw (e, q) (a .wrong); same = λ z. rw e (ap (λ (l : List ℕ). v ∷ l) (a .same (rw (e, q) at z))) }
-    by-rule more v false e q = record { wrong = rw (e, q); same = λ z. absurd (let y : at ≡ 0 = rw (e, q) at z in omega arith) }
+-- the value that the code holds is the one that stands there; where none does, it is one that the rule does not take
+abbrev pub HeldAs : {A : Type 0} → (A → Bool) → Value A → A → Type 0
+HeldAs rule (is u) v = u ≡ v
+HeldAs rule none v = rule v ≡ false
 
-    by-number : ((v : ℕ) → rule v ≡ true → AsHeld (next v) (p + form .width) s) → (x : Number) → form .got s p ≡ x → AsHeld (piece mark at form rule next) p s
-    by-number more (Is v) e = by-rule more v (rule v) e refl
-    by-number more Wrong e = record { wrong = rw (e, none); same = λ z. absurd (let y : at ≡ 0 = rw e at z in omega arith) }
-as-held (end-sound {cr} {unused} some) p s none-end = record { wrong = rw (zeros-replicate unused); same = λ z. refl }
+-- the code's offset of the first wrong field, 0 for none, and its record
+pub data Sees {R : Type 0} : Layout R → ℕ → List ℕ → ℕ → R → Type 1 where
+  sees-field : {A : Type 0} {at p w : ℕ} {s : List ℕ} {r : R} {shape : Shape A} {rule : A → Bool} {part : R → A} {next : A → Layout R}
+      → (v : A) → T (ltb 0 at) → HeldAs rule (shape .got s p) v → (rule v ≡ true → Sees (next v) (p + shape .width) s w r)
+      → Sees (field at shape rule part next) p s (wrongUnless (rule v) at w) r
+  sees-suits : {at p w : ℕ} {s : List ℕ} {r : R} {test : R → Bool} {rest : Layout R} → Sees rest p s w r → Sees (suits at test rest) p s w r
+  sees-end : {p : ℕ} {s : List ℕ} {q r : R} → q ≡ r → Sees (end q) p s 0 r
 
--- ---- sound fields, and at a field of digits the rule's highest value
+module _ {R : Type 0} where
+  abbrev judged : ℕ → R → Told R
+  judged w r = tried (eqb w 0) (FIELD w) (gives r)
 
-module _ {mark : Mark} {at n : ℕ} {rule : ℕ → Bool} {next : ℕ → Layout} where
-  pub byte-sound : T (ltb 0 at && leb 1 n) → ((v : ℕ) → rule v ≡ true → Sound (next v) (n - 1)) → Sound (piece mark at byte rule next) n
-  byte-sound t rest =
-      let q = both (ltb 0 at) (leb 1 n) t in
-      field-sound (ltb→lt 0 at (q .0)) (leb→le 1 n (q .1)) (record { lawful = byte-lawful; back = λ v h. refl }) rest
+  wrong-at : (at : ℕ) (r : R) → T (ltb 0 at) → refuses (FIELD at) ≡ judged at r
+  wrong-at at r h = let k = ltb→lt 0 at h in rw (ne-eqb at 0 (λ (e : at ≡ 0). omega arith))
 
-  pub number-sound : (w hi : ℕ) → T (ltb 0 at && leb w n && (leb 1 w && leb w 10) && ltb hi (10 ^ w)) → ((v : ℕ) → rule v ≡ true → v ≤ hi)
-      → ((v : ℕ) → rule v ≡ true → Sound (next v) (n - w)) → Sound (piece mark at (number w) rule next) n
-  number-sound w hi t below rest =
-      let a = both (ltb 0 at && leb w n && (leb 1 w && leb w 10)) (ltb hi (10 ^ w)) t in
-      let b = both (ltb 0 at && leb w n) (leb 1 w && leb w 10) (a .0) in
-      let c = both (ltb 0 at) (leb w n) (b .0) in
-      let d = both (leb 1 w) (leb w 10) (b .1) in
-      let least = leb→le 1 w (d .0) in
-      let most = leb→le w 10 (d .1) in
-      field-sound (ltb→lt 0 at (c .0)) (leb→le w n (c .1))
-      (record {
-        lawful = number-lawful w least most;
-        back = λ v h. let k = below v h in let l = ltb→lt hi (10 ^ w) (a .1) in number-back w v least most (omega arith);
-      })
-      rest
+  pub seen-is : {L : Layout R} {p w : ℕ} {s : List ℕ} {r : R} → Sees L p s w r → fieldsOf L p s ≡ tried (eqb w 0) (FIELD w) (gives r)
+  unfolding fieldsOf
+  seen-is (sees-field {A} {at} {p} {w} {s} {r} {shape} {rule} {part} {next} v some holds rest) =
+      by-value (λ good. seen-is (rest good)) (shape .got s p) holds
+    where
+      by-rule : (rule v ≡ true → fieldsOf (next v) (p + shape .width) s ≡ judged w r) → (t : Bool) → rule v ≡ t
+          → tried t (FIELD at) (fieldsOf (next v) (p + shape .width) s) ≡ judged (wrongUnless t at w) r
+      by-rule more true q = more q
+      by-rule more false q = wrong-at at r some
 
-module _ {mark : Mark} {at n : ℕ} {next : ℕ → Layout} where
-  pub clock-sound : T (ltb 0 at && leb 10 n) → ((v : ℕ) → isTime v ≡ true → Sound (next v) (n - 10)) → Sound (piece mark at clock isTime next) n
-  clock-sound t rest =
-      let q = both (ltb 0 at) (leb 10 n) t in
-      field-sound (ltb→lt 0 at (q .0)) (leb→le 10 n (q .1)) clock-inverse rest
+      by-value : (rule v ≡ true → fieldsOf (next v) (p + shape .width) s ≡ judged w r) → (x : Value A) → HeldAs rule x v
+          → taken at rule x (λ u. fieldsOf (next u) (p + shape .width) s) ≡ judged (wrongUnless (rule v) at w) r
+      by-value more (is u) e = rw e (by-rule more (rule v) refl)
+      by-value more none e = rw e (wrong-at at r some)
+  seen-is (sees-suits rest) = seen-is rest
+  seen-is (sees-end e) = ap gives e
+
+module _ {Q R : Type 0} (of : R → Q) (whole : Q → R) where
+  pub sees-within : {L : Layout Q} {p w : ℕ} {s : List ℕ} {q : Q} {r : R} → Sees L p s w q → whole q ≡ r → Sees (within of whole L) p s w r
+  sees-within (sees-field v some holds rest) e = sees-field v some holds (λ good. sees-within (rest good) e)
+  sees-within (sees-suits rest) e = sees-suits (sees-within rest e)
+  sees-within (sees-end f) e = sees-end (ap whole f ∙ e)
+
+-- ---- sound fields, each by its shape; at a field of digits the rule's highest value
+
+pub byte-inverse : {rule : ℕ → Bool} → Inverse byte rule (λ _. Unit {0})
+byte-inverse = one-inverse (record { lawful = byte-lawful; back = λ v h. refl })
+
+module _ {R : Type 0} {W : R → Type 0} {at n : ℕ} {P : R → Type 0} {F : Type 0} where
+  module _ {part : R → ℕ} {next : ℕ → Layout R} where
+    pub byte-sound : {rule : ℕ → Bool} → T (ltb 0 at && leb 1 n) → ((v : ℕ) → rule v ≡ true → Sound W (next v) (λ r. P r × (part r ≡ v)) (F × Unit {0}) (n - 1)) → Sound W (field at byte rule part next) P F n
+    byte-sound t rest =
+        let q = both (ltb 0 at) (leb 1 n) t in
+        field-sound (ltb→lt 0 at (q .0)) (leb→le 1 n (q .1)) byte-inverse (λ r whole. tt) rest
+
+    pub number-sound : {rule : ℕ → Bool} (w hi : ℕ) → T (ltb 0 at && leb w n && (leb 1 w && leb w 10) && ltb hi (10 ^ w)) → ((v : ℕ) → rule v ≡ true → v ≤ hi)
+        → ((v : ℕ) → rule v ≡ true → Sound W (next v) (λ r. P r × (part r ≡ v)) (F × Unit {0}) (n - w)) → Sound W (field at (number w) rule part next) P F n
+    number-sound w hi t below rest =
+        let a = both (ltb 0 at && leb w n && (leb 1 w && leb w 10)) (ltb hi (10 ^ w)) t in
+        let b = both (ltb 0 at && leb w n) (leb 1 w && leb w 10) (a .0) in
+        let c = both (ltb 0 at) (leb w n) (b .0) in
+        field-sound (ltb→lt 0 at (c .0)) (leb→le w n (c .1)) (digits-inverse w hi (b .1) (a .1) below) (λ r whole. tt) rest
+
+    pub time-sound : T (ltb 0 at && leb 10 n) → ((v : ℕ) → isTime v ≡ true → Sound W (next v) (λ r. P r × (part r ≡ v)) (F × Unit {0}) (n - 10)) → Sound W (field at time isTime part next) P F n
+    time-sound t rest =
+        let q = both (ltb 0 at) (leb 10 n) t in
+        field-sound (ltb→lt 0 at (q .0)) (leb→le 10 n (q .1)) (one-inverse clock-inverse) (λ r whole. tt) rest
+
+  pub run-sound : {part : R → List ℕ} {next : List ℕ → Layout R} {rule : List ℕ → Bool} (m : ℕ) → T (ltb 0 at && leb m n) → ((r : R) → W r → length (part r) ≡ m)
+      → ((v : List ℕ) → rule v ≡ true → Sound W (next v) (λ r. P r × (part r ≡ v)) (F × (length v ≡ m)) (n - m)) → Sound W (field at (run m) rule part next) P F n
+  run-sound m t long rest =
+      let q = both (ltb 0 at) (leb m n) t in
+      field-sound (ltb→lt 0 at (q .0)) (leb→le m n (q .1)) (run-inverse m) long rest

@@ -1,7 +1,9 @@
 pub mod RefusalLaws
 pub mod HeadLaws
 pub mod RuleLaws
+pub mod ShapeLaws
 pub mod LayoutLaws
+pub mod SeesLaws
 pub mod KindLaws
 pub mod TimingLaws
 pub mod RequestLaws

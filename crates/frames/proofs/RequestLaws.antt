@@ -2,29 +2,34 @@
 use Prim.Native.Nat.{ℕ, _≤_}
 use mathlib.Core.List.{List, [], _∷_, _++_, append-assoc}
 use mathlib.Core.Bool.{true}
-use mathlib.Core.Path.{_≡_, refl}
+use mathlib.Core.Path.{_≡_, refl, sym}
 use native.Mathlib.Omega.{arith}
-use lib.ListN.{set}
+use lib.ListN.{length, getD, set}
 use lib.Seq.{sets}
+use borrow.Author.Tests.{eqb-true}
 use Rattle.digits.specs.Text.{oneOf}
 use Rattle.digits.specs.Digits.{digits}
 use Rattle.digits.proofs.Writing.{sets-append, length-digits}
-use Rattle.frames.specs.Rules.{between, upTo, isRequester, isOutput}
-use Rattle.frames.specs.Layout.{Sound, end-sound, values, write}
-use Rattle.frames.specs.Demand2.{Faithful}
-use Rattle.frames.specs.Inside.{held}
-use Rattle.frames.specs.Request.{isInformation, isChannel, requestFields, request}
+use Rattle.frames.specs.declared.request.StaticRequest.{StaticRequest}
+use Rattle.frames.specs.Rules.{upTo, space, isAddress}
+use Rattle.frames.specs.Layout.{recordWrong, write}
+use Rattle.frames.specs.Kind.{letterR, CR, wrongIn, frameOf}
+use Rattle.frames.specs.Faithful.{Faithful}
+use Rattle.frames.specs.Request.{isRequestChannel, requestFields, request}
+use Rattle.frames.specs.inside.Held.{requestAt}
 use Rattle.frames.proofs.RuleLaws.{up-to, or-one, to-240}
-use Rattle.frames.proofs.LayoutLaws.{NoneRefused, none-field, none-end, byte-sound, number-sound}
-use Rattle.frames.proofs.KindLaws.{Plain, plain-faithful}
+use Rattle.frames.proofs.LayoutLaws.{Sound, end-sound, byte-sound, number-sound, Sees, sees-end}
+use Rattle.frames.proofs.SeesLaws.{sees-byte, sees-number}
+use Rattle.frames.proofs.KindLaws.{SoundKind, faithful, length-frame, sees-address}
 
-channel-bound : (v : ℕ) → isChannel v ≡ true → v ≤ 255
-unfolding isChannel
+channel-bound : (v : ℕ) → isRequestChannel v ≡ true → v ≤ 255
+unfolding isRequestChannel
 channel-bound v = or-one v _ 255 tt (or-one v _ 255 tt (or-one v _ 255 tt (or-one v _ 255 tt (to-240 v))))
 
-sound : Sound requestFields 20
+sound : Sound (λ _. Unit {0}) requestFields (λ _. Unit {0}) (Unit {0}) 21
 unfolding requestFields
 sound =
+    byte-sound tt λ address own.
     byte-sound tt λ _ _.
     number-sound 3 _ tt (up-to _) λ _ _.
     number-sound 5 _ tt (up-to _) λ _ _.
@@ -33,41 +38,49 @@ sound =
     number-sound 3 _ tt (up-to _) λ _ _.
     number-sound 3 _ tt (up-to _) λ _ _.
     byte-sound tt λ _ _.
-    end-sound (omega arith)
+    end-sound (((((((((tt, sym (eqb-true address space own)), refl), refl), refl), refl), refl), refl), refl), refl)
+    (λ _. tt)
+    (λ r _ h i. record {
+      requester = sym (h .0 .0 .0 .0 .0 .0 .0 .1) i;
+      number = sym (h .0 .0 .0 .0 .0 .0 .1) i;
+      bib = sym (h .0 .0 .0 .0 .0 .1) i;
+      information = sym (h .0 .0 .0 .0 .1) i;
+      channel = sym (h .0 .0 .0 .1) i;
+      run = sym (h .0 .0 .1) i;
+      group = sym (h .0 .1) i;
+      output = sym (h .1) i;
+    })
 
-none-refused : NoneRefused requestFields
-unfolding requestFields isRequester between upTo isInformation isChannel isOutput oneOf
-none-refused =
-    none-field refl λ _ _.
-    none-field refl λ _ _.
-    none-field refl λ _ _.
-    none-field refl λ _ _.
-    none-field refl λ _ _.
-    none-field refl λ _ _.
-    none-field refl λ _ _.
-    none-field refl λ _ _.
-    none-end
-
-pub request-plain : Plain request
-unfolding requestFields values held
-request-plain = record {
-  bytes = 20;
-  sound = sound;
-  size = refl;
-  some = omega arith;
-  none = none-refused;
-  back = λ r. refl;
-  again = λ s. refl;
-  holding = λ s. refl;
-}
+request-sound : SoundKind request (λ _. Unit {0})
+unfolding requestFields frameOf write
+request-sound = record { bytes = 21; sound = sound; size = refl; some = omega arith; address = λ r e. refl }
 
 -- what is demanded of reading and writing holds of the static request
 pub request-faithful : Faithful request (λ _. Unit {0})
-request-faithful = plain-faithful request-plain
+request-faithful = faithful request-sound
 
--- the stores of eight values, one after the other, are one run
-pub stores-frame : (a b c d e f g h : ℕ) (l : List ℕ) →
-    set (set (sets (sets (sets (set (sets (sets (set (sets l 0 (17 ∷ 82 ∷ 32 ∷ [])) 3 a) 4 (digits 3 b)) 7 (digits 5 c)) 12 d) 13 (digits 3 e)) 16 (digits 3 f)) 19 (digits 3 g)) 22 h) 23 13
-    ≡ sets l 0 (17 ∷ 82 ∷ 32 ∷ (write requestFields (a ∷ b ∷ c ∷ d ∷ e ∷ f ∷ g ∷ h ∷ []) ++ (13 ∷ [])))
-unfolding requestFields write
-stores-frame a b c d e f g h l = simp (append-assoc, sets-append, length-digits)
+pub length-request : (r : StaticRequest) → wrongIn request r ≡ 0 → length (frameOf request r) ≡ 24
+length-request r = length-frame request-sound r
+
+-- what the code sees of a frame
+pub sees-request : (s : List ℕ) → isAddress (getD s 2 0) ≡ true → Sees requestFields 2 s (wrongIn request (requestAt s)) (requestAt s)
+unfolding requestFields wrongIn recordWrong upTo isRequestChannel
+sees-request s =
+    sees-address
+    (sees-byte tt λ _.
+    sees-number 3 tt refl λ _.
+    sees-number 5 tt refl λ _.
+    sees-byte tt λ _.
+    sees-number 3 tt refl λ _.
+    sees-number 3 tt refl λ _.
+    sees-number 3 tt refl λ _.
+    sees-byte tt λ _.
+    sees-end refl)
+
+-- the stores of a record, one after the other, are one run
+pub stores-frame : (r : StaticRequest) (l : List ℕ) →
+    set (set (sets (sets (sets (set (sets (sets (set (sets l 0 (17 ∷ letterR ∷ space ∷ [])) 3 (r .requester)) 4 (digits 3 (r .number))) 7 (digits 5 (r .bib))) 12 (r .information)) 13 (digits 3 (r .channel)))
+    16 (digits 3 (r .run))) 19 (digits 3 (r .group))) 22 (r .output)) 23 CR
+    ≡ sets l 0 (frameOf request r)
+unfolding requestFields write frameOf
+stores-frame r l = simp (append-assoc, sets-append, length-digits)

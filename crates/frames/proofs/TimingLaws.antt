@@ -1,28 +1,36 @@
--- Runs of bytes, and the checks of a reply's time and date. Assumes nothing.
+-- Runs of bytes, and time and date of a reply: their layouts are sound, and the code checks, sees and stores what they say. Assumes nothing.
 use Prim.Native.Nat.{ℕ, zero, suc, _+_, _-_, _≤_, _<_}
-use mathlib.Core.List.{List, [], _∷_, _++_}
-use mathlib.Core.Bool.{Bool, true, false, _&&_}
-use mathlib.Core.Path.{_≡_, refl, sym, ap, _∙_}
+use mathlib.Core.List.{List, [], _∷_, _++_, append-assoc}
+use mathlib.Core.Bool.{Bool, true, false, _&&_, _||_, and-eq-true-iff}
+use mathlib.Core.Path.{_≡_, refl, sym, ap, ap₂, _∙_}
 use native.Mathlib.Omega.{arith}
-use native.Mathlib.Nat.{zero-add}
-use lib.Dec.{eqb}
-use lib.ListN.{getD, set, replicate}
+use lib.Dec.{eqb, leb}
+use lib.ListN.{length, getD, set, replicate}
 use lib.IntN.{ℤ}
 use lib.Seq.{sets}
+use borrow.Author.Tests.{eqb-true, leb-true, le-leb}
+use Rattle.digits.specs.Text.{oneOf}
 use Rattle.digits.specs.Digits.{digits, numberAt}
+use Rattle.digits.proofs.Tests.{and-true}
 use Rattle.digits.proofs.Writing.{sets-append, length-digits}
 use Rattle.times.specs.Clock.{clock, isTime}
+use Rattle.times.specs.Day.{realDay}
 use Rattle.times.specs.Net.{isNet, netSum, netValue, netParts}
+use Rattle.times.proofs.DayLaws.{day-bounds}
+use Rattle.times.proofs.NetLaws.{net-inverse, net-days}
 use Rattle.frames.specs.declared.timing.TimingKind.{TimingKind}
 use Rattle.frames.specs.declared.timing.TimingKind.the-variants.{Clock as clockKind, Net as netKind, Raw as rawKind}
 use Rattle.frames.specs.declared.timing.Timing.{Timing}
 use Rattle.frames.specs.declared.timing.Timing.the-variants.{Clock, Net, Raw}
-use Rattle.frames.specs.declared.timing.Seen.{Seen}
-use Rattle.frames.specs.Rules.{isRaw}
-use Rattle.frames.specs.Layout.{Mark, first, further, Layout, end, unless, zeros, recordWrong}
-use Rattle.frames.specs.Timing.{raw, isSign, netOf, spareAnd, timeAndDate, timed, Tail, timedValues, ofTimed, bytesOf, signOf}
-use Rattle.frames.specs.Inside.{orNone, held, allFrom, rawFrom, zeroFrom, spareWrong, unusedWrong, clockWrong, netWrong, rawWrong, netValueWrong, timingWrong, seenClock, netTiming, seenNet, seenRaw, seenOf, clockText, netText}
-use Rattle.frames.proofs.LayoutLaws.{unless-none, zeros-replicate}
+use Rattle.frames.specs.Shape.{bytesOf, allFrom}
+use Rattle.frames.specs.Layout.{wrongUnless, recordWrong, write}
+use Rattle.frames.specs.Timing.{Times, isOf, areZero, rawUnused, date, isDate, ticksIn, dateIn, isSign, signOf, netOf, netIn, daysIn, signedDays, areDays, timed}
+use Rattle.frames.specs.inside.Held.{orNone}
+use Rattle.frames.specs.inside.Timing.{clockWrong, netWrong, netValueWrong, timingWrong, seenClock, netTiming, seenNet, seenRaw, seenOf, clockText, netText, timingText}
+use Rattle.frames.proofs.RuleLaws.{or-cases}
+use Rattle.frames.proofs.ShapeLaws.{Inverse, digits-inverse, one-inverse, both-inverse}
+use Rattle.frames.proofs.LayoutLaws.{unless-none, Sound, field-sound, suits-sound, end-sound, byte-inverse, time-sound, run-sound, Sees, sees-suits, sees-end}
+use Rattle.frames.proofs.SeesLaws.{sees-time, sees-date, sees-days, sees-run}
 
 -- ---- a turn of a loop over bytes
 
@@ -62,98 +70,185 @@ pub net-stores : (o : List ℕ) (v : ℤ)
     → sets (set (sets o 30 (clock .put (netParts v .time))) 40 (signOf (netParts v .minus))) 41 (digits 7 (netParts v .days)) ≡ sets o 30 (netText v)
 net-stores o v = simp (sets-append, length-digits)
 
--- ---- raw fields and parts that are not used, byte by byte and as runs
+-- ---- bytes that are all zero
 
-unless-and : (a b : Bool) (at rest : ℕ) → unless (a && b) at rest ≡ unless a at (unless b at rest)
-unless-and true b at rest = refl
-unless-and false b at rest = refl
-
-pub raw-record : (mark : Mark) (at n : ℕ) (L : Layout) (l : List ℕ) (i : ℕ) (vs : List ℕ) → recordWrong (raw mark at n L) (bytesOf l i n ++ vs) ≡ unless (rawFrom l i n) at (recordWrong L vs)
-unfolding recordWrong allFrom
-raw-record mark at zero L l i vs = refl
-raw-record mark at (suc n) L l i vs =
-    ap (λ (w : ℕ). unless (isRaw (getD l i 0)) at w) (raw-record further at n L l (suc i) vs)
-    ∙ sym (unless-and (isRaw (getD l i 0)) (rawFrom l (suc i) n) at (recordWrong L vs))
-
-and-assoc : (a b c : Bool) → (a && (b && c)) ≡ ((a && b) && c)
-and-assoc true b c = refl
-and-assoc false b c = refl
-
-zeros-run : (n m : ℕ) (l : List ℕ) (i : ℕ) (vs : List ℕ) → zeros (n + m) (bytesOf l i n ++ vs) ≡ (zeroFrom l i n && zeros m vs)
+shifted : (rule : ℕ → Bool) (x : ℕ) (l : List ℕ) (i n : ℕ) → allFrom rule (x ∷ l) (suc i) n ≡ allFrom rule l i n
 unfolding allFrom
-zeros-run zero m l i vs = rw (zero-add m)
-zeros-run (suc n) m l i vs =
-    let k : suc n + m ≡ suc (n + m) = omega arith in
-    rw k (ap (λ (b : Bool). eqb (getD l i 0) 0 && b) (zeros-run n m l (suc i) vs) ∙ and-assoc (eqb (getD l i 0) 0) (zeroFrom l (suc i) n) (zeros m vs))
+shifted rule x l i zero = refl
+shifted rule x l i (suc n) = ap (λ (b : Bool). rule (getD l i 0) && b) (shifted rule x l (suc i) n)
 
-zeros-last : (n : ℕ) (l : List ℕ) (i : ℕ) → zeros n (bytesOf l i n) ≡ zeroFrom l i n
+zeros-are : (n : ℕ) (l : List ℕ) → length l ≡ n → areZero n l ≡ true → replicate n 0 ≡ l
 unfolding allFrom
-zeros-last zero l i = refl
-zeros-last (suc n) l i = ap (λ (b : Bool). eqb (getD l i 0) 0 && b) (zeros-last n l (suc i))
+zeros-are zero [] h e = refl
+zeros-are zero (x ∷ l) h e = absurd (omega arith)
+zeros-are (suc n) [] h e = absurd (omega arith)
+zeros-are (suc n) (x ∷ l) h e =
+    let q = and-eq-true-iff (eqb x 0) (allFrom (λ b. eqb b 0) (x ∷ l) 1 n) .0 e in
+    rw (eqb-true x 0 (q .0), zeros-are n l (omega arith) (sym (shifted (λ b. eqb b 0) x l 0 n) ∙ q .1))
 
-module _ (sp : List ℕ) where
-  -- spare bytes before parts that are not used, and before none
-  spare-unused : (rt rd : List ℕ) → spareWrong sp (unusedWrong rt rd) ≡ recordWrong (spareAnd 18) (bytesOf sp 0 2 ++ (bytesOf rt 0 10 ++ bytesOf rd 0 8))
-  unfolding recordWrong
-  spare-unused rt rd =
-      sym (raw-record first 48 2 (end 50 18) sp 0 (bytesOf rt 0 10 ++ bytesOf rd 0 8)
-      ∙ ap (λ (b : Bool). unless (rawFrom sp 0 2) 48 (unless b 50 0)) (zeros-run 10 8 rt 0 (bytesOf rd 0 8) ∙ ap (λ (b : Bool). zeroFrom rt 0 10 && b) (zeros-last 8 rd 0)))
+-- ---- the layouts are sound
 
-  spare-alone : spareWrong sp 0 ≡ recordWrong (spareAnd 0) (bytesOf sp 0 2)
-  unfolding recordWrong
-  spare-alone = sym (raw-record first 48 2 (end 50 0) sp 0 [])
+-- the arrays have their lengths
+pub record WholeTimes (t : Times) : Type 0 where
+  pub time : length (t .rawTime) ≡ 10
+  pub date : length (t .rawDate) ≡ 8
+  pub spare : length (t .spare) ≡ 2
 
-  raw-parts : (rt rd : List ℕ) → rawWrong rt rd (spareWrong sp 0) ≡ recordWrong (timeAndDate rawKind) (bytesOf rt 0 10 ++ (bytesOf rd 0 8 ++ bytesOf sp 0 2))
-  unfolding timeAndDate
-  raw-parts rt rd =
-      sym (raw-record further 30 10 (raw first 40 8 (spareAnd 0)) rt 0 (bytesOf rd 0 8 ++ bytesOf sp 0 2)
-      ∙ ap (λ (w : ℕ). unless (rawFrom rt 0 10) 30 w) (raw-record first 40 8 (spareAnd 0) rd 0 (bytesOf sp 0 2) ∙ ap (λ (w : ℕ). unless (rawFrom rd 0 8) 40 w) (sym spare-alone)))
+date-inverse : Inverse date isDate (λ _. Unit {0} × (Unit {0} × Unit {0}))
+date-inverse =
+    both-inverse {ruleA = λ d. leb d 31} {ruleB = λ v. leb (v .0) 12 && leb (v .1) 2099}
+    (digits-inverse 2 31 tt tt (λ v h. leb-true v 31 h))
+    (both-inverse {ruleA = λ m. leb m 12} {ruleB = λ y. leb y 2099}
+    (digits-inverse 2 12 tt tt (λ v h. leb-true v 12 h))
+    (digits-inverse 4 2099 tt tt (λ v h. leb-true v 2099 h))
+    (λ v h. and-eq-true-iff (leb (v .0) 12) (leb (v .1) 2099) .0 h))
+    (λ v h. let b = day-bounds (v .0) (v .1 .0) (v .1 .1) h in (le-leb (v .0) 31 (b .day), and-true (le-leb (v .1 .0) 12 (b .month)) (le-leb (v .1 .1) 2099 (b .year))))
+
+days-inverse : (ticks : ℕ) → Inverse signedDays (areDays ticks) (λ _. Unit {0} × Unit {0})
+days-inverse ticks =
+    both-inverse {ruleA = λ _. true} {ruleB = λ d. leb d 9999999} byte-inverse
+    (digits-inverse 7 9999999 tt tt (λ v h. leb-true v 9999999 h))
+    (λ v h. (refl, le-leb (v .1) 9999999 (net-days (netOf ticks (v .0) (v .1)) (and-eq-true-iff (isSign (v .0)) (isNet (netOf ticks (v .0) (v .1))) .0 h .1))))
+
+-- a record of the kind with these values, and unused bytes that are zero
+
+unused-are : (rt rd : List ℕ) → length rt ≡ 10 → length rd ≡ 8 → (areZero 10 rt && areZero 8 rd) ≡ true → (replicate 10 0 ≡ rt) × (replicate 8 0 ≡ rd)
+unused-are rt rd a b e =
+    let q = and-eq-true-iff (areZero 10 rt) (areZero 8 rd) .0 e in
+    (zeros-are 10 rt a (q .0), zeros-are 8 rd b (q .1))
+
+same-times : {t u : Timing} {a b c d e f : List ℕ} → t ≡ u → a ≡ b → c ≡ d → e ≡ f
+    → _≡_ {A = Times} (record { timing = t; rawTime = a; rawDate = c; spare = e }) (record { timing = u; rawTime = b; rawDate = d; spare = f })
+same-times p q r s i = record { timing = p i; rawTime = q i; rawDate = r i; spare = s i }
+
+clock-of : (t : Timing) (ticks : ℕ) (day : ℕ × (ℕ × ℕ)) → isOf clockKind t ≡ true → ticksIn t ≡ ticks → dateIn t ≡ day → Clock ticks (day .0) (day .1 .0) (day .1 .1) ≡ t
+clock-of (Clock ticks d m y) ticks′ day e a b = rw (← a, ← b)
+clock-of (Net value) ticks day e a b = absurd (let z : _≡_ {A = ℕ} 0 1 = cc in omega arith)
+clock-of Raw ticks day e a b = absurd (let z : _≡_ {A = ℕ} 0 1 = cc in omega arith)
+
+sign-back : (m : Bool) → eqb (signOf m) 45 ≡ m
+sign-back true = refl
+sign-back false = refl
+
+sign-again : (sign : ℕ) → isSign sign ≡ true → signOf (eqb sign 45) ≡ sign
+unfolding isSign oneOf
+sign-again sign e =
+    or-cases (eqb sign 43) (eqb sign 45 || false) (signOf (eqb sign 45) ≡ sign)
+    (λ p. rw (eqb-true sign 43 p))
+    (λ p. or-cases (eqb sign 45) false (signOf (eqb sign 45) ≡ sign) (λ q. rw (eqb-true sign 45 q)) (λ q. absurd (let z : _≡_ {A = ℕ} 0 1 = cc in omega arith)) p) e
+
+net-of : (t : Timing) (ticks : ℕ) (days : ℕ × ℕ) → isOf netKind t ≡ true → netIn t .time ≡ ticks → daysIn t ≡ days → Net (netSum (netOf ticks (days .0) (days .1))) ≡ t
+net-of (Net v) ticks days e a b = rw (← a, ← b, sign-back (netParts v .minus)) (ap Net (net-inverse .again v))
+net-of (Clock ticks′ d m y) ticks days e a b = absurd (let z : _≡_ {A = ℕ} 0 1 = cc in omega arith)
+net-of Raw ticks days e a b = absurd (let z : _≡_ {A = ℕ} 0 1 = cc in omega arith)
+
+raw-of : (t : Timing) → isOf rawKind t ≡ true → Raw ≡ t
+raw-of Raw e = refl
+raw-of (Clock ticks d m y) e = absurd (let z : _≡_ {A = ℕ} 0 1 = cc in omega arith)
+raw-of (Net v) e = absurd (let z : _≡_ {A = ℕ} 0 1 = cc in omega arith)
+
+-- what a net value's own parts are
+module _ (ticks : ℕ) (days : ℕ × ℕ) (good : areDays ticks days ≡ true) where
+  net-parts-are : netParts (netSum (netOf ticks (days .0) (days .1))) ≡ netOf ticks (days .0) (days .1)
+  net-parts-are = net-inverse .back (netOf ticks (days .0) (days .1)) (and-eq-true-iff (isSign (days .0)) (isNet (netOf ticks (days .0) (days .1))) .0 good .1)
+
+  net-days-are : daysIn (Net (netSum (netOf ticks (days .0) (days .1)))) ≡ days
+  net-days-are = rw net-parts-are (ap (λ (s : ℕ). (s, days .1)) (sign-again (days .0) (and-eq-true-iff (isSign (days .0)) (isNet (netOf ticks (days .0) (days .1))) .0 good .0)))
+
+pub timed-sound : (kind : TimingKind) → Sound WholeTimes (timed kind) (λ _. Unit {0}) (Unit {0}) 20
+unfolding timed allFrom
+timed-sound clockKind =
+    suits-sound {at = 30} (omega arith)
+    (time-sound tt λ ticks _.
+    field-sound {at = 40} {n = 10} {shape = date} (omega arith) (omega arith) date-inverse (λ t whole. (tt, (tt, tt))) λ day _.
+    run-sound 2 tt (λ t whole. whole .spare) λ spare _.
+    suits-sound {at = 50} (omega arith)
+    (end-sound (((((tt, refl), refl), refl), refl), refl)
+    (λ f. record { time = refl; date = refl; spare = f .1 })
+    (λ t whole h.
+    let u = unused-are (t .rawTime) (t .rawDate) (whole .time) (whole .date) (h .1) in
+    same-times (clock-of (t .timing) ticks day (h .0 .0 .0 .0 .1) (h .0 .0 .0 .1) (h .0 .0 .1)) (u .0) (u .1) (sym (h .0 .1)))))
+timed-sound netKind =
+    suits-sound {at = 30} (omega arith)
+    (time-sound tt λ ticks _.
+    field-sound {at = 40} {n = 10} {shape = signedDays} (omega arith) (omega arith) (days-inverse ticks) (λ t whole. (tt, tt)) λ days good.
+    run-sound 2 tt (λ t whole. whole .spare) λ spare _.
+    suits-sound {at = 50} (omega arith)
+    (end-sound (((((tt, refl), ap (λ (p : _). p .time) (net-parts-are ticks days good)), net-days-are ticks days good), refl), refl)
+    (λ f. record { time = refl; date = refl; spare = f .1 })
+    (λ t whole h.
+    let u = unused-are (t .rawTime) (t .rawDate) (whole .time) (whole .date) (h .1) in
+    same-times (net-of (t .timing) ticks days (h .0 .0 .0 .0 .1) (h .0 .0 .0 .1) (h .0 .0 .1)) (u .0) (u .1) (sym (h .0 .1)))))
+timed-sound rawKind =
+    suits-sound {at = 30} (omega arith)
+    (run-sound 10 tt (λ t whole. whole .time) λ _ _.
+    run-sound 8 tt (λ t whole. whole .date) λ _ _.
+    run-sound 2 tt (λ t whole. whole .spare) λ _ _.
+    end-sound ((((tt, refl), refl), refl), refl)
+    (λ f. record { time = f .0 .0 .1; date = f .0 .1; spare = f .1 })
+    (λ t whole h. same-times (raw-of (t .timing) (h .0 .0 .0 .1)) (sym (h .0 .0 .1)) (sym (h .0 .1)) (sym (h .1))))
 
 -- ---- `timing_wrong` is the first wrong part of time and date
 
 pub timing-wrong-is : (kind : TimingKind) (t : Timing) (rt rd sp : List ℕ)
-    → timingWrong kind t rt rd sp ≡ recordWrong (timed kind) (timedValues kind (record { timing = t; rawTime = rt; rawDate = rd; spare = sp }))
-unfolding timed timeAndDate recordWrong clockWrong netValueWrong netWrong
-timing-wrong-is clockKind (Clock ticks day month year) rt rd sp = ap (clockWrong ticks day month year) (spare-unused sp rt rd)
+    → timingWrong kind t rt rd sp ≡ recordWrong (timed kind) (record { timing = t; rawTime = rt; rawDate = rd; spare = sp })
+unfolding timed recordWrong clockWrong netValueWrong netWrong
+timing-wrong-is clockKind (Clock ticks day month year) rt rd sp = refl
 timing-wrong-is clockKind (Net value) rt rd sp = refl
 timing-wrong-is clockKind Raw rt rd sp = refl
 timing-wrong-is netKind (Clock ticks day month year) rt rd sp = refl
-timing-wrong-is netKind (Net value) rt rd sp = ap (netValueWrong value) (spare-unused sp rt rd)
+timing-wrong-is netKind (Net value) rt rd sp = refl
 timing-wrong-is netKind Raw rt rd sp = refl
 timing-wrong-is rawKind (Clock ticks day month year) rt rd sp = refl
 timing-wrong-is rawKind (Net value) rt rd sp = refl
-timing-wrong-is rawKind Raw rt rd sp = raw-parts sp rt rd
+timing-wrong-is rawKind Raw rt rd sp = refl
 
--- ---- `seen_at` finds the first wrong field of a frame's time and date, and holds what they show where there is none
+-- the timing of a record that is not wrong in time and date is of the kind that is asked for
+pub kind-fits : (kind : TimingKind) (t : Times) → recordWrong (timed kind) t ≡ 0 → isOf kind (t .timing) ≡ true
+unfolding timed recordWrong
+kind-fits clockKind t e = unless-none (isOf clockKind (t .timing)) 30 _ (omega arith) e .0
+kind-fits netKind t e = unless-none (isOf netKind (t .timing)) 30 _ (omega arith) e .0
+kind-fits rawKind t e = unless-none (isOf rawKind (t .timing)) 30 _ (omega arith) e .0
 
-spare-seen : (s : List ℕ) (unused : ℕ) → spareWrong (bytesOf s 48 2) 0 ≡ recordWrong (spareAnd unused) (getD s 48 0 ∷ getD s 49 0 ∷ replicate unused 0)
-unfolding recordWrong
-spare-seen s unused =
-    sym (raw-record first 48 2 (end 50 unused) (bytesOf s 48 2) 0 (replicate unused 0)
-    ∙ rw (zeros-replicate unused))
+-- ---- `seen_at` sees a frame's time and date
 
-pub seen-wrong-is : (kind : TimingKind) (s : List ℕ) → seenOf kind s .wrong ≡ recordWrong (timed kind) (held (timed kind) 30 s)
-unfolding seenClock seenNet seenRaw timed timeAndDate recordWrong held clockWrong netWrong
-seen-wrong-is clockKind s =
-    ap (clockWrong (orNone (clock .got s 30)) (orNone (numberAt s 40 2)) (orNone (numberAt s 42 2)) (orNone (numberAt s 44 4))) (spare-seen s 18)
-seen-wrong-is netKind s = ap (netWrong (orNone (clock .got s 30)) (getD s 40 0) (orNone (numberAt s 41 7))) (spare-seen s 18)
-seen-wrong-is rawKind s = raw-parts (bytesOf s 48 2) (bytesOf s 30 10) (bytesOf s 40 8)
+abbrev pub timesSeen : TimingKind → List ℕ → Times
+timesSeen kind s = record { timing = seenOf kind s .timing; rawTime = seenOf kind s .«raw_time»; rawDate = seenOf kind s .«raw_date»; spare = bytesOf s 48 2 }
 
-abbrev tailSeen : Seen → List ℕ → Tail
-tailSeen seen s = record { timing = seen .timing; rawTime = seen .«raw_time»; rawDate = seen .«raw_date»; spare = bytesOf s 48 2 }
+net-seen : (ticks sign days : ℕ) → areDays ticks (sign, days) ≡ true → Net (netSum (netOf ticks sign days)) ≡ netTiming (netOf ticks sign days)
+unfolding netValue
+net-seen ticks sign days good = rw (and-eq-true-iff (isSign sign) (isNet (netOf ticks sign days)) .0 good .1)
 
-net-seen : (time sign days rest : ℕ) → netWrong time sign days rest ≡ 0 → netTiming (netOf time sign days) ≡ Net (netSum (netOf time sign days))
-unfolding netWrong netValue
-net-seen time sign days rest e =
-    let a = unless-none (isTime time) 30 _ (omega arith) e in
-    let b = unless-none (isSign sign) 40 _ (omega arith) (a .1) in
-    let c = unless-none (isNet (netOf time sign days)) 40 rest (omega arith) (b .1) in
-    rw (c .0)
+no-days : (ticks sign : ℕ) → areDays ticks (sign, 4294967295) ≡ false
+unfolding isNet
+no-days ticks sign = and-false (isSign sign)
+  where
+    and-false : (a : Bool) → (a && false) ≡ false
+    and-false true = refl
+    and-false false = refl
 
-pub seen-tail-is : (kind : TimingKind) (s : List ℕ) → seenOf kind s .wrong ≡ 0 → tailSeen (seenOf kind s) s ≡ ofTimed kind (held (timed kind) 30 s)
-unfolding seenClock seenNet seenRaw timed timeAndDate held
-seen-tail-is clockKind s e = refl
-seen-tail-is netKind s e =
-    ap (λ (t : Timing). record { timing = t; rawTime = replicate 10 0; rawDate = replicate 8 0; spare = bytesOf s 48 2 })
-    (net-seen (orNone (clock .got s 30)) (getD s 40 0) (orNone (numberAt s 41 7)) (spareWrong (bytesOf s 48 2) 0) e)
-seen-tail-is rawKind s e = refl
+pub sees-timed : (kind : TimingKind) (s : List ℕ) → Sees (timed kind) 30 s (seenOf kind s .wrong) (timesSeen kind s)
+unfolding timed seenClock seenNet seenRaw clockWrong netWrong
+sees-timed clockKind s =
+    sees-suits (sees-time tt λ _. sees-date tt λ _. sees-run 2 tt λ _. sees-suits (sees-end refl))
+sees-timed netKind s =
+    let ticks = orNone (clock .got s 30) in
+    let days = orNone (numberAt s 41 7) in
+    sees-suits (sees-time tt λ _. sees-days tt (no-days ticks (getD s 40 0)) λ good. sees-run 2 tt λ _.
+    sees-suits (sees-end (same-times (net-seen ticks (getD s 40 0) days good) refl refl refl)))
+sees-timed rawKind s = sees-suits (sees-run 10 tt λ _. sees-run 8 tt λ _. sees-run 2 tt λ _. sees-end refl)
+
+-- ---- time and date, as they are stored, are those of the frame
+
+pub timing-text : (kind : TimingKind) (t : Timing) (rt rd sp : List ℕ) → isOf kind t ≡ true
+    → write (timed kind) (record { timing = t; rawTime = rt; rawDate = rd; spare = sp }) ≡ timingText t rt rd ++ bytesOf sp 0 2
+unfolding timed write
+timing-text clockKind (Clock ticks day month year) rt rd sp e = simp append-assoc
+timing-text netKind (Net v) rt rd sp e = simp append-assoc
+timing-text rawKind Raw rt rd sp e = refl
+timing-text clockKind (Net v) rt rd sp e = absurd (let z : _≡_ {A = ℕ} 0 1 = cc in omega arith)
+timing-text clockKind Raw rt rd sp e = absurd (let z : _≡_ {A = ℕ} 0 1 = cc in omega arith)
+timing-text netKind (Clock ticks day month year) rt rd sp e = absurd (let z : _≡_ {A = ℕ} 0 1 = cc in omega arith)
+timing-text netKind Raw rt rd sp e = absurd (let z : _≡_ {A = ℕ} 0 1 = cc in omega arith)
+timing-text rawKind (Clock ticks day month year) rt rd sp e = absurd (let z : _≡_ {A = ℕ} 0 1 = cc in omega arith)
+timing-text rawKind (Net v) rt rd sp e = absurd (let z : _≡_ {A = ℕ} 0 1 = cc in omega arith)

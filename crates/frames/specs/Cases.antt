@@ -55,7 +55,7 @@ replying bib channel letter time date =
 -- the record of such a reply with bib 41, channel 255 and no raw parts
 abbrev pub replied : ℕ → Timing → StaticReply
 replied letter timing =
-    record { program = 83; mode = 79; status = 69; requester = 65; number = 12; bib = 41; group = 0; run = 1; physical = 15; channel = 255; information = letter; timing = timing; «raw_time» = zeros10; «raw_date» = zeros8; spare = 32 ∷ 32 ∷ [] }
+    record { head = record { program = 83; mode = 79; status = 69; requester = 65; number = 12; bib = 41; group = 0; run = 1; physical = 15; channel = 255; information = letter }; timing = timing; «raw_time» = zeros10; «raw_date» = zeros8; spare = 32 ∷ 32 ∷ [] }
   where
     zeros8 : List ℕ
     zeros8 = 0 ∷ 0 ∷ 0 ∷ 0 ∷ 0 ∷ 0 ∷ 0 ∷ 0 ∷ []

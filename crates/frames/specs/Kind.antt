@@ -1,30 +1,31 @@
--- A kind of frame with its records of type R, and how it is read and written: lead byte, R, address, fields, CR.
+-- A kind of frame with its records of type R, and how it is read and written: lead byte, R, fields from the address on, CR.
 use Prim.Native.Nat.{ℕ, _-_}
 use mathlib.Core.List.{List, [], _∷_, _++_}
 use mathlib.Core.Bool.{Bool, false, _&&_}
 use mathlib.Core.Path.{_≡_}
 use lib.ListN.{length, getD, drop}
 use lib.Dec.{eqb, leb}
-use Rattle.digits.specs.Refusals.{KIND, LENGTH, END, ADDRESS, FIELD, RECORD, ROOM}
+use Rattle.digits.specs.Refusals.{KIND, LENGTH, END, ADDRESS, RECORD, ROOM}
 use Rattle.digits.specs.Told.{Told, gives, refuses, tried}
 use Rattle.frames.specs.declared.refusals.WriteAnswer.{WriteAnswer}
 use Rattle.frames.specs.Refusals.{writeTold}
 use Rattle.frames.specs.Rules.{isAddress}
-use Rattle.frames.specs.Layout.{Layout, firstWrong, values, recordWrong, write}
+use Rattle.frames.specs.Layout.{Layout, fieldsOf, recordWrong, write}
 
-pub record Kind (R : Type 0) : Type 0 where
+pub record Kind (R : Type 0) : Type 1 where
   pub lead : ℕ
   pub size : ℕ
-  pub fields : Layout
-  -- a record as the values of its parts, and the record with these values
-  pub valuesOf : R → List ℕ
-  pub ofValues : List ℕ → R
+  pub fields : Layout R
 
 abbrev pub letterR : ℕ
 letterR = 82
 
 abbrev pub CR : ℕ
 CR = 13
+
+-- the fields begin with the address, at byte 2
+abbrev pub fieldsBegin : ℕ
+fieldsBegin = 2
 
 -- ---- reading
 
@@ -51,20 +52,17 @@ module _ {A : Type 0} where
 module _ {R : Type 0} (k : Kind R) where
   -- the head, then the fields
   unfoldable pub read : List ℕ → Told R
-  read s =
-      andThen (headTold (k .lead) (k .size) s)
-      (tried (eqb (firstWrong (k .fields) 3 s) 0) (FIELD (firstWrong (k .fields) 3 s))
-      (gives (k .ofValues (values (k .fields) 3 s))))
+  read s = andThen (headTold (k .lead) (k .size) s) (fieldsOf (k .fields) fieldsBegin s)
 
   -- ---- writing
 
   -- the offset of a record's first wrong part, or 0 where it is well formed
   unfoldable pub wrongIn : R → ℕ
-  wrongIn r = recordWrong (k .fields) (k .valuesOf r)
+  wrongIn r = recordWrong (k .fields) r
 
   -- the frame of a record
   unfoldable pub frameOf : R → List ℕ
-  frameOf r = k .lead ∷ letterR ∷ 32 ∷ (write (k .fields) (k .valuesOf r) ++ (CR ∷ []))
+  frameOf r = k .lead ∷ letterR ∷ (write (k .fields) r ++ (CR ∷ []))
 
 -- the refusals of writing, in their order
 unfoldable pub writeTried : ℕ → ℕ → ℕ → Told (Unit {0})

@@ -1,9 +1,10 @@
 pub mod Refusals
 pub mod Rules
+pub mod Status
+pub mod Shape
 pub mod Layout
 pub mod Kind
-pub mod Demand2
-pub mod Inside
+pub mod Faithful
 pub mod Request
 pub mod Timing
 pub mod Reply
@@ -16,3 +17,4 @@ pub mod RuleCases
 pub mod RequestCases
 pub mod ReplyCases
 pub mod DynamicCases
+pub mod inside

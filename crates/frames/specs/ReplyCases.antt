@@ -33,7 +33,7 @@ goodRaw = but 29 "Qabcdefghijklmnopqr"
 -- a record by its parts
 abbrev pub tells : ℕ → ℕ → ℕ → ℕ → ℕ → ℕ → ℕ → ℕ → ℕ → ℕ → ℕ → Timing → List ℕ → List ℕ → List ℕ → StaticReply
 tells program mode status requester number bib group run physical channel letter timing rawTime rawDate spare =
-    record { program = program; mode = mode; status = status; requester = requester; number = number; bib = bib; group = group; run = run; physical = physical; channel = channel; information = letter; timing = timing; «raw_time» = rawTime; «raw_date» = rawDate; spare = spare }
+    record { head = record { program = program; mode = mode; status = status; requester = requester; number = number; bib = bib; group = group; run = run; physical = physical; channel = channel; information = letter }; timing = timing; «raw_time» = rawTime; «raw_date» = rawDate; spare = spare }
 
 -- the net reply's record, by the parts before time and date
 abbrev pub heads : ℕ → ℕ → ℕ → ℕ → ℕ → ℕ → ℕ → ℕ → ℕ → ℕ → ℕ → StaticReply

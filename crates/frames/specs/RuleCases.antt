@@ -9,6 +9,7 @@ use Rattle.digits.specs.Text.{codes}
 use Rattle.frames.specs.declared.timing.TimingKind.{TimingKind}
 use Rattle.frames.specs.declared.timing.TimingKind.the-variants.{Clock as clockKind, Net as netKind, Raw as rawKind}
 use Rattle.frames.specs.Rules.{isRequester, isOutput, isRaw}
+use Rattle.frames.specs.Status.{isStatus}
 use Rattle.frames.specs.Request as Q
 use Rattle.frames.specs.Timing.{timingKind, isSign}
 use Rattle.frames.specs.Reply as P
@@ -40,13 +41,13 @@ pub record RulesWorked : Type 0 where
   -- 41 letters of a request, 33 of a reply: without * L b c d l q t
   pub information : taken Q.isInformation 256 ≡ codes "*0123456789AGHIJKLPQRSTWXabcdghijklpqstuw"
   pub letters : taken P.isLetter 256 ≡ codes "0123456789AGHIJKPQRSTWXaghijkpsuw"
-  pub statuses : taken P.isStatus 256 ≡ codes "ERZ"
+  pub statuses : taken isStatus 256 ≡ codes "ERZ"
   pub orders : taken D.isOrder 256 ≡ codes "ABTabt"
   pub signs : taken isSign 256 ≡ codes "+-"
   -- three digits of a channel
-  pub request-channels : taken Q.isChannel 1000 ≡ below 241 ++ (248 ∷ 249 ∷ 251 ∷ 255 ∷ [])
-  pub reply-channels : taken P.isChannel 1000 ≡ below 241 ++ (245 ∷ 248 ∷ 249 ∷ 250 ∷ 255 ∷ [])
-  pub dynamic-channels : taken D.isChannel 1000 ≡ below 241 ++ (250 ∷ 255 ∷ [])
+  pub request-channels : taken Q.isRequestChannel 1000 ≡ below 241 ++ (248 ∷ 249 ∷ 251 ∷ 255 ∷ [])
+  pub reply-channels : taken P.isReplyChannel 1000 ≡ below 241 ++ (245 ∷ 248 ∷ 249 ∷ 250 ∷ 255 ∷ [])
+  pub dynamic-channels : taken D.isDynamicChannel 1000 ≡ below 241 ++ (250 ∷ 255 ∷ [])
   -- the letters of the clock and of net times, with status R; with Z there are none
   pub clock-letters : taken (λ b. isClock (timingKind 82 b)) 256 ≡ codes "0KSas"
   pub net-letters : taken (λ b. isNetTime (timingKind 82 b)) 256 ≡ codes "123"

@@ -21,6 +21,9 @@ isOutput = oneOf (codes "SABT")
 unfoldable pub isRaw : ℕ → Bool
 isRaw = between 32 126
 
--- a space
+-- the address is a space
+abbrev pub space : ℕ
+space = 32
+
 abbrev pub isAddress : ℕ → Bool
-isAddress b = eqb b 32
+isAddress b = eqb b space

@@ -1,13 +1,14 @@
 // The dynamic request: 46 bytes, lead byte DC3.
-use crate::core::clock_or_none;
-use crate::core::head_of;
-use crate::core::is_output;
-use crate::core::is_requester;
-use crate::core::number_or_none;
-use crate::core::put_head;
-use crate::core::unless;
-use crate::core::within;
-use crate::core::write_tries;
+use crate::fields::clock_or_none;
+use crate::fields::is_output;
+use crate::fields::is_requester;
+use crate::fields::number_or_none;
+use crate::fields::within;
+use crate::fields::write_tries;
+use crate::fields::wrong_unless;
+use crate::head::CR;
+use crate::head::head_of;
+use crate::head::put_head;
 use crate::refusals::Place;
 use crate::refusals::ReadRefusal;
 use crate::refusals::ReadVerdict;
@@ -15,6 +16,7 @@ use crate::refusals::WriteAnswer;
 use digits::byte_at;
 use digits::put_byte;
 use digits::put_number;
+use times::clock::LAST_TICK;
 use times::clock::put_clock;
 ghost use mathlib.Core.Path.{_≡_};
 ghost use lib.Seq.{sets};
@@ -22,12 +24,43 @@ ghost use lib.Dec.{eqb};
 ghost use Rattle.digits.specs.Told.{gives, tried};
 ghost use Rattle.digits.specs.Refusals.{FIELD};
 ghost use Rattle.frames.specs.Kind.{wrongIn, frameOf, Wrote};
-ghost use Rattle.frames.specs.Inside.{held};
-ghost use Rattle.frames.specs.Dynamic.{isOrder, isChannel, leastPeriod, dynamic, dynamicFields, dynamicTold, DynamicAs};
+ghost use Rattle.frames.specs.inside.Held.{dynamicAt};
+ghost use Rattle.frames.specs.Dynamic.{isOrder, isDynamicChannel, leastPeriod, dynamic, dynamicTold, DynamicAs};
 
 pub const DYNAMIC_LEAD: u8 = 19;
 
 pub const DYNAMIC_SIZE: usize = 46;
+
+// Where each field begins.
+pub mod field {
+    pub const REQUESTER: usize = 3;
+
+    pub const ORDER: usize = 4;
+
+    pub const BIB: usize = 5;
+
+    pub const CHANNEL: usize = 10;
+
+    pub const RUN: usize = 13;
+
+    pub const STOP_BIB: usize = 16;
+
+    pub const STOP_CHANNEL: usize = 21;
+
+    pub const STOP_RUN: usize = 24;
+
+    pub const SIGN: usize = 27;
+
+    pub const TIME: usize = 28;
+
+    pub const DAYS: usize = 38;
+
+    pub const PERIOD: usize = 39;
+
+    pub const OUTPUT: usize = 44;
+
+    pub const END: usize = 45;
+}
 
 // Letters by their code. Sign, time in ticks and days are those of Taux; the sign is kept where time and days are zero.
 #[repr(C)]
@@ -76,22 +109,22 @@ pub fn write_dynamic(r: DynamicRequest, out: &mut [u8]) -> WriteAnswer
 
 // The values of the fields, wrong or not.
 fn dynamic_at(s: &[u8]) -> DynamicRequest
-    ensures { λ r. ⌜ r ≡ dynamic .ofValues (held dynamicFields 3 (now (s .entry))) ⌝ }
+    ensures { λ r. ⌜ r ≡ dynamicAt (now (s .entry)) ⌝ }
 {
     DynamicRequest {
-        requester: byte_at(s, 3),
-        order: byte_at(s, 4),
-        bib: number_or_none(s, 5, 5),
-        channel: number_or_none(s, 10, 3),
-        run: number_or_none(s, 13, 3),
-        stop_bib: number_or_none(s, 16, 5),
-        stop_channel: number_or_none(s, 21, 3),
-        stop_run: number_or_none(s, 24, 3),
-        sign: number_or_none(s, 27, 1),
-        time: clock_or_none(s, 28),
-        days: number_or_none(s, 38, 1),
-        period: number_or_none(s, 39, 5),
-        output: byte_at(s, 44),
+        requester: byte_at(s, field::REQUESTER),
+        order: byte_at(s, field::ORDER),
+        bib: number_or_none(s, field::BIB, 5),
+        channel: number_or_none(s, field::CHANNEL, 3),
+        run: number_or_none(s, field::RUN, 3),
+        stop_bib: number_or_none(s, field::STOP_BIB, 5),
+        stop_channel: number_or_none(s, field::STOP_CHANNEL, 3),
+        stop_run: number_or_none(s, field::STOP_RUN, 3),
+        sign: number_or_none(s, field::SIGN, 1),
+        time: clock_or_none(s, field::TIME),
+        days: number_or_none(s, field::DAYS, 1),
+        period: number_or_none(s, field::PERIOD, 5),
+        output: byte_at(s, field::OUTPUT),
     }
 }
 
@@ -110,19 +143,27 @@ fn judged(r: DynamicRequest) -> DynamicRead
 fn dynamic_wrong(r: DynamicRequest) -> u8
     ensures { λ w. ⌜ w ≡ wrongIn dynamic r ⌝ }
 {
-    let wrong = unless(is_output(r.output), 44, 0);
-    let wrong = unless(within(least_period(r.order), 99_999, r.period), 39, wrong);
-    let wrong = unless(r.days <= 9, 38, wrong);
-    let wrong = unless(r.time <= 863_999_999, 28, wrong);
-    let wrong = unless(r.sign <= 1, 27, wrong);
-    let wrong = unless(r.stop_run <= 250, 24, wrong);
-    let wrong = unless(is_channel(r.stop_channel), 21, wrong);
-    let wrong = unless(within(1, 60_000, r.stop_bib), 16, wrong);
-    let wrong = unless(r.run <= 250, 13, wrong);
-    let wrong = unless(is_channel(r.channel), 10, wrong);
-    let wrong = unless(r.bib <= 60_000, 5, wrong);
-    let wrong = unless(is_order(r.order), 4, wrong);
-    unless(is_requester(r.requester), 3, wrong)
+    let wrong = wrong_unless(is_output(r.output), field::OUTPUT, 0);
+    let wrong = wrong_unless(
+        within(least_period(r.order), 99_999, r.period),
+        field::PERIOD,
+        wrong,
+    );
+    let wrong = wrong_unless(r.days <= 9, field::DAYS, wrong);
+    let wrong = wrong_unless(r.time <= LAST_TICK, field::TIME, wrong);
+    let wrong = wrong_unless(r.sign <= 1, field::SIGN, wrong);
+    let wrong = wrong_unless(r.stop_run <= 250, field::STOP_RUN, wrong);
+    let wrong = wrong_unless(
+        is_dynamic_channel(r.stop_channel),
+        field::STOP_CHANNEL,
+        wrong,
+    );
+    let wrong = wrong_unless(within(1, 60_000, r.stop_bib), field::STOP_BIB, wrong);
+    let wrong = wrong_unless(r.run <= 250, field::RUN, wrong);
+    let wrong = wrong_unless(is_dynamic_channel(r.channel), field::CHANNEL, wrong);
+    let wrong = wrong_unless(r.bib <= 60_000, field::BIB, wrong);
+    let wrong = wrong_unless(is_order(r.order), field::ORDER, wrong);
+    wrong_unless(is_requester(r.requester), field::REQUESTER, wrong)
 }
 
 fn is_order(b: u8) -> bool
@@ -131,8 +172,8 @@ fn is_order(b: u8) -> bool
     (b == b'A') | (b == b'B') | (b == b'a') | (b == b'b') | (b == b'T') | (b == b't')
 }
 
-fn is_channel(v: u32) -> bool
-    ensures { λ r. ⌜ r ≡ isChannel v ⌝ }
+fn is_dynamic_channel(v: u32) -> bool
+    ensures { λ r. ⌜ r ≡ isDynamicChannel v ⌝ }
 {
     (v <= 240) | (v == 250) | (v == 255)
 }
@@ -151,18 +192,18 @@ fn put_dynamic(r: DynamicRequest, out: &mut [u8])
     ensures { λ _. ⌜ now (out .exit) ≡ sets (now (out .entry)) 0 (frameOf dynamic r) ⌝ }
 {
     put_head(out, DYNAMIC_LEAD);
-    put_byte(out, 3, r.requester);
-    put_byte(out, 4, r.order);
-    put_number(out, 5, 5, r.bib as u64);
-    put_number(out, 10, 3, r.channel as u64);
-    put_number(out, 13, 3, r.run as u64);
-    put_number(out, 16, 5, r.stop_bib as u64);
-    put_number(out, 21, 3, r.stop_channel as u64);
-    put_number(out, 24, 3, r.stop_run as u64);
-    put_number(out, 27, 1, r.sign as u64);
-    put_clock(out, 28, r.time);
-    put_number(out, 38, 1, r.days as u64);
-    put_number(out, 39, 5, r.period as u64);
-    put_byte(out, 44, r.output);
-    put_byte(out, 45, 13);
+    put_byte(out, field::REQUESTER, r.requester);
+    put_byte(out, field::ORDER, r.order);
+    put_number(out, field::BIB, 5, r.bib as u64);
+    put_number(out, field::CHANNEL, 3, r.channel as u64);
+    put_number(out, field::RUN, 3, r.run as u64);
+    put_number(out, field::STOP_BIB, 5, r.stop_bib as u64);
+    put_number(out, field::STOP_CHANNEL, 3, r.stop_channel as u64);
+    put_number(out, field::STOP_RUN, 3, r.stop_run as u64);
+    put_number(out, field::SIGN, 1, r.sign as u64);
+    put_clock(out, field::TIME, r.time);
+    put_number(out, field::DAYS, 1, r.days as u64);
+    put_number(out, field::PERIOD, 5, r.period as u64);
+    put_byte(out, field::OUTPUT, r.output);
+    put_byte(out, field::END, CR);
 }

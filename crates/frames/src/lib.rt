@@ -1,6 +1,7 @@
 // Frames: each kind read and written, a module a kind.
-mod core;
 pub mod dynamic;
+mod fields;
+mod head;
 pub mod refusals;
 pub mod reply;
 pub mod request;

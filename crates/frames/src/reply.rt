@@ -1,11 +1,12 @@
 // The static reply: 51 bytes, lead byte DC2.
-use crate::core::head_of;
-use crate::core::is_requester;
-use crate::core::number_or_none;
-use crate::core::put_head;
-use crate::core::unless;
-use crate::core::within;
-use crate::core::write_tries;
+use crate::fields::is_requester;
+use crate::fields::number_or_none;
+use crate::fields::within;
+use crate::fields::write_tries;
+use crate::fields::wrong_unless;
+use crate::head::CR;
+use crate::head::head_of;
+use crate::head::put_head;
 use crate::refusals::Place;
 use crate::refusals::ReadRefusal;
 use crate::refusals::ReadVerdict;
@@ -28,20 +29,69 @@ ghost use mathlib.Core.Path.{_≡_};
 ghost use lib.Seq.{sets};
 ghost use lib.ListN.{replicate};
 ghost use Rattle.frames.specs.Kind.{wrongIn, Wrote};
-ghost use Rattle.frames.specs.Inside as I;
-ghost use Rattle.frames.specs.Reply.{isStatus, isLetter, isChannel, leastRun, reply, zeroReply, ReadAs, checkTold, CheckedAs};
+ghost use Rattle.frames.specs.inside.Reply as I;
+ghost use Rattle.frames.specs.Status.{isStatus};
+ghost use Rattle.frames.specs.Reply.{isLetter, isReplyChannel, leastRun, reply, zeroReply, ReadAs, checkTold, CheckedAs};
 
 pub const REPLY_LEAD: u8 = 18;
 
 pub const REPLY_SIZE: usize = 51;
+
+// Where each field begins.
+pub mod field {
+    pub const PROGRAM: usize = 3;
+
+    pub const MODE: usize = 4;
+
+    pub const STATUS: usize = 5;
+
+    pub const REQUESTER: usize = 6;
+
+    pub const NUMBER: usize = 7;
+
+    pub const BIB: usize = 12;
+
+    pub const GROUP: usize = 17;
+
+    pub const RUN: usize = 20;
+
+    pub const PHYSICAL: usize = 23;
+
+    pub const CHANNEL: usize = 26;
+
+    pub const INFORMATION: usize = 29;
+
+    pub const TIME: usize = 30;
+
+    pub const DATE: usize = 40;
+
+    // In a date: month and year of a day, and the days behind a net time's sign.
+    pub const MONTH: usize = DATE + 2;
+
+    pub const YEAR: usize = DATE + 4;
+
+    pub const DAYS: usize = DATE + 1;
+
+    pub const SPARE: usize = 48;
+
+    pub const END: usize = 50;
+}
+
+// One record of an answer, its last, and "not available".
+pub const STATUS_R: u8 = b'R';
+
+pub const STATUS_E: u8 = b'E';
+
+pub const STATUS_Z: u8 = b'Z';
 
 // The 33 letters of a reply, as a set.
 const LETTERS_LOW: u64 = 0x3ff_0000_0000_0000;
 
 const LETTERS_HIGH: u64 = 0xa9_0f82_019f_0f82;
 
-// Letters, program and mode by their code. Raw time and date are zero where the timing is not raw.
-pub struct StaticReply {
+// The parts before time and date. Letters, program and mode by their code.
+#[repr(C)]
+pub struct ReplyHead {
     pub program: u8,
     pub mode: u8,
     pub status: u8,
@@ -53,6 +103,11 @@ pub struct StaticReply {
     pub physical: u32,
     pub channel: u32,
     pub information: u8,
+}
+
+// Raw time and date are zero where the timing is not raw.
+pub struct StaticReply {
+    pub head: ReplyHead,
     pub timing: Timing,
     pub raw_time: [u8; 10],
     pub raw_date: [u8; 8],
@@ -143,17 +198,19 @@ fn zero_reply() -> StaticReply
     ensures { λ r. ⌜ r ≡ zeroReply ⌝ }
 {
     StaticReply {
-        program: 0,
-        mode: 0,
-        status: 0,
-        requester: 0,
-        number: 0,
-        bib: 0,
-        group: 0,
-        run: 0,
-        physical: 0,
-        channel: 0,
-        information: 0,
+        head: ReplyHead {
+            program: 0,
+            mode: 0,
+            status: 0,
+            requester: 0,
+            number: 0,
+            bib: 0,
+            group: 0,
+            run: 0,
+            physical: 0,
+            channel: 0,
+            information: 0,
+        },
         timing: Timing::Raw,
         raw_time: [0; 10],
         raw_date: [0; 8],
@@ -198,77 +255,33 @@ fn judged(r: StaticReply, wrong: u8) -> ReplyRead
     refused(ReadRefusal::Field(Place { field: wrong }))
 }
 
-// The parts before time and date.
-struct Head {
-    program: u8,
-    mode: u8,
-    status: u8,
-    requester: u8,
-    number: u32,
-    bib: u32,
-    group: u32,
-    run: u32,
-    physical: u32,
-    channel: u32,
-    information: u8,
-}
-
-// Their values in a frame, wrong or not.
-fn head_at(s: &[u8]) -> Head
+// The parts before time and date as a frame has them, wrong or not.
+fn head_at(s: &[u8]) -> ReplyHead
     ensures { λ r. ⌜ r ≡ I.headAt (now (s .entry)) ⌝ }
 {
-    Head {
-        program: byte_at(s, 3),
-        mode: byte_at(s, 4),
-        status: byte_at(s, 5),
-        requester: byte_at(s, 6),
-        number: number_or_none(s, 7, 5),
-        bib: number_or_none(s, 12, 5),
-        group: number_or_none(s, 17, 3),
-        run: number_or_none(s, 20, 3),
-        physical: number_or_none(s, 23, 3),
-        channel: number_or_none(s, 26, 3),
-        information: byte_at(s, 29),
+    ReplyHead {
+        program: byte_at(s, field::PROGRAM),
+        mode: byte_at(s, field::MODE),
+        status: byte_at(s, field::STATUS),
+        requester: byte_at(s, field::REQUESTER),
+        number: number_or_none(s, field::NUMBER, 5),
+        bib: number_or_none(s, field::BIB, 5),
+        group: number_or_none(s, field::GROUP, 3),
+        run: number_or_none(s, field::RUN, 3),
+        physical: number_or_none(s, field::PHYSICAL, 3),
+        channel: number_or_none(s, field::CHANNEL, 3),
+        information: byte_at(s, field::INFORMATION),
     }
 }
 
-// Their values in a record.
-fn head_in(r: StaticReply) -> Head
-    ensures { λ h. ⌜ h ≡ I.headIn r ⌝ }
-{
-    Head {
-        program: r.program,
-        mode: r.mode,
-        status: r.status,
-        requester: r.requester,
-        number: r.number,
-        bib: r.bib,
-        group: r.group,
-        run: r.run,
-        physical: r.physical,
-        channel: r.channel,
-        information: r.information,
-    }
-}
-
-fn reply_of(h: Head, seen: Seen, spare: [u8; 2]) -> StaticReply
-    ensures { λ r. ⌜ r ≡ I.replyOf h seen spare ⌝ }
+fn reply_of(head: ReplyHead, seen: Seen, spare: [u8; 2]) -> StaticReply
+    ensures { λ r. ⌜ r ≡ I.replyOf head seen spare ⌝ }
 {
     let timing = seen.timing;
     let raw_time = seen.raw_time;
     let raw_date = seen.raw_date;
     StaticReply {
-        program: h.program,
-        mode: h.mode,
-        status: h.status,
-        requester: h.requester,
-        number: h.number,
-        bib: h.bib,
-        group: h.group,
-        run: h.run,
-        physical: h.physical,
-        channel: h.channel,
-        information: h.information,
+        head,
         timing,
         raw_time,
         raw_date,
@@ -280,38 +293,36 @@ fn reply_of(h: Head, seen: Seen, spare: [u8; 2]) -> StaticReply
 fn reply_wrong(r: StaticReply) -> u8
     ensures { λ w. ⌜ w ≡ wrongIn reply r ⌝ }
 {
-    let kind = kind_of(r.status, r.information);
+    let head = r.head;
+    let kind = kind_of(head.status, head.information);
     let timing = r.timing;
     let raw_time = r.raw_time;
     let raw_date = r.raw_date;
     let spare = r.spare;
-    head_wrong(
-        head_in(r),
-        timing_wrong(kind, timing, raw_time, raw_date, spare),
-    )
+    head_wrong(head, timing_wrong(kind, timing, raw_time, raw_date, spare))
 }
 
 // The parts before time and date, and then the rest.
-fn head_wrong(h: Head, rest: u8) -> u8
+fn head_wrong(h: ReplyHead, rest: u8) -> u8
     ensures { λ w. ⌜ w ≡ I.headWrong h rest ⌝ }
 {
-    let wrong = unless(is_letter(h.information), 29, rest);
-    let wrong = unless(is_channel(h.channel), 26, wrong);
-    let wrong = unless(h.physical <= 999, 23, wrong);
-    let wrong = unless(within(least_run(h.status), 250, h.run), 20, wrong);
-    let wrong = unless(h.group <= 199, 17, wrong);
-    let wrong = unless(h.bib <= 59999, 12, wrong);
-    let wrong = unless(h.number <= 99999, 7, wrong);
-    let wrong = unless(is_requester(h.requester), 6, wrong);
-    let wrong = unless(is_status(h.status), 5, wrong);
-    let wrong = unless(is_raw(h.mode), 4, wrong);
-    unless(is_raw(h.program), 3, wrong)
+    let wrong = wrong_unless(is_letter(h.information), field::INFORMATION, rest);
+    let wrong = wrong_unless(is_reply_channel(h.channel), field::CHANNEL, wrong);
+    let wrong = wrong_unless(h.physical <= 999, field::PHYSICAL, wrong);
+    let wrong = wrong_unless(within(least_run(h.status), 250, h.run), field::RUN, wrong);
+    let wrong = wrong_unless(h.group <= 199, field::GROUP, wrong);
+    let wrong = wrong_unless(h.bib <= 59999, field::BIB, wrong);
+    let wrong = wrong_unless(h.number <= 99999, field::NUMBER, wrong);
+    let wrong = wrong_unless(is_requester(h.requester), field::REQUESTER, wrong);
+    let wrong = wrong_unless(is_status(h.status), field::STATUS, wrong);
+    let wrong = wrong_unless(is_raw(h.mode), field::MODE, wrong);
+    wrong_unless(is_raw(h.program), field::PROGRAM, wrong)
 }
 
 fn is_status(b: u8) -> bool
     ensures { λ r. ⌜ r ≡ isStatus b ⌝ }
 {
-    (b == b'R') | (b == b'E') | (b == b'Z')
+    (b == STATUS_R) | (b == STATUS_E) | (b == STATUS_Z)
 }
 
 fn is_letter(b: u8) -> bool
@@ -320,8 +331,8 @@ fn is_letter(b: u8) -> bool
     in_set(LETTERS_LOW, LETTERS_HIGH, b)
 }
 
-fn is_channel(v: u32) -> bool
-    ensures { λ r. ⌜ r ≡ isChannel v ⌝ }
+fn is_reply_channel(v: u32) -> bool
+    ensures { λ r. ⌜ r ≡ isReplyChannel v ⌝ }
 {
     (v <= 240) | (v == 245) | (v == 248) | (v == 249) | (v == 250) | (v == 255)
 }
@@ -329,35 +340,36 @@ fn is_channel(v: u32) -> bool
 fn least_run(status: u8) -> u32
     ensures { λ r. ⌜ r ≡ leastRun status ⌝ }
 {
-    if status == 90 { 0 } else { 1 }
+    if status == STATUS_Z { 0 } else { 1 }
 }
 
 fn put_reply(r: StaticReply, out: &mut [u8])
     ensures { λ _. ⌜ now (out .exit) ≡ sets (now (out .entry)) 0 (I.replyText r) ⌝ }
 {
-    put_reply_head(r, out);
+    let head = r.head;
+    put_reply_head(head, out);
     let timing = r.timing;
     let raw_time = r.raw_time;
     let raw_date = r.raw_date;
     let spare = r.spare;
     put_timing(timing, raw_time, raw_date, out);
-    put_run(out, 48, &spare, 2);
-    put_byte(out, 50, 13);
+    put_run(out, field::SPARE, &spare, 2);
+    put_byte(out, field::END, CR);
 }
 
-fn put_reply_head(r: StaticReply, out: &mut [u8])
-    ensures { λ _. ⌜ now (out .exit) ≡ sets (now (out .entry)) 0 (I.headText r) ⌝ }
+fn put_reply_head(h: ReplyHead, out: &mut [u8])
+    ensures { λ _. ⌜ now (out .exit) ≡ sets (now (out .entry)) 0 (I.headText h) ⌝ }
 {
     put_head(out, REPLY_LEAD);
-    put_byte(out, 3, r.program);
-    put_byte(out, 4, r.mode);
-    put_byte(out, 5, r.status);
-    put_byte(out, 6, r.requester);
-    put_number(out, 7, 5, r.number as u64);
-    put_number(out, 12, 5, r.bib as u64);
-    put_number(out, 17, 3, r.group as u64);
-    put_number(out, 20, 3, r.run as u64);
-    put_number(out, 23, 3, r.physical as u64);
-    put_number(out, 26, 3, r.channel as u64);
-    put_byte(out, 29, r.information);
+    put_byte(out, field::PROGRAM, h.program);
+    put_byte(out, field::MODE, h.mode);
+    put_byte(out, field::STATUS, h.status);
+    put_byte(out, field::REQUESTER, h.requester);
+    put_number(out, field::NUMBER, 5, h.number as u64);
+    put_number(out, field::BIB, 5, h.bib as u64);
+    put_number(out, field::GROUP, 3, h.group as u64);
+    put_number(out, field::RUN, 3, h.run as u64);
+    put_number(out, field::PHYSICAL, 3, h.physical as u64);
+    put_number(out, field::CHANNEL, 3, h.channel as u64);
+    put_byte(out, field::INFORMATION, h.information);
 }

@@ -1,11 +1,12 @@
 // The static request: 24 bytes, lead byte DC1.
-use crate::core::head_of;
-use crate::core::is_output;
-use crate::core::is_requester;
-use crate::core::number_or_none;
-use crate::core::put_head;
-use crate::core::unless;
-use crate::core::write_tries;
+use crate::fields::is_output;
+use crate::fields::is_requester;
+use crate::fields::number_or_none;
+use crate::fields::write_tries;
+use crate::fields::wrong_unless;
+use crate::head::CR;
+use crate::head::head_of;
+use crate::head::put_head;
 use crate::refusals::Place;
 use crate::refusals::ReadRefusal;
 use crate::refusals::ReadVerdict;
@@ -20,12 +21,33 @@ ghost use lib.Dec.{eqb};
 ghost use Rattle.digits.specs.Told.{gives, tried};
 ghost use Rattle.digits.specs.Refusals.{FIELD};
 ghost use Rattle.frames.specs.Kind.{wrongIn, frameOf, Wrote};
-ghost use Rattle.frames.specs.Inside.{held};
-ghost use Rattle.frames.specs.Request.{isInformation, isChannel, request, requestFields, requestTold, RequestAs};
+ghost use Rattle.frames.specs.inside.Held.{requestAt};
+ghost use Rattle.frames.specs.Request.{isInformation, isRequestChannel, request, requestTold, RequestAs};
 
 pub const REQUEST_LEAD: u8 = 17;
 
 pub const REQUEST_SIZE: usize = 24;
+
+// Where each field begins.
+pub mod field {
+    pub const REQUESTER: usize = 3;
+
+    pub const NUMBER: usize = 4;
+
+    pub const BIB: usize = 7;
+
+    pub const INFORMATION: usize = 12;
+
+    pub const CHANNEL: usize = 13;
+
+    pub const RUN: usize = 16;
+
+    pub const GROUP: usize = 19;
+
+    pub const OUTPUT: usize = 22;
+
+    pub const END: usize = 23;
+}
 
 // The 41 letters of a request's information, as a set.
 const INFORMATION_LOW: u64 = 0x3ff_0400_0000_0000;
@@ -74,17 +96,17 @@ pub fn write_request(r: StaticRequest, out: &mut [u8]) -> WriteAnswer
 
 // The values of the fields, wrong or not.
 fn request_at(s: &[u8]) -> StaticRequest
-    ensures { λ r. ⌜ r ≡ request .ofValues (held requestFields 3 (now (s .entry))) ⌝ }
+    ensures { λ r. ⌜ r ≡ requestAt (now (s .entry)) ⌝ }
 {
     StaticRequest {
-        requester: byte_at(s, 3),
-        number: number_or_none(s, 4, 3),
-        bib: number_or_none(s, 7, 5),
-        information: byte_at(s, 12),
-        channel: number_or_none(s, 13, 3),
-        run: number_or_none(s, 16, 3),
-        group: number_or_none(s, 19, 3),
-        output: byte_at(s, 22),
+        requester: byte_at(s, field::REQUESTER),
+        number: number_or_none(s, field::NUMBER, 3),
+        bib: number_or_none(s, field::BIB, 5),
+        information: byte_at(s, field::INFORMATION),
+        channel: number_or_none(s, field::CHANNEL, 3),
+        run: number_or_none(s, field::RUN, 3),
+        group: number_or_none(s, field::GROUP, 3),
+        output: byte_at(s, field::OUTPUT),
     }
 }
 
@@ -103,14 +125,14 @@ fn judged(r: StaticRequest) -> RequestRead
 fn request_wrong(r: StaticRequest) -> u8
     ensures { λ w. ⌜ w ≡ wrongIn request r ⌝ }
 {
-    let wrong = unless(is_output(r.output), 22, 0);
-    let wrong = unless(r.group <= 199, 19, wrong);
-    let wrong = unless(r.run <= 250, 16, wrong);
-    let wrong = unless(is_channel(r.channel), 13, wrong);
-    let wrong = unless(is_information(r.information), 12, wrong);
-    let wrong = unless(r.bib <= 59999, 7, wrong);
-    let wrong = unless(r.number <= 999, 4, wrong);
-    unless(is_requester(r.requester), 3, wrong)
+    let wrong = wrong_unless(is_output(r.output), field::OUTPUT, 0);
+    let wrong = wrong_unless(r.group <= 199, field::GROUP, wrong);
+    let wrong = wrong_unless(r.run <= 250, field::RUN, wrong);
+    let wrong = wrong_unless(is_request_channel(r.channel), field::CHANNEL, wrong);
+    let wrong = wrong_unless(is_information(r.information), field::INFORMATION, wrong);
+    let wrong = wrong_unless(r.bib <= 59999, field::BIB, wrong);
+    let wrong = wrong_unless(r.number <= 999, field::NUMBER, wrong);
+    wrong_unless(is_requester(r.requester), field::REQUESTER, wrong)
 }
 
 fn is_information(b: u8) -> bool
@@ -119,8 +141,8 @@ fn is_information(b: u8) -> bool
     in_set(INFORMATION_LOW, INFORMATION_HIGH, b)
 }
 
-fn is_channel(v: u32) -> bool
-    ensures { λ r. ⌜ r ≡ isChannel v ⌝ }
+fn is_request_channel(v: u32) -> bool
+    ensures { λ r. ⌜ r ≡ isRequestChannel v ⌝ }
 {
     (v <= 240) | (v == 248) | (v == 249) | (v == 251) | (v == 255)
 }
@@ -129,13 +151,13 @@ fn put_request(r: StaticRequest, out: &mut [u8])
     ensures { λ _. ⌜ now (out .exit) ≡ sets (now (out .entry)) 0 (frameOf request r) ⌝ }
 {
     put_head(out, REQUEST_LEAD);
-    put_byte(out, 3, r.requester);
-    put_number(out, 4, 3, r.number as u64);
-    put_number(out, 7, 5, r.bib as u64);
-    put_byte(out, 12, r.information);
-    put_number(out, 13, 3, r.channel as u64);
-    put_number(out, 16, 3, r.run as u64);
-    put_number(out, 19, 3, r.group as u64);
-    put_byte(out, 22, r.output);
-    put_byte(out, 23, 13);
+    put_byte(out, field::REQUESTER, r.requester);
+    put_number(out, field::NUMBER, 3, r.number as u64);
+    put_number(out, field::BIB, 5, r.bib as u64);
+    put_byte(out, field::INFORMATION, r.information);
+    put_number(out, field::CHANNEL, 3, r.channel as u64);
+    put_number(out, field::RUN, 3, r.run as u64);
+    put_number(out, field::GROUP, 3, r.group as u64);
+    put_byte(out, field::OUTPUT, r.output);
+    put_byte(out, field::END, CR);
 }

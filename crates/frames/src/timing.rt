@@ -1,10 +1,13 @@
 // Time and date of a reply, by its kind.
-use crate::core::clock_or_none;
-use crate::core::number_or_none;
-use crate::core::unless;
+use crate::fields::clock_or_none;
+use crate::fields::number_or_none;
+use crate::fields::wrong_unless;
+use crate::reply::STATUS_Z;
+use crate::reply::field;
 use digits::byte_at;
 use digits::put_byte;
 use digits::put_number;
+use times::clock::LAST_TICK;
 use times::clock::put_clock;
 use times::day::is_day;
 use times::net::NetParts;
@@ -14,11 +17,17 @@ use times::net::net_parts;
 use times::net::net_value;
 ghost use mathlib.Core.Path.{_≡_};
 ghost use Prim.Native.Nat.{_+_, _<_};
+ghost use lib.ListN.{getD};
 ghost use lib.Seq.{sets};
 ghost use Rattle.digits.specs.Text.{oneOf, codes};
 ghost use Rattle.frames.specs.Rules.{isRaw};
 ghost use Rattle.frames.specs.Timing as T;
-ghost use Rattle.frames.specs.Inside as I;
+ghost use Rattle.frames.specs.Shape as S;
+ghost use Rattle.frames.specs.inside.Timing as I;
+
+const PLUS: u8 = b'+';
+
+const MINUS: u8 = b'-';
 
 pub enum TimingKind {
     Clock,
@@ -41,7 +50,7 @@ pub enum Timing {
 pub(crate) fn kind_of(status: u8, letter: u8) -> TimingKind
     ensures { λ r. ⌜ r ≡ T.timingKind status letter ⌝ }
 {
-    if status == 90 {
+    if status == STATUS_Z {
         return TimingKind::Raw;
     }
     if of_clock(letter) {
@@ -73,7 +82,7 @@ pub(crate) fn is_raw(b: u8) -> bool
 
 // Whether the first n bytes are raw. No way out of the loop: so it takes many bytes at once.
 fn raw_run(s: &[u8], n: usize) -> bool
-    ensures { λ r. ⌜ r ≡ I.rawFrom (now (s .entry)) 0 n ⌝ }
+    ensures { λ r. ⌜ r ≡ T.areRaw n (now (s .entry)) ⌝ }
 {
     let mut good = true;
     let mut i = 0;
@@ -86,7 +95,7 @@ fn raw_run(s: &[u8], n: usize) -> bool
 
 // Whether the first n bytes are zero.
 fn zero_run(s: &[u8], n: usize) -> bool
-    ensures { λ r. ⌜ r ≡ I.zeroFrom (now (s .entry)) 0 n ⌝ }
+    ensures { λ r. ⌜ r ≡ T.areZero n (now (s .entry)) ⌝ }
 {
     let mut good = true;
     let mut i = 0;
@@ -101,7 +110,7 @@ fn zero_run(s: &[u8], n: usize) -> bool
 pub(crate) fn spare_wrong(spare: [u8; 2], rest: u8) -> u8
     ensures { λ r. ⌜ r ≡ I.spareWrong spare rest ⌝ }
 {
-    unless(raw_run(&spare, 2), 48, rest)
+    wrong_unless(raw_run(&spare, 2), field::SPARE, rest)
 }
 
 pub(crate) fn unused_wrong(raw_time: [u8; 10], raw_date: [u8; 8]) -> u8
@@ -109,39 +118,45 @@ pub(crate) fn unused_wrong(raw_time: [u8; 10], raw_date: [u8; 8]) -> u8
 {
     let time = zero_run(&raw_time, 10);
     let date = zero_run(&raw_date, 8);
-    unless(time & date, 50, 0)
+    wrong_unless(time & date, field::END, 0)
 }
 
 pub(crate) fn clock_wrong(ticks: u32, day: u32, month: u32, year: u32, rest: u8) -> u8
     ensures { λ r. ⌜ r ≡ I.clockWrong ticks day month year rest ⌝ }
 {
-    let wrong = unless(is_day(day, month, year), 40, rest);
-    let wrong = unless(month <= 99, 40, wrong);
-    let wrong = unless(day <= 99, 40, wrong);
-    unless(ticks <= 863_999_999, 30, wrong)
+    let wrong = wrong_unless(is_day(day, month, year), field::DATE, rest);
+    wrong_unless(ticks <= LAST_TICK, field::TIME, wrong)
+}
+
+fn is_sign(b: u8) -> bool
+    ensures { λ r. ⌜ r ≡ T.isSign b ⌝ }
+{
+    (b == PLUS) | (b == MINUS)
 }
 
 pub(crate) fn net_wrong(time: u32, sign: u8, days: u64, rest: u8) -> u8
     ensures { λ r. ⌜ r ≡ I.netWrong time sign days rest ⌝ }
 {
     let parts = NetParts {
-        minus: sign == 45,
+        minus: sign == MINUS,
         days,
         time,
     };
-    let wrong = unless(is_net(parts), 40, rest);
-    let wrong = unless((sign == b'+') | (sign == b'-'), 40, wrong);
-    unless(time <= 863_999_999, 30, wrong)
+    let wrong = wrong_unless(is_sign(sign) & is_net(parts), field::DATE, rest);
+    wrong_unless(time <= LAST_TICK, field::TIME, wrong)
 }
 
 pub(crate) fn raw_wrong(raw_time: [u8; 10], raw_date: [u8; 8], rest: u8) -> u8
     ensures { λ r. ⌜ r ≡ I.rawWrong «raw_time» «raw_date» rest ⌝ }
 {
-    let wrong = unless(raw_run(&raw_date, 8), 40, rest);
-    unless(raw_run(&raw_time, 10), 30, wrong)
+    let wrong = wrong_unless(raw_run(&raw_date, 8), field::DATE, rest);
+    wrong_unless(raw_run(&raw_time, 10), field::TIME, wrong)
 }
 
-// ---- a record's timing, against the kind that is asked for: 30 where it is of another
+// ---- a record's timing, against the kind that is asked for
+
+// Where a timing of another kind is told: at the time.
+const OTHER_KIND: u8 = field::TIME as u8;
 
 pub(crate) fn timing_wrong(
     kind: TimingKind,
@@ -169,8 +184,8 @@ fn as_clock(timing: Timing, rest: u8) -> u8
             month,
             year,
         } => clock_wrong(ticks, day, month, year, rest),
-        Timing::Net(_) => 30,
-        Timing::Raw => 30,
+        Timing::Net(_) => OTHER_KIND,
+        Timing::Raw => OTHER_KIND,
     }
 }
 
@@ -183,9 +198,9 @@ fn as_net(timing: Timing, rest: u8) -> u8
             day: _,
             month: _,
             year: _,
-        } => 30,
+        } => OTHER_KIND,
         Timing::Net(value) => net_value_wrong(value, rest),
-        Timing::Raw => 30,
+        Timing::Raw => OTHER_KIND,
     }
 }
 
@@ -199,7 +214,7 @@ fn net_value_wrong(value: i64, rest: u8) -> u8
 fn sign_of(minus: bool) -> u8
     ensures { λ r. ⌜ r ≡ T.signOf minus ⌝ }
 {
-    if minus { 45 } else { 43 }
+    if minus { MINUS } else { PLUS }
 }
 
 fn as_raw(timing: Timing, rest: u8) -> u8
@@ -211,8 +226,8 @@ fn as_raw(timing: Timing, rest: u8) -> u8
             day: _,
             month: _,
             year: _,
-        } => 30,
-        Timing::Net(_) => 30,
+        } => OTHER_KIND,
+        Timing::Net(_) => OTHER_KIND,
         Timing::Raw => rest,
     }
 }
@@ -243,16 +258,16 @@ pub(crate) fn timing_wrong_at(s: &[u8], kind: TimingKind) -> u8
     let rest = spare_wrong(spare_at(s), 0);
     match kind {
         TimingKind::Clock => clock_wrong(
-            clock_or_none(s, 30),
-            number_or_none(s, 40, 2),
-            number_or_none(s, 42, 2),
-            number_or_none(s, 44, 4),
+            clock_or_none(s, field::TIME),
+            number_or_none(s, field::DATE, 2),
+            number_or_none(s, field::MONTH, 2),
+            number_or_none(s, field::YEAR, 4),
             rest,
         ),
         TimingKind::Net => net_wrong(
-            clock_or_none(s, 30),
-            byte_at(s, 40),
-            number_or_none(s, 41, 7) as u64,
+            clock_or_none(s, field::TIME),
+            byte_at(s, field::DATE),
+            number_or_none(s, field::DAYS, 7) as u64,
             rest,
         ),
         TimingKind::Raw => raw_wrong(raw_time_at(s), raw_date_at(s), rest),
@@ -262,10 +277,10 @@ pub(crate) fn timing_wrong_at(s: &[u8], kind: TimingKind) -> u8
 fn seen_clock(s: &[u8]) -> Seen
     ensures { λ r. ⌜ r ≡ I.seenClock (now (s .entry)) ⌝ }
 {
-    let ticks = clock_or_none(s, 30);
-    let day = number_or_none(s, 40, 2);
-    let month = number_or_none(s, 42, 2);
-    let year = number_or_none(s, 44, 4);
+    let ticks = clock_or_none(s, field::TIME);
+    let day = number_or_none(s, field::DATE, 2);
+    let month = number_or_none(s, field::MONTH, 2);
+    let year = number_or_none(s, field::YEAR, 4);
     let wrong = clock_wrong(ticks, day, month, year, spare_wrong(spare_at(s), 0));
     Seen {
         timing: Timing::Clock {
@@ -283,12 +298,12 @@ fn seen_clock(s: &[u8]) -> Seen
 fn seen_net(s: &[u8]) -> Seen
     ensures { λ r. ⌜ r ≡ I.seenNet (now (s .entry)) ⌝ }
 {
-    let time = clock_or_none(s, 30);
-    let sign = byte_at(s, 40);
-    let days = number_or_none(s, 41, 7) as u64;
+    let time = clock_or_none(s, field::TIME);
+    let sign = byte_at(s, field::DATE);
+    let days = number_or_none(s, field::DAYS, 7) as u64;
     let wrong = net_wrong(time, sign, days, spare_wrong(spare_at(s), 0));
     let parts = NetParts {
-        minus: sign == 45,
+        minus: sign == MINUS,
         days,
         time,
     };
@@ -324,42 +339,49 @@ fn seen_raw(s: &[u8]) -> Seen
     }
 }
 
+fn byte_past(s: &[u8], at: usize, k: usize) -> u8
+    requires { ⌜ at + k < 256 ⌝ }
+    ensures { λ r. ⌜ r ≡ getD (now (s .entry)) (at + k) 0 ⌝ }
+{
+    byte_at(s, at + k)
+}
+
 fn raw_time_at(s: &[u8]) -> [u8; 10]
-    ensures { λ r. ⌜ r ≡ T.bytesOf (now (s .entry)) 30 10 ⌝ }
+    ensures { λ r. ⌜ r ≡ S.bytesOf (now (s .entry)) 30 10 ⌝ }
 {
     [
-        byte_at(s, 30),
-        byte_at(s, 31),
-        byte_at(s, 32),
-        byte_at(s, 33),
-        byte_at(s, 34),
-        byte_at(s, 35),
-        byte_at(s, 36),
-        byte_at(s, 37),
-        byte_at(s, 38),
-        byte_at(s, 39),
+        byte_past(s, field::TIME, 0),
+        byte_past(s, field::TIME, 1),
+        byte_past(s, field::TIME, 2),
+        byte_past(s, field::TIME, 3),
+        byte_past(s, field::TIME, 4),
+        byte_past(s, field::TIME, 5),
+        byte_past(s, field::TIME, 6),
+        byte_past(s, field::TIME, 7),
+        byte_past(s, field::TIME, 8),
+        byte_past(s, field::TIME, 9),
     ]
 }
 
 fn raw_date_at(s: &[u8]) -> [u8; 8]
-    ensures { λ r. ⌜ r ≡ T.bytesOf (now (s .entry)) 40 8 ⌝ }
+    ensures { λ r. ⌜ r ≡ S.bytesOf (now (s .entry)) 40 8 ⌝ }
 {
     [
-        byte_at(s, 40),
-        byte_at(s, 41),
-        byte_at(s, 42),
-        byte_at(s, 43),
-        byte_at(s, 44),
-        byte_at(s, 45),
-        byte_at(s, 46),
-        byte_at(s, 47),
+        byte_past(s, field::DATE, 0),
+        byte_past(s, field::DATE, 1),
+        byte_past(s, field::DATE, 2),
+        byte_past(s, field::DATE, 3),
+        byte_past(s, field::DATE, 4),
+        byte_past(s, field::DATE, 5),
+        byte_past(s, field::DATE, 6),
+        byte_past(s, field::DATE, 7),
     ]
 }
 
 pub(crate) fn spare_at(s: &[u8]) -> [u8; 2]
-    ensures { λ r. ⌜ r ≡ T.bytesOf (now (s .entry)) 48 2 ⌝ }
+    ensures { λ r. ⌜ r ≡ S.bytesOf (now (s .entry)) 48 2 ⌝ }
 {
-    [byte_at(s, 48), byte_at(s, 49)]
+    [byte_past(s, field::SPARE, 0), byte_past(s, field::SPARE, 1)]
 }
 
 // ---- time and date stored
@@ -382,32 +404,32 @@ pub(crate) fn put_timing(timing: Timing, raw_time: [u8; 10], raw_date: [u8; 8], 
 fn put_clock_timing(ticks: u32, day: u32, month: u32, year: u32, out: &mut [u8])
     ensures { λ _. ⌜ now (out .exit) ≡ sets (now (out .entry)) 30 (I.clockText ticks day month year) ⌝ }
 {
-    put_clock(out, 30, ticks);
-    put_number(out, 40, 2, day as u64);
-    put_number(out, 42, 2, month as u64);
-    put_number(out, 44, 4, year as u64);
+    put_clock(out, field::TIME, ticks);
+    put_number(out, field::DATE, 2, day as u64);
+    put_number(out, field::MONTH, 2, month as u64);
+    put_number(out, field::YEAR, 4, year as u64);
 }
 
 fn put_net(value: i64, out: &mut [u8])
     ensures { λ _. ⌜ now (out .exit) ≡ sets (now (out .entry)) 30 (I.netText value) ⌝ }
 {
     let parts = net_parts(value);
-    put_clock(out, 30, parts.time);
-    put_byte(out, 40, sign_of(parts.minus));
-    put_number(out, 41, 7, parts.days);
+    put_clock(out, field::TIME, parts.time);
+    put_byte(out, field::DATE, sign_of(parts.minus));
+    put_number(out, field::DAYS, 7, parts.days);
 }
 
 fn put_raw(raw_time: [u8; 10], raw_date: [u8; 8], out: &mut [u8])
     ensures { λ _. ⌜ now (out .exit) ≡ sets (now (out .entry)) 30 (I.rawText «raw_time» «raw_date») ⌝ }
 {
-    put_run(out, 30, &raw_time, 10);
-    put_run(out, 40, &raw_date, 8);
+    put_run(out, field::TIME, &raw_time, 10);
+    put_run(out, field::DATE, &raw_date, 8);
 }
 
 // The first n bytes of t, from a place on.
 pub(crate) fn put_run(out: &mut [u8], at: usize, t: &[u8], n: usize)
     requires { ⌜ at + n < 1000 ⌝ }
-    ensures { λ _. ⌜ now (out .exit) ≡ sets (now (out .entry)) at (T.bytesOf (now (t .entry)) 0 n) ⌝ }
+    ensures { λ _. ⌜ now (out .exit) ≡ sets (now (out .entry)) at (S.bytesOf (now (t .entry)) 0 n) ⌝ }
 {
     let mut i = 0;
     while i < n {

@@ -1,4 +1,6 @@
 // Net times: signed days and a time of day as one value in ticks, and back.
+use crate::clock::DAY_TICKS;
+use crate::clock::LAST_TICK;
 use crate::signed::apart;
 use crate::signed::diff;
 ghost use mathlib.Core.Path.{_≡_};
@@ -20,7 +22,7 @@ pub enum NetValue {
 pub fn is_net(parts: NetParts) -> bool
     ensures { λ r. ⌜ r ≡ isNet parts ⌝ }
 {
-    (parts.days <= 9_999_999) & (parts.time <= 863_999_999) & !(parts.minus & (parts.days == 0))
+    (parts.days <= 9_999_999) & (parts.time <= LAST_TICK) & !(parts.minus & (parts.days == 0))
 }
 
 // The value of what a net reply shows; Wrong where none shows these parts.
@@ -30,7 +32,7 @@ pub fn net_value(parts: NetParts) -> NetValue
     if !is_net(parts) {
         return NetValue::Wrong;
     }
-    let days = parts.days * 864_000_000;
+    let days = parts.days * DAY_TICKS;
     let time = parts.time as u64;
     if parts.minus {
         NetValue::Is(diff(time, days))
@@ -44,13 +46,13 @@ pub fn net_parts(value: i64) -> NetParts
     ensures { λ r. ⌜ r ≡ netParts value ⌝ }
 {
     let v = apart(value);
-    let days = v.rest / 864_000_000;
-    let time = v.rest % 864_000_000;
+    let days = v.rest / DAY_TICKS;
+    let time = v.rest % DAY_TICKS;
     if v.negative {
         NetParts {
             minus: true,
             days: days + 1,
-            time: 863_999_999 - time as u32,
+            time: LAST_TICK - time as u32,
         }
     } else {
         NetParts {

@@ -1,4 +1,6 @@
 // Running time: Tnow - Tev - Taux in ticks.
+use crate::clock::DAY_TICKS;
+use crate::clock::LAST_TICK;
 use crate::signed::diff;
 ghost use mathlib.Core.Path.{_≡_};
 ghost use Rattle.times.specs.Running.{inRange, RunningAs};
@@ -25,7 +27,7 @@ pub fn running_time(of: RunningOf) -> Running
     if !in_range(of) {
         return Running::Time;
     }
-    let taux = of.days as u64 * 864_000_000 + of.time as u64;
+    let taux = of.days as u64 * DAY_TICKS + of.time as u64;
     let tnow = of.tnow as u64;
     let tev = of.tev as u64;
     if of.sign == 1 {
@@ -38,8 +40,6 @@ pub fn running_time(of: RunningOf) -> Running
 fn in_range(of: RunningOf) -> bool
     ensures { λ r. ⌜ r ≡ inRange of ⌝ }
 {
-    let times = (of.tnow <= 863_999_999)
-        & (of.tev <= 863_999_999)
-        & ((of.bib != 0) | (of.tev == 0));
-    times & (of.sign <= 1) & (of.days <= 9) & (of.time <= 863_999_999)
+    let times = (of.tnow <= LAST_TICK) & (of.tev <= LAST_TICK) & ((of.bib != 0) | (of.tev == 0));
+    times & (of.sign <= 1) & (of.days <= 9) & (of.time <= LAST_TICK)
 }

@@ -2,7 +2,6 @@
 use Rattle.listing.proofs.ListLaws.{written-fits}
 use lib.ListN.{length-replicate}
 use native.Mathlib.Omega.{arith}
-use Prim.Native.Nat.{ℕ}
 use borrow.Author.Needs.{needs}
 use Rattle.lists.proofs.list_from.Statement.{statement}
 use Rattle.lists.proofs.list_from.Tie as tie
@@ -44,7 +43,10 @@ part-write-all-start : tie.Need-part-write-all-start
 part-write-all-start c = search needs
 
 part-write-all-end : tie.Need-part-write-all-end
-part-write-all-end c = let k = written-fits _ _ _ _ _ _ _ _ (rw (c .before .before .size .given .1) at (c .before .before .before .before .before .before .before .list .ensures)) in omega (arith, k, length-replicate {A = ℕ} 14170 0)
+part-write-all-end c =
+    let k = written-fits _ _ _ _ _ _ _ _ (rw (c .before .before .size .given .1) at (c .before .before .before .before .before .before .before .list .ensures)) in
+    let h = simp length-replicate at k in
+    omega (arith, h)
 
 write-all-requires : tie.Need-write-all-requires
 write-all-requires c κs = search needs

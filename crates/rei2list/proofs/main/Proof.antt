@@ -1,9 +1,7 @@
 -- `rei2list::main` meets its contract. Assumes nothing.
 use lib.ListN.{length-replicate}
-use Prim.Native.Nat.{ℕ}
 use Rattle.listing.proofs.ListLaws.{written-fits}
 use native.Mathlib.Omega.{arith}
-use Prim.Native.Nat.{ℕ}
 use borrow.Author.Needs.{needs}
 use Rattle.rei2list.proofs.main.Statement.{statement}
 use Rattle.rei2list.proofs.main.Tie as tie
@@ -45,7 +43,10 @@ part-write-all-start : tie.Need-part-write-all-start
 part-write-all-start c = search needs
 
 part-write-all-end : tie.Need-part-write-all-end
-part-write-all-end c = let k = written-fits _ _ _ _ _ _ _ _ (rw (c .before .before .size .given .1) at (c .before .before .before .before .before .before .before .list .ensures)) in omega (arith, k, length-replicate {A = ℕ} 14170 0)
+part-write-all-end c =
+    let k = written-fits _ _ _ _ _ _ _ _ (rw (c .before .before .size .given .1) at (c .before .before .before .before .before .before .before .list .ensures)) in
+    let h = simp length-replicate at k in
+    omega (arith, h)
 
 write-all-requires : tie.Need-write-all-requires
 write-all-requires c κs = search needs

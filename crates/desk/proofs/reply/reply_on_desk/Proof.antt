@@ -10,8 +10,9 @@ use Rattle.desk.specs.Limits.{cellSize}
 use Rattle.desk.specs.Memory.{Memory, memory}
 use Rattle.desk.specs.Calls.{replyTried, replies, replyRefused, Did}
 use Rattle.desk.specs.inside.Judging.{replyJudged}
+use Rattle.desk.proofs.WrittenLaws.{with-cell}
 use Rattle.desk.proofs.StepLaws.{took, Room, took-room}
-use Rattle.desk.proofs.OutcomeLaws.{same-first, reply-on, with-cell, reply-done, not-taken}
+use Rattle.desk.proofs.OutcomeLaws.{same-first, reply-on, reply-done, not-taken}
 use borrow.Author.Needs.{needs}
 use Rattle.desk.proofs.reply.reply_on_desk.Statement.{statement}
 use Rattle.desk.proofs.reply.reply_on_desk.Tie as tie

@@ -2,8 +2,6 @@
 use borrow.Author.Needs.{needs}
 use Rattle.frames.proofs.dynamic.dynamic_at.Statement.{statement}
 use Rattle.frames.proofs.dynamic.dynamic_at.Tie as tie
-use Rattle.frames.specs.Inside.{held}
-use Rattle.frames.specs.Dynamic.{dynamicFields}
 
 byte-at-requires : tie.Need-byte-at-requires
 byte-at-requires c κs = search needs
@@ -45,7 +43,6 @@ byte-at-requires-3 : tie.Need-byte-at-requires-3
 byte-at-requires-3 c κs = search needs
 
 returns : tie.Need-returns
-unfolding held dynamicFields
 returns c =
     rw (
       c .byte-at3 .ensures,

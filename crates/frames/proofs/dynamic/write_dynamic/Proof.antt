@@ -3,8 +3,8 @@ use borrow.Author.Needs.{needs}
 use Rattle.frames.proofs.dynamic.write_dynamic.Statement.{statement}
 use Rattle.frames.proofs.dynamic.write_dynamic.Tie as tie
 use Rattle.frames.specs.Dynamic.{dynamic}
-use Rattle.frames.proofs.KindLaws.{wrote-frame, wrote-nothing, plain-length}
-use Rattle.frames.proofs.DynamicLaws.{dynamic-plain}
+use Rattle.frames.proofs.KindLaws.{wrote-frame, wrote-nothing}
+use Rattle.frames.proofs.DynamicLaws.{length-dynamic}
 
 dynamic-wrong-requires : tie.Need-dynamic-wrong-requires
 dynamic-wrong-requires c κs = search needs
@@ -26,11 +26,11 @@ same-length c = search needs
 
 returns : tie.Need-returns
 returns c =
-    wrote-frame dynamic _ _ (plain-length dynamic-plain _) _ (rw (c .before .before .before .before .before .before .before .dynamic-wrong .ensures) at (c .before .before .before .before .before .before .write-tries .ensures)) _ (c .before .before .before .before .enum-told .given .1) (c .before .before .put-dynamic .ensures)
+    wrote-frame dynamic _ _ (length-dynamic _) _ (rw (c .before .before .before .before .before .before .before .dynamic-wrong .ensures) at (c .before .before .before .before .before .before .write-tries .ensures)) _ (c .before .before .before .before .enum-told .given .1) (c .before .before .put-dynamic .ensures)
 
 returns-2 : tie.Need-returns-2
 returns-2 c =
-    wrote-nothing dynamic _ _ (plain-length dynamic-plain _) _ (rw (c .before .before .before .before .dynamic-wrong .ensures) at (c .before .before .before .write-tries .ensures)) _ (c .before .refusal .given .1)
+    wrote-nothing dynamic _ _ (length-dynamic _) _ (rw (c .before .before .before .before .dynamic-wrong .ensures) at (c .before .before .before .write-tries .ensures)) _ (c .before .refusal .given .1)
 
 pub write-dynamic-spec : {M : Type 1} → statement M
 write-dynamic-spec =

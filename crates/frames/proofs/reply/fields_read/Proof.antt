@@ -1,5 +1,5 @@
 -- `frames::reply::fields_read` meets its contract. Assumes nothing.
-use Rattle.frames.specs.Inside.{fieldsRead}
+use Rattle.frames.specs.inside.Reply.{fieldsRead}
 use borrow.Author.Needs.{needs}
 use Rattle.frames.proofs.reply.fields_read.Statement.{statement}
 use Rattle.frames.proofs.reply.fields_read.Tie as tie

@@ -1,5 +1,5 @@
 -- `frames::reply::is_status` meets its contract. Assumes nothing.
-use Rattle.frames.specs.Reply.{isStatus}
+use Rattle.frames.specs.Status.{isStatus}
 use Rattle.digits.specs.Text.{oneOf}
 use mathlib.Core.Bool.{or-assoc, or-false}
 use Rattle.frames.proofs.reply.is_status.Statement.{statement}

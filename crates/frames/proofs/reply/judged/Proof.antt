@@ -3,7 +3,7 @@ use borrow.Author.Needs.{needs}
 use Rattle.frames.proofs.reply.judged.Statement.{statement}
 use Rattle.frames.proofs.reply.judged.Tie as tie
 use borrow.Author.Tests.{eq-eqb, ne-eqb}
-use Rattle.frames.specs.Inside.{judgedAs}
+use Rattle.frames.specs.inside.Reply.{judgedAs}
 
 returns : tie.Need-returns
 unfolding judgedAs

@@ -9,9 +9,6 @@ use Rattle.frames.proofs.reply.reply_wrong.Tie as tie
 kind-of-requires : tie.Need-kind-of-requires
 kind-of-requires c κs = search needs
 
-head-in-requires : tie.Need-head-in-requires
-head-in-requires c κs = search needs
-
 timing-wrong-requires : tie.Need-timing-wrong-requires
 timing-wrong-requires c κs = search needs
 
@@ -19,9 +16,9 @@ head-wrong-requires : tie.Need-head-wrong-requires
 head-wrong-requires c κs = search needs
 
 returns : tie.Need-returns
-returns c = c .head-wrong .ensures ∙ rw (c .before .timing-wrong .ensures, c .before .before .head-in .ensures, c .before .before .before .before .before .before .kind-of .ensures) (reply-wrong-is (c .before .before .before .before .before .before .before .args .r))
+returns c = c .head-wrong .ensures ∙ rw (c .before .timing-wrong .ensures, c .before .before .before .before .before .kind-of .ensures) (reply-wrong-is (c .before .before .before .before .before .before .before .args .r))
 
 pub reply-wrong-spec : {M : Type 1} → statement M
 reply-wrong-spec =
     tie.close
-    (tie.spec kind-of-requires head-in-requires timing-wrong-requires head-wrong-requires returns)
+    (tie.spec kind-of-requires timing-wrong-requires head-wrong-requires returns)

@@ -3,8 +3,9 @@ use borrow.Author.Needs.{needs}
 use Rattle.frames.proofs.request.read_request.Statement.{statement}
 use Rattle.frames.proofs.request.read_request.Tie as tie
 use Rattle.frames.specs.Request.{request}
-use Rattle.frames.proofs.KindLaws.{read-head, plain-read}
-use Rattle.frames.proofs.RequestLaws.{request-plain}
+use Rattle.frames.specs.inside.Held.{requestAt}
+use Rattle.frames.proofs.KindLaws.{read-head, read-record}
+use Rattle.frames.proofs.RequestLaws.{sees-request}
 
 head-of-requires : tie.Need-head-of-requires
 head-of-requires c κs = search needs
@@ -23,7 +24,7 @@ enum-known-refusal c = search needs
 
 returns : tie.Need-returns
 returns c =
-    plain-read request-plain _ _ (c .before .request-at .ensures) _ _ (c .before .before .enum-told .given .1) (c .before .before .before .before .head-of .ensures) (c .judged .ensures)
+    read-record request requestAt sees-request _ _ (c .before .request-at .ensures) _ _ (c .before .before .enum-told .given .1) (c .before .before .before .before .head-of .ensures) (c .judged .ensures)
 
 returns-2 : tie.Need-returns-2
 returns-2 c = read-head request _ _ _ (c .before .refusal .given .1) (c .before .before .before .head-of .ensures)

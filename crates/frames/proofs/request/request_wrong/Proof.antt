@@ -10,54 +10,54 @@ use Rattle.frames.specs.Request.{requestFields}
 is-output-requires : tie.Need-is-output-requires
 is-output-requires c κs = search needs
 
-unless-requires : tie.Need-unless-requires
-unless-requires c κs = search needs
+wrong-unless-requires : tie.Need-wrong-unless-requires
+wrong-unless-requires c κs = search needs
 
-unless-requires-2 : tie.Need-unless-requires-2
-unless-requires-2 c κs = search needs
+wrong-unless-requires-2 : tie.Need-wrong-unless-requires-2
+wrong-unless-requires-2 c κs = search needs
 
-unless-requires-3 : tie.Need-unless-requires-3
-unless-requires-3 c κs = search needs
+wrong-unless-requires-3 : tie.Need-wrong-unless-requires-3
+wrong-unless-requires-3 c κs = search needs
 
-is-channel-requires : tie.Need-is-channel-requires
-is-channel-requires c κs = search needs
+is-request-channel-requires : tie.Need-is-request-channel-requires
+is-request-channel-requires c κs = search needs
 
-unless-requires-4 : tie.Need-unless-requires-4
-unless-requires-4 c κs = search needs
+wrong-unless-requires-4 : tie.Need-wrong-unless-requires-4
+wrong-unless-requires-4 c κs = search needs
 
 is-information-requires : tie.Need-is-information-requires
 is-information-requires c κs = search needs
 
-unless-requires-5 : tie.Need-unless-requires-5
-unless-requires-5 c κs = search needs
+wrong-unless-requires-5 : tie.Need-wrong-unless-requires-5
+wrong-unless-requires-5 c κs = search needs
 
-unless-requires-6 : tie.Need-unless-requires-6
-unless-requires-6 c κs = search needs
+wrong-unless-requires-6 : tie.Need-wrong-unless-requires-6
+wrong-unless-requires-6 c κs = search needs
 
-unless-requires-7 : tie.Need-unless-requires-7
-unless-requires-7 c κs = search needs
+wrong-unless-requires-7 : tie.Need-wrong-unless-requires-7
+wrong-unless-requires-7 c κs = search needs
 
 is-requester-requires : tie.Need-is-requester-requires
 is-requester-requires c κs = search needs
 
-unless-requires-8 : tie.Need-unless-requires-8
-unless-requires-8 c κs = search needs
+wrong-unless-requires-8 : tie.Need-wrong-unless-requires-8
+wrong-unless-requires-8 c κs = search needs
 
 returns : tie.Need-returns
 unfolding wrongIn requestFields recordWrong upTo
 returns c =
     rw (
-      c .unless8 .ensures,
+      c .wrong-unless8 .ensures,
       c .before .is-requester .ensures,
-      c .before .before .unless7 .ensures,
-      c .before .before .before .before .unless6 .ensures,
-      c .before .before .before .before .before .before .unless5 .ensures,
+      c .before .before .wrong-unless7 .ensures,
+      c .before .before .before .before .wrong-unless6 .ensures,
+      c .before .before .before .before .before .before .wrong-unless5 .ensures,
       c .before .before .before .before .before .before .before .is-information .ensures,
-      c .before .before .before .before .before .before .before .before .unless4 .ensures,
-      c .before .before .before .before .before .before .before .before .before .is-channel .ensures,
-      c .before .before .before .before .before .before .before .before .before .before .unless3 .ensures,
-      c .before .before .before .before .before .before .before .before .before .before .before .before .unless2 .ensures,
-      c .before .before .before .before .before .before .before .before .before .before .before .before .before .before .unless .ensures,
+      c .before .before .before .before .before .before .before .before .wrong-unless4 .ensures,
+      c .before .before .before .before .before .before .before .before .before .is-request-channel .ensures,
+      c .before .before .before .before .before .before .before .before .before .before .wrong-unless3 .ensures,
+      c .before .before .before .before .before .before .before .before .before .before .before .before .wrong-unless2 .ensures,
+      c .before .before .before .before .before .before .before .before .before .before .before .before .before .before .wrong-unless .ensures,
       c .before .before .before .before .before .before .before .before .before .before .before .before .before .before .before .is-output .ensures,
     )
 
@@ -66,15 +66,15 @@ request-wrong-spec =
     tie.close
     (tie.spec
     is-output-requires
-    unless-requires
-    unless-requires-2
-    unless-requires-3
-    is-channel-requires
-    unless-requires-4
+    wrong-unless-requires
+    wrong-unless-requires-2
+    wrong-unless-requires-3
+    is-request-channel-requires
+    wrong-unless-requires-4
     is-information-requires
-    unless-requires-5
-    unless-requires-6
-    unless-requires-7
+    wrong-unless-requires-5
+    wrong-unless-requires-6
+    wrong-unless-requires-7
     is-requester-requires
-    unless-requires-8
+    wrong-unless-requires-8
     returns)

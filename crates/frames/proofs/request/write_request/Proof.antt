@@ -3,8 +3,8 @@ use borrow.Author.Needs.{needs}
 use Rattle.frames.proofs.request.write_request.Statement.{statement}
 use Rattle.frames.proofs.request.write_request.Tie as tie
 use Rattle.frames.specs.Request.{request}
-use Rattle.frames.proofs.KindLaws.{wrote-frame, wrote-nothing, plain-length}
-use Rattle.frames.proofs.RequestLaws.{request-plain}
+use Rattle.frames.proofs.KindLaws.{wrote-frame, wrote-nothing}
+use Rattle.frames.proofs.RequestLaws.{length-request}
 
 request-wrong-requires : tie.Need-request-wrong-requires
 request-wrong-requires c κs = search needs
@@ -26,11 +26,11 @@ same-length c = search needs
 
 returns : tie.Need-returns
 returns c =
-    wrote-frame request _ _ (plain-length request-plain _) _ (rw (c .before .before .before .before .before .before .before .request-wrong .ensures) at (c .before .before .before .before .before .before .write-tries .ensures)) _ (c .before .before .before .before .enum-told .given .1) (c .before .before .put-request .ensures)
+    wrote-frame request _ _ (length-request _) _ (rw (c .before .before .before .before .before .before .before .request-wrong .ensures) at (c .before .before .before .before .before .before .write-tries .ensures)) _ (c .before .before .before .before .enum-told .given .1) (c .before .before .put-request .ensures)
 
 returns-2 : tie.Need-returns-2
 returns-2 c =
-    wrote-nothing request _ _ (plain-length request-plain _) _ (rw (c .before .before .before .before .request-wrong .ensures) at (c .before .before .before .write-tries .ensures)) _ (c .before .refusal .given .1)
+    wrote-nothing request _ _ (length-request _) _ (rw (c .before .before .before .before .request-wrong .ensures) at (c .before .before .before .write-tries .ensures)) _ (c .before .refusal .given .1)
 
 pub write-request-spec : {M : Type 1} → statement M
 write-request-spec =

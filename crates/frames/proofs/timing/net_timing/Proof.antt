@@ -3,7 +3,7 @@ use mathlib.Core.Path.{_≡_, sym, ap, _∙_}
 use borrow.Author.Needs.{needs}
 use Rattle.frames.proofs.timing.net_timing.Statement.{statement}
 use Rattle.frames.proofs.timing.net_timing.Tie as tie
-use Rattle.frames.specs.Inside.{valued}
+use Rattle.frames.specs.inside.Timing.{valued}
 use mir.Syntax.{w64}
 use mir.Val.{toZ, ofZ}
 

@@ -6,7 +6,7 @@ use Rattle.frames.proofs.timing.net_value_wrong.Tie as tie
 use mir.Syntax.{w64}
 use mir.ValLaws.{toZ-ofZ}
 use Rattle.times.specs.Net.{netParts}
-use Rattle.frames.specs.Inside.{netValueWrong}
+use Rattle.frames.specs.inside.Timing.{netValueWrong}
 
 net-parts-requires : tie.Need-net-parts-requires
 net-parts-requires c κs = search needs

@@ -9,7 +9,7 @@ use lib.ListN.{length}
 use lib.Seq.{sets}
 use denote.Ref.{now}
 use native.Mathlib.Nat.{sub-zero, add-zero}
-use Rattle.frames.specs.Timing.{bytesOf}
+use Rattle.frames.specs.Shape.{bytesOf}
 use Rattle.frames.proofs.TimingLaws.{store-goes, store-done}
 
 abbrev Inv-loop : tie.InvT-loop

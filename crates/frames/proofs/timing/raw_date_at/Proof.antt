@@ -3,53 +3,53 @@ use borrow.Author.Needs.{needs}
 use Rattle.frames.proofs.timing.raw_date_at.Statement.{statement}
 use Rattle.frames.proofs.timing.raw_date_at.Tie as tie
 
-byte-at-requires : tie.Need-byte-at-requires
-byte-at-requires c κs = search needs
+byte-past-requires : tie.Need-byte-past-requires
+byte-past-requires c κs = search needs
 
-byte-at-requires-2 : tie.Need-byte-at-requires-2
-byte-at-requires-2 c κs = search needs
+byte-past-requires-2 : tie.Need-byte-past-requires-2
+byte-past-requires-2 c κs = search needs
 
-byte-at-requires-3 : tie.Need-byte-at-requires-3
-byte-at-requires-3 c κs = search needs
+byte-past-requires-3 : tie.Need-byte-past-requires-3
+byte-past-requires-3 c κs = search needs
 
-byte-at-requires-4 : tie.Need-byte-at-requires-4
-byte-at-requires-4 c κs = search needs
+byte-past-requires-4 : tie.Need-byte-past-requires-4
+byte-past-requires-4 c κs = search needs
 
-byte-at-requires-5 : tie.Need-byte-at-requires-5
-byte-at-requires-5 c κs = search needs
+byte-past-requires-5 : tie.Need-byte-past-requires-5
+byte-past-requires-5 c κs = search needs
 
-byte-at-requires-6 : tie.Need-byte-at-requires-6
-byte-at-requires-6 c κs = search needs
+byte-past-requires-6 : tie.Need-byte-past-requires-6
+byte-past-requires-6 c κs = search needs
 
-byte-at-requires-7 : tie.Need-byte-at-requires-7
-byte-at-requires-7 c κs = search needs
+byte-past-requires-7 : tie.Need-byte-past-requires-7
+byte-past-requires-7 c κs = search needs
 
-byte-at-requires-8 : tie.Need-byte-at-requires-8
-byte-at-requires-8 c κs = search needs
+byte-past-requires-8 : tie.Need-byte-past-requires-8
+byte-past-requires-8 c κs = search needs
 
 returns : tie.Need-returns
 returns c =
     rw (
-      c .byte-at8 .ensures,
-      c .before .byte-at7 .ensures,
-      c .before .before .byte-at6 .ensures,
-      c .before .before .before .byte-at5 .ensures,
-      c .before .before .before .before .byte-at4 .ensures,
-      c .before .before .before .before .before .byte-at3 .ensures,
-      c .before .before .before .before .before .before .byte-at2 .ensures,
-      c .before .before .before .before .before .before .before .byte-at .ensures,
+      c .byte-past8 .ensures,
+      c .before .byte-past7 .ensures,
+      c .before .before .byte-past6 .ensures,
+      c .before .before .before .byte-past5 .ensures,
+      c .before .before .before .before .byte-past4 .ensures,
+      c .before .before .before .before .before .byte-past3 .ensures,
+      c .before .before .before .before .before .before .byte-past2 .ensures,
+      c .before .before .before .before .before .before .before .byte-past .ensures,
     )
 
 pub raw-date-at-spec : {M : Type 1} → statement M
 raw-date-at-spec =
     tie.close
     (tie.spec
-    byte-at-requires
-    byte-at-requires-2
-    byte-at-requires-3
-    byte-at-requires-4
-    byte-at-requires-5
-    byte-at-requires-6
-    byte-at-requires-7
-    byte-at-requires-8
+    byte-past-requires
+    byte-past-requires-2
+    byte-past-requires-3
+    byte-past-requires-4
+    byte-past-requires-5
+    byte-past-requires-6
+    byte-past-requires-7
+    byte-past-requires-8
     returns)

@@ -7,13 +7,13 @@ use Prim.Native.Nat.{_-_, _≤_}
 use Rattle.frames.specs.Rules.{isRaw}
 use borrow.Author.Needs.{needs}
 use denote.Ref.{now}
-use Rattle.frames.specs.Inside.{rawFrom}
+use Rattle.frames.specs.Shape.{allFrom}
 use Rattle.frames.proofs.TimingLaws.{run-goes, run-done}
 use Rattle.frames.proofs.timing.raw_run.Statement.{statement}
 use Rattle.frames.proofs.timing.raw_run.Tie as tie
 
 abbrev Inv-loop : tie.InvT-loop
-Inv-loop s n good₀ i₀ good i = (rawFrom s 0 n ≡ good && rawFrom s i (n - i)) × (i ≤ n)
+Inv-loop s n good₀ i₀ good i = (allFrom isRaw s 0 n ≡ good && allFrom isRaw s i (n - i)) × (i ≤ n)
 
 abbrev μ-loop : tie.MeasureT-loop
 μ-loop s n good₀ i₀ good i = n - i

@@ -9,8 +9,8 @@ slice-aggregate-raw-run c = search needs
 raw-run-requires : tie.Need-raw-run-requires
 raw-run-requires c κs = search needs
 
-unless-requires : tie.Need-unless-requires
-unless-requires c κs = search needs
+wrong-unless-requires : tie.Need-wrong-unless-requires
+wrong-unless-requires c κs = search needs
 
 slice-aggregate-raw-run-2 : tie.Need-slice-aggregate-raw-run-2
 slice-aggregate-raw-run-2 c = search needs
@@ -18,15 +18,15 @@ slice-aggregate-raw-run-2 c = search needs
 raw-run-requires-2 : tie.Need-raw-run-requires-2
 raw-run-requires-2 c κs = search needs
 
-unless-requires-2 : tie.Need-unless-requires-2
-unless-requires-2 c κs = search needs
+wrong-unless-requires-2 : tie.Need-wrong-unless-requires-2
+wrong-unless-requires-2 c κs = search needs
 
 returns : tie.Need-returns
 returns c =
     rw (
-      c .unless2 .ensures,
+      c .wrong-unless2 .ensures,
       c .before .raw-run2 .ensures,
-      c .before .before .before .unless .ensures,
+      c .before .before .before .wrong-unless .ensures,
       c .before .before .before .before .raw-run .ensures,
     )
 
@@ -36,8 +36,8 @@ raw-wrong-spec =
     (tie.spec
     slice-aggregate-raw-run
     raw-run-requires
-    unless-requires
+    wrong-unless-requires
     slice-aggregate-raw-run-2
     raw-run-requires-2
-    unless-requires-2
+    wrong-unless-requires-2
     returns)

@@ -2,7 +2,7 @@
 use borrow.Author.Needs.{needs}
 use Rattle.frames.proofs.timing.seen_clock.Statement.{statement}
 use Rattle.frames.proofs.timing.seen_clock.Tie as tie
-use Rattle.frames.specs.Inside.{seenClock}
+use Rattle.frames.specs.inside.Timing.{seenClock}
 
 clock-or-none-requires : tie.Need-clock-or-none-requires
 clock-or-none-requires c κs = search needs

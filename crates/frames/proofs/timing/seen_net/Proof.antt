@@ -2,7 +2,7 @@
 use borrow.Author.Needs.{needs}
 use Rattle.frames.proofs.timing.seen_net.Statement.{statement}
 use Rattle.frames.proofs.timing.seen_net.Tie as tie
-use Rattle.frames.specs.Inside.{seenNet}
+use Rattle.frames.specs.inside.Timing.{seenNet}
 
 clock-or-none-requires : tie.Need-clock-or-none-requires
 clock-or-none-requires c κs = search needs

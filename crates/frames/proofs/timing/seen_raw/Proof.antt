@@ -2,7 +2,7 @@
 use borrow.Author.Needs.{needs}
 use Rattle.frames.proofs.timing.seen_raw.Statement.{statement}
 use Rattle.frames.proofs.timing.seen_raw.Tie as tie
-use Rattle.frames.specs.Inside.{seenRaw}
+use Rattle.frames.specs.inside.Timing.{seenRaw}
 
 raw-time-at-requires : tie.Need-raw-time-at-requires
 raw-time-at-requires c κs = search needs

@@ -9,16 +9,16 @@ slice-aggregate-raw-run c = search needs
 raw-run-requires : tie.Need-raw-run-requires
 raw-run-requires c κs = search needs
 
-unless-requires : tie.Need-unless-requires
-unless-requires c κs = search needs
+wrong-unless-requires : tie.Need-wrong-unless-requires
+wrong-unless-requires c κs = search needs
 
 returns : tie.Need-returns
 returns c =
     rw (
-      c .unless .ensures,
+      c .wrong-unless .ensures,
       c .before .raw-run .ensures,
     )
 
 pub spare-wrong-spec : {M : Type 1} → statement M
 spare-wrong-spec =
-    tie.close (tie.spec slice-aggregate-raw-run raw-run-requires unless-requires returns)
+    tie.close (tie.spec slice-aggregate-raw-run raw-run-requires wrong-unless-requires returns)

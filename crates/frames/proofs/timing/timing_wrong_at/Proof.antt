@@ -1,5 +1,5 @@
 -- `frames::timing::timing_wrong_at` meets its contract. Assumes nothing.
-use Rattle.frames.specs.Inside.{seenClock, seenNet, seenRaw}
+use Rattle.frames.specs.inside.Timing.{seenClock, seenNet, seenRaw}
 use borrow.Author.Needs.{needs}
 use Rattle.frames.proofs.timing.timing_wrong_at.Statement.{statement}
 use Rattle.frames.proofs.timing.timing_wrong_at.Tie as tie

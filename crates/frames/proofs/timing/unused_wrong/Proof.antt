@@ -15,13 +15,13 @@ slice-aggregate-zero-run-2 c = search needs
 zero-run-requires-2 : tie.Need-zero-run-requires-2
 zero-run-requires-2 c κs = search needs
 
-unless-requires : tie.Need-unless-requires
-unless-requires c κs = search needs
+wrong-unless-requires : tie.Need-wrong-unless-requires
+wrong-unless-requires c κs = search needs
 
 returns : tie.Need-returns
 returns c =
     rw (
-      c .unless .ensures,
+      c .wrong-unless .ensures,
       c .before .zero-run2 .ensures,
       c .before .before .before .zero-run .ensures,
     )
@@ -34,5 +34,5 @@ unused-wrong-spec =
     zero-run-requires
     slice-aggregate-zero-run-2
     zero-run-requires-2
-    unless-requires
+    wrong-unless-requires
     returns)

@@ -8,7 +8,7 @@ use Prim.Native.Nat.{ℕ}
 use lib.Dec.{eqb}
 use borrow.Author.Needs.{needs}
 use denote.Ref.{now}
-use Rattle.frames.specs.Inside.{zeroFrom}
+use Rattle.frames.specs.Shape.{allFrom}
 use Rattle.frames.proofs.TimingLaws.{run-goes, run-done}
 use Rattle.frames.proofs.timing.zero_run.Statement.{statement}
 use Rattle.frames.proofs.timing.zero_run.Tie as tie
@@ -17,7 +17,7 @@ abbrev zero-byte : ℕ → Bool
 zero-byte b = eqb b 0
 
 abbrev Inv-loop : tie.InvT-loop
-Inv-loop s n good₀ i₀ good i = (zeroFrom s 0 n ≡ good && zeroFrom s i (n - i)) × (i ≤ n)
+Inv-loop s n good₀ i₀ good i = (allFrom (λ b. eqb b 0) s 0 n ≡ good && allFrom (λ b. eqb b 0) s i (n - i)) × (i ≤ n)
 
 abbrev μ-loop : tie.MeasureT-loop
 μ-loop s n good₀ i₀ good i = n - i

@@ -1,0 +1,22 @@
+-- The status letters of a reply: R is one record of an answer, E its last, Z says that there is none.
+use Prim.Native.Nat.{ℕ}
+use mathlib.Core.Bool.{Bool}
+use mathlib.Core.List.{[], _∷_}
+use lib.Dec.{eqb}
+use Rattle.digits.specs.Text.{oneOf}
+
+abbrev pub statusR : ℕ
+statusR = 82
+
+abbrev pub statusE : ℕ
+statusE = 69
+
+abbrev pub statusZ : ℕ
+statusZ = 90
+
+unfoldable pub isStatus : ℕ → Bool
+isStatus = oneOf (statusR ∷ statusE ∷ statusZ ∷ [])
+
+-- "not available"
+abbrev pub isZ : ℕ → Bool
+isZ status = eqb status statusZ

@@ -1,0 +1,50 @@
+// The bytes around the fields of every kind: lead byte, R and address in front, CR behind.
+use crate::refusals::ReadRefusal;
+use crate::refusals::ReadVerdict;
+use digits::byte_at;
+use digits::put_byte;
+ghost use mathlib.Core.Path.{_≡_};
+ghost use mathlib.Core.List.{[], _∷_};
+ghost use Prim.Native.Nat.{_<_};
+ghost use lib.Seq.{sets};
+ghost use Rattle.frames.specs.Refusals.{verdictTold};
+ghost use Rattle.frames.specs.Rules.{space};
+ghost use Rattle.frames.specs.Kind.{letterR, headTold};
+
+pub const LETTER: u8 = b'R';
+
+pub const SPACE: u8 = b' ';
+
+pub const CR: u8 = 13;
+
+// The first bytes, the length and the last byte, before any field.
+pub fn head_of(s: &[u8], lead: u8, size: usize) -> ReadVerdict
+    requires { ⌜ (0 < lead) × (0 < size) ⌝ }
+    ensures { λ r. ⌜ verdictTold r ≡ headTold lead size (now (s .entry)) ⌝ }
+{
+    if byte_at(s, 0) != lead {
+        return ReadVerdict::Refused(ReadRefusal::Kind);
+    }
+    if s.len() != size {
+        return ReadVerdict::Refused(ReadRefusal::Length);
+    }
+    if byte_at(s, size - 1) != CR {
+        return ReadVerdict::Refused(ReadRefusal::End);
+    }
+    if byte_at(s, 1) != LETTER {
+        return ReadVerdict::Refused(ReadRefusal::Address);
+    }
+    if byte_at(s, 2) != SPACE {
+        return ReadVerdict::Refused(ReadRefusal::Address);
+    }
+    ReadVerdict::Read
+}
+
+// The lead byte, R and the address.
+pub fn put_head(out: &mut [u8], lead: u8)
+    ensures { λ _. ⌜ now (out .exit) ≡ sets (now (out .entry)) 0 (lead ∷ letterR ∷ space ∷ []) ⌝ }
+{
+    put_byte(out, 0, lead);
+    put_byte(out, 1, LETTER);
+    put_byte(out, 2, SPACE);
+}
