@@ -12,9 +12,11 @@ use Rattle.times.specs.Day.{leap, monthLength, realDay}
 use Rattle.times.specs.Net.{isNet}
 use Rattle.times.specs.Running.{inRange, runningTime}
 use Rattle.frames.specs.Rules.{between, upTo, isRaw, isRequester, isOutput}
-use Rattle.frames.specs.Layout.{firstWrong, values, recordWrong}
+use Rattle.frames.specs.Shape.{allFrom}
+use Rattle.frames.specs.Layout.{fieldsOf, recordWrong}
 use Rattle.frames.specs.Kind.{headTold, read, wrongIn, writeTried}
-use Rattle.frames.specs.Timing.{timingKind, isSign, timeAndDate, timed}
+use Rattle.frames.specs.Status.{isStatus}
+use Rattle.frames.specs.Timing.{timingKind, isSign, timed}
 use Rattle.frames.specs.Request as Q
 use Rattle.frames.specs.declared.reply.StaticReply.{StaticReply}
 use Rattle.frames.specs.Reply as P
@@ -53,7 +55,7 @@ unfolding first capacityOf nextHeld
 cells-held = record { first = refl; later = refl; no-more = refl; not-held = refl }
 
 desk-calls : DeskCalls
-unfolding numberAt numberFrom oneOf between upTo isRaw isRequester isOutput firstWrong values headTold read timingKind timeAndDate timed Q.isInformation Q.isChannel Q.requestFields P.isStatus P.isLetter P.isChannel P.leastRun P.replyFields allBelow countBelow first sameKey isKey heard ends inPlace keyed seatWith lowestClear capacityOf isZero markNames lastEnds isDesk keyTried requestTried openTried opens seatTried labelTried replyTried replies resets run
+unfolding numberAt numberFrom oneOf between upTo isRaw isRequester isOutput allFrom fieldsOf headTold read timingKind timed Q.isInformation Q.isRequestChannel Q.requestFields isStatus P.isLetter P.isReplyChannel P.leastRun P.fromBib P.replyFields allBelow countBelow first sameKey isKey heard ends inPlace keyed seatWith lowestClear capacityOf isZero markNames lastEnds isDesk keyTried requestTried openTried opens seatTried labelTried replyTried replies resets run
 desk-calls = record {
   emptied = refl;
   not-emptied = refl;
@@ -88,7 +90,7 @@ unfolding capturedBy
 captured-by m s ps a e h = ap (capturedBy m) e ∙ h
 
 good-reply : (r : StaticReply) × (read reply (replying "E") ≡ gives r)
-unfolding numberAt numberFrom oneOf between upTo isRaw isRequester firstWrong values headTold read timingKind timeAndDate timed P.isStatus P.isLetter P.isChannel P.leastRun P.replyFields
+unfolding numberAt numberFrom oneOf between upTo isRaw isRequester allFrom fieldsOf headTold read timingKind timed isStatus P.isLetter P.isReplyChannel P.leastRun P.fromBib P.replyFields
 good-reply = (_, refl)
 
 no-more : piecesFrom (replying "E") 51 ≡ []
@@ -108,7 +110,7 @@ unfolding oneOf isLead walk piecesFrom
 request-and-leads = refl
 
 captures-taken : CapturesTaken
-unfolding capturedBy numberAt numberFrom oneOf between upTo isRaw isRequester isOutput firstWrong values headTold read timingKind timeAndDate timed Q.isInformation Q.isChannel Q.requestFields P.isStatus P.isLetter P.isChannel P.leastRun P.replyFields D.isOrder D.isChannel D.leastPeriod D.dynamicFields ticksOf allBelow countBelow first sameKey isKey heard ends inPlace keyed seatWith lowestClear capacityOf isZero markNames lastEnds isDesk keyTried requestTried openTried opens seatTried labelTried replyTried replies meets fates afterAll howMany
+unfolding capturedBy numberAt numberFrom oneOf between upTo isRaw isRequester isOutput allFrom fieldsOf headTold read timingKind timed Q.isInformation Q.isRequestChannel Q.requestFields isStatus P.isLetter P.isReplyChannel P.leastRun P.fromBib P.replyFields D.isOrder D.isDynamicChannel D.leastPeriod D.dynamicFields ticksOf allBelow countBelow first sameKey isKey heard ends inPlace keyed seatWith lowestClear capacityOf isZero markNames lastEnds isDesk keyTried requestTried openTried opens seatTried labelTried replyTried replies meets fates afterAll howMany
 captures-taken = record {
   asked-and-cut = captured-by bare _ _ _ request-and-leads refl;
   replied = captured-by asked _ _ _ one-reply refl;
@@ -117,15 +119,15 @@ captures-taken = record {
 }
 
 frames-read : FramesRead
-unfolding numberAt numberFrom oneOf ticksOf leap monthLength realDay isNet between upTo isRaw isRequester isOutput firstWrong values headTold read timingKind isSign timeAndDate timed Q.isInformation Q.isChannel Q.requestFields P.isStatus P.isLetter P.isChannel P.leastRun P.replyFields D.isOrder D.isChannel D.leastPeriod D.dynamicFields
+unfolding numberAt numberFrom oneOf ticksOf leap monthLength realDay isNet between upTo isRaw isRequester isOutput allFrom fieldsOf headTold read timingKind isSign timed Q.isInformation Q.isRequestChannel Q.requestFields isStatus P.isLetter P.isReplyChannel P.leastRun P.fromBib P.replyFields D.isOrder D.isDynamicChannel D.leastPeriod D.dynamicFields
 frames-read = record { request-read = refl; request-refused = refl; reply-read = refl; reply-refused = refl; dynamic-read = refl; dynamic-refused = refl }
 
 frames-written : FramesWritten
-unfolding oneOf leap monthLength realDay between upTo isRaw isRequester isOutput recordWrong wrongIn writeTried timingKind timeAndDate timed Q.isInformation Q.isChannel Q.requestFields P.isStatus P.isLetter P.isChannel P.leastRun P.replyFields timingOf leftOver wrongInC
+unfolding oneOf leap monthLength realDay between upTo isRaw isRequester isOutput allFrom recordWrong wrongIn writeTried timingKind timed Q.isInformation Q.isRequestChannel Q.requestFields isStatus P.isLetter P.isReplyChannel P.leastRun P.fromBib P.replyFields timingOf leftOver wrongInC
 frames-written = record { written = refl; no-record = refl; no-room = refl; reply-written = refl; left-over = refl; reply-room = refl }
 
 timing-numbered : TimingNumbered
-unfolding oneOf leap monthLength realDay isNet between upTo isRaw isRequester recordWrong wrongIn timingKind isSign timeAndDate timed P.isStatus P.isLetter P.isChannel P.leastRun P.replyFields timingOf leftOver wrongInC
+unfolding oneOf leap monthLength realDay isNet between upTo isRaw isRequester allFrom recordWrong wrongIn timingKind isSign timed isStatus P.isLetter P.isReplyChannel P.leastRun P.fromBib P.replyFields timingOf leftOver wrongInC
 timing-numbered = record {
   raw = refl;
   clock = refl;

@@ -20,10 +20,10 @@ use Rattle.frames.specs.declared.reply.StaticReply.{StaticReply}
 use Rattle.frames.specs.declared.refusals.WriteAnswer.{WriteAnswer}
 use Rattle.frames.specs.Refusals.{writeTold}
 use Rattle.frames.specs.Layout.{recordWrong}
-use Rattle.frames.specs.Timing.{timed, timeAndDate, timedValues}
+use Rattle.frames.specs.Timing.{timed}
 use Rattle.frames.specs.Kind.{wrongIn, frameOf, writeTried, outputAfter, Wrote}
 use Rattle.frames.specs.Reply.{reply}
-use Rattle.frames.proofs.ReplyLaws.{tail-fine}
+use Rattle.frames.proofs.ReplyLaws.{times-fine}
 use Rattle.rei2.specs.declared.reply.TimingNumbers.{TimingNumbers}
 use Rattle.rei2.specs.declared.reply.ReplyRecord.{ReplyRecord}
 use Rattle.rei2.specs.Frames.{writtenAnswer}
@@ -75,7 +75,7 @@ timing-back Raw = refl
 
 shown-back : (r : StaticReply) → recordOf (shown r) ≡ r
 shown-back r =
-    λ i. record { program = r .program; mode = r .mode; status = r .status; requester = r .requester; number = r .number; bib = r .bib; group = r .group; run = r .run; physical = r .physical; channel = r .channel; information = r .information; timing = timing-back (r .timing) i; «raw_time» = r .«raw_time»; «raw_date» = r .«raw_date»; spare = r .spare }
+    λ i. record { head = r .head; timing = timing-back (r .timing) i; «raw_time» = r .«raw_time»; «raw_date» = r .«raw_date»; spare = r .spare }
 
 none-over : (t : Timing) → leftOver (numbersOf t) ≡ false
 unfolding leftOver
@@ -150,8 +150,8 @@ is-zero (negsuc n) e = absurd (false≢true e)
 
 -- a code that is none is of no kind
 no-time-wrong : (kind : TimingKind) (rawTime rawDate spare : List ℕ)
-    → recordWrong (timed kind) (timedValues kind (record { timing = noTime; rawTime = rawTime; rawDate = rawDate; spare = spare })) ≡ 0 → ⊥
-unfolding recordWrong timed timeAndDate
+    → recordWrong (timed kind) (record { timing = noTime; rawTime = rawTime; rawDate = rawDate; spare = spare }) ≡ 0 → ⊥
+unfolding recordWrong timed
 no-time-wrong clockKind a b c e = omega (arith, e)
 no-time-wrong netKind a b c e = omega (arith, e)
 no-time-wrong rawKind a b c e = omega (arith, e)
@@ -200,6 +200,6 @@ records-match = record {
   same-wrong = λ r. first-then _ _ (none-over (r .timing)) ∙ ap (wrongIn reply) (shown-back r);
   back-and-there = λ c fine.
       let f = all-fine (wrongIn reply (recordOf c)) (leftOver (c .timing)) fine in
-      let same : numbersOf (timingOf (c .timing)) ≡ c .timing = numbers-back (c .timing) (λ e. no-time-wrong _ _ _ _ (rw e at (tail-fine (recordOf c) (f .0)))) (f .1) in
+      let same : numbersOf (timingOf (c .timing)) ≡ c .timing = numbers-back (c .timing) (λ e. no-time-wrong _ _ _ _ (rw e at (times-fine (recordOf c) (f .0)))) (f .1) in
       λ i. record { head = c .head; timing = same i; «raw_time» = c .«raw_time»; «raw_date» = c .«raw_date»; spare = c .spare };
 }

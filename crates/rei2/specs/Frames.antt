@@ -7,7 +7,7 @@ use Rattle.digits.specs.Told.{Told, gives, refuses}
 use Rattle.frames.specs.declared.request.StaticRequest.{StaticRequest}
 use Rattle.frames.specs.declared.dynamic.DynamicRequest.{DynamicRequest}
 use Rattle.frames.specs.Kind.{Kind, wrongIn, writeTried}
-use Rattle.frames.specs.Demand2.{outputOf}
+use Rattle.frames.specs.Faithful.{outputOf}
 use Rattle.rei2.specs.declared.request.RequestAnswer.{RequestAnswer}
 use Rattle.rei2.specs.declared.request.WrittenAnswer.{WrittenAnswer}
 use Rattle.rei2.specs.declared.dynamic.DynamicAnswer.{DynamicAnswer}

@@ -64,11 +64,11 @@ leftOver n = not (cond (eqb (n .kind) CLOCK) (isNothing (n .net)) (cond (eqb (n 
 
 abbrev pub shown : StaticReply → ReplyRecord
 shown r =
-    record { head = record { program = r .program; mode = r .mode; status = r .status; requester = r .requester; number = r .number; bib = r .bib; group = r .group; run = r .run; physical = r .physical; channel = r .channel; information = r .information }; timing = numbersOf (r .timing); «raw_time» = r .«raw_time»; «raw_date» = r .«raw_date»; spare = r .spare }
+    record { head = r .head; timing = numbersOf (r .timing); «raw_time» = r .«raw_time»; «raw_date» = r .«raw_date»; spare = r .spare }
 
 abbrev pub recordOf : ReplyRecord → StaticReply
 recordOf r =
-    record { program = r .head .program; mode = r .head .mode; status = r .head .status; requester = r .head .requester; number = r .head .number; bib = r .head .bib; group = r .head .group; run = r .head .run; physical = r .head .physical; channel = r .head .channel; information = r .head .information; timing = timingOf (r .timing); «raw_time» = r .«raw_time»; «raw_date» = r .«raw_date»; spare = r .spare }
+    record { head = r .head; timing = timingOf (r .timing); «raw_time» = r .«raw_time»; «raw_date» = r .«raw_date»; spare = r .spare }
 
 -- ---- reading
 

@@ -5,6 +5,7 @@ use digits::refusal as table;
 use frames::refusals::ReadVerdict;
 use frames::refusals::of_reading;
 use frames::reply::REPLY_SIZE;
+use frames::reply::ReplyHead;
 use frames::reply::StaticReply;
 use frames::reply::read_reply;
 use frames::reply::write_reply;
@@ -34,21 +35,6 @@ pub struct TimingNumbers {
     pub month: u32,
     pub year: u32,
     pub net: i64,
-}
-
-#[repr(C)]
-pub struct ReplyHead {
-    pub program: u8,
-    pub mode: u8,
-    pub status: u8,
-    pub requester: u8,
-    pub number: u32,
-    pub bib: u32,
-    pub group: u32,
-    pub run: u32,
-    pub physical: u32,
-    pub channel: u32,
-    pub information: u8,
 }
 
 #[repr(C)]
@@ -223,24 +209,13 @@ fn no_date(n: TimingNumbers) -> bool
 fn shown(r: StaticReply) -> ReplyRecord
     ensures { λ a. ⌜ a ≡ shown r ⌝ }
 {
+    let head = r.head;
     let timing = r.timing;
     let raw_time = r.raw_time;
     let raw_date = r.raw_date;
     let spare = r.spare;
     ReplyRecord {
-        head: ReplyHead {
-            program: r.program,
-            mode: r.mode,
-            status: r.status,
-            requester: r.requester,
-            number: r.number,
-            bib: r.bib,
-            group: r.group,
-            run: r.run,
-            physical: r.physical,
-            channel: r.channel,
-            information: r.information,
-        },
+        head,
         timing: numbers_of(timing),
         raw_time,
         raw_date,
@@ -257,17 +232,7 @@ fn record_of(r: ReplyRecord) -> StaticReply
     let raw_date = r.raw_date;
     let spare = r.spare;
     StaticReply {
-        program: head.program,
-        mode: head.mode,
-        status: head.status,
-        requester: head.requester,
-        number: head.number,
-        bib: head.bib,
-        group: head.group,
-        run: head.run,
-        physical: head.physical,
-        channel: head.channel,
-        information: head.information,
+        head,
         timing: timing_of(timing),
         raw_time,
         raw_date,

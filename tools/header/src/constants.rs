@@ -7,11 +7,12 @@ use crate::spec::Spec;
 use std::path::Path;
 
 /// Each constant of `enum rei2_limit`, and where its number stands below the crates: a constant of a source; and in a
-/// file of specs a definition, a field of one, or a case `NAME ≡ NUMBER` of one that is a formula.
+/// file of specs a definition, a field of one, or a case of one that is a formula, `NAME ≡ NUMBER` or
+/// `NAME ≡ record { FIELD = NUMBER }`.
 const LIMITS: [(&str, [(&str, &str); 2]); 12] = [
     ("REI2_SEATS", [("desk/src/limits.rt", "SEATS"), ("desk/specs/Limits.antt", "seatCount")]),
     ("REI2_CELLS", [("desk/src/limits.rt", "CELLS"), ("desk/specs/Limits.antt", "mostCells")]),
-    ("REI2_CELL_SIZE", [("desk/src/limits.rt", "CELL_SIZE"), ("desk/specs/Limits.antt", "cellSize")]),
+    ("REI2_CELL_SIZE", [("desk/src/limits.rt", "CELL_SIZE"), ("rei2/specs/Cases.antt", "limits ≡ .cell_size")]),
     ("REI2_REQUEST_SIZE", [("frames/src/request.rt", "REQUEST_SIZE"), ("frames/specs/Request.antt", "request .size")]),
     ("REI2_REPLY_SIZE", [("frames/src/reply.rt", "REPLY_SIZE"), ("frames/specs/Reply.antt", "reply .size")]),
     ("REI2_DYNAMIC_SIZE", [("frames/src/dynamic.rt", "DYNAMIC_SIZE"), ("frames/specs/Dynamic.antt", "dynamic .size")]),

@@ -13,13 +13,23 @@ impl Spec {
     pub fn read(root: &Path, file: &str) -> Result<Spec, String> {
         let path = root.join(file);
         let text = fs::read_to_string(&path).map_err(|e| format!("{}: cannot be read: {e}", path.display()))?;
-        Ok(Spec { tokens: lex::tokens(&text, Language::Antt) })
+        let mut tokens = lex::tokens(&text, Language::Antt);
+        // a name in these marks is the name
+        tokens.retain(|token| token.text != "«" && token.text != "»");
+        Ok(Spec { tokens })
     }
 
     /// What begins at a line's first column, with the lines below it that do not.
     fn items(&self) -> impl Iterator<Item = Vec<&str>> {
         let items = self.tokens.chunk_by(|_, next| !next.first);
         items.map(|item| item.iter().map(|token| token.text.as_str()).collect())
+    }
+
+    /// What stands behind each `NAME ≡`.
+    fn cases<'a>(&'a self, name: &'a str) -> impl Iterator<Item = Vec<&'a str>> {
+        let words = self.tokens.windows(2).enumerate();
+        let found = words.filter(move |(_, w)| w[0].text == name && w[1].text == "≡");
+        found.map(|(i, _)| self.tokens[i + 2..].iter().map(|token| token.text.as_str()).collect())
     }
 
     /// Each `NAME = NUMBER`.
@@ -31,16 +41,19 @@ impl Spec {
         self.items().filter_map(number).collect()
     }
 
-    /// The number of a definition; with `NAME .FIELD` that of a field of the record that it is, and with `NAME ≡` that
-    /// of a case; none unless there is just one.
+    /// The number of a definition; with `NAME .FIELD` that of a field of the record that it is; with `NAME ≡` and
+    /// `NAME ≡ .FIELD` those of a case; none unless there is just one.
     pub fn number(&self, of: &str) -> Option<u64> {
+        if let Some((name, wanted)) = of.split_once(" ≡ .") {
+            let cases = self.cases(name).filter(|case| case.starts_with(&["record", "{"]));
+            return single(cases.filter_map(|case| lex::number(field(&case, wanted)?)));
+        }
         if let Some((name, wanted)) = of.split_once(" .") {
             let records = self.items().filter(|item| item.starts_with(&[name, "=", "record", "{"]));
             return single(records.filter_map(|item| lex::number(field(&item, wanted)?)));
         }
         if let Some(name) = of.strip_suffix(" ≡") {
-            let cases = self.tokens.windows(3).filter(|w| w[0].text == name && w[1].text == "≡");
-            return single(cases.filter_map(|w| lex::number(&w[2].text)));
+            return single(self.cases(name).filter_map(|case| lex::number(case.first()?)));
         }
         single(self.numbers().into_iter().filter(|(name, _)| name == of).map(|(_, value)| value))
     }

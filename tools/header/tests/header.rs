@@ -6,11 +6,12 @@ use std::sync::atomic::{AtomicUsize, Ordering};
 use std::{env, fs, process};
 
 /// The files of the right pair, each a path and its text.
-const FILES: [(&str, &str); 24] = [
+const FILES: [(&str, &str); 25] = [
     ("crates/rei2/src/lib.rt", "pub mod calls;\n"),
     ("crates/rei2/src/calls.rt", CALLS),
     ("crates/rei2/src/names.rt", "pub const NAME_SIZE: usize = 14;\n"),
     ("crates/rei2/specs/Names.antt", "abbrev pub nameSize : ℕ\nnameSize = 14\n"),
+    ("crates/rei2/specs/Cases.antt", LENT),
     ("crates/desk/src/state.rt", STATE),
     ("crates/desk/src/limits.rt", SIZES),
     ("rei2.h", HEADER),
@@ -41,7 +42,11 @@ unfoldable pub mostCells : ℕ
 mostCells = 256
 
 abbrev pub cellSize : ℕ
-cellSize = 51 -- bytes
+cellSize = reply .size -- bytes
+";
+
+const LENT: &str = "pub record Lends : Type 0 where
+  pub limits-are : limits ≡ record { in = record { «cell_size» = 9 }; «cell_size» = 51; marks = 256 }
 ";
 
 const REPLY: &str = "pub const REPLY_LEAD: u8 = 18;
@@ -605,6 +610,11 @@ fn a_limit_has_another_number_in_a_definition() {
 fn a_limit_has_another_number_in_a_case() {
     let wanted = ["REI2_LONGEST_LIST: 1417 in listing/specs/Cases.antt (longestList ≡), 14170 in the header"];
     differs_in("crates/listing/specs/Cases.antt", "≡ 14170", "≡ 1417", &wanted);
+    let wanted = ["REI2_CELL_SIZE: 50 in rei2/specs/Cases.antt (limits ≡ .cell_size), 51 in the header"];
+    differs_in("crates/rei2/specs/Cases.antt", "= 51", "= 50", &wanted);
+    let wanted = ["REI2_CELL_SIZE: no single number in rei2/specs/Cases.antt (limits ≡ .cell_size)"];
+    differs_in("crates/rei2/specs/Cases.antt", "limits ≡ record", "others ≡ record", &wanted);
+    differs_in("crates/rei2/specs/Cases.antt", "limits ≡ record", "limits ≡ f record", &wanted);
     let wanted = ["REI2_LONGEST_LIST: no single number in listing/specs/Cases.antt (longestList ≡)"];
     differs_in("crates/listing/specs/Cases.antt", "≡ 14170", "≡ size", &wanted);
     let twice = "longestList ≡ 14170\n  pub again : longestList ≡ 14170";
