@@ -3,9 +3,11 @@ use mathlib.Core.Path.{refl}
 use Rattle.digits.specs.Digits.{numberAt, numberFrom}
 use Rattle.digits.specs.Text.{oneOf}
 use Rattle.frames.specs.Rules.{between, upTo, isRaw, isRequester, isOutput}
-use Rattle.frames.specs.Layout.{firstWrong, values}
+use Rattle.frames.specs.Status.{isStatus}
+use Rattle.frames.specs.Shape.{allFrom}
+use Rattle.frames.specs.Layout.{fieldsOf}
 use Rattle.frames.specs.Kind.{headTold, read}
-use Rattle.frames.specs.Timing.{timingKind, timeAndDate, timed}
+use Rattle.frames.specs.Timing.{timingKind, timed}
 use Rattle.frames.specs.Request as Q
 use Rattle.frames.specs.Reply as P
 use Rattle.desk.specs.Below.{allBelow, countBelow, first}
@@ -20,7 +22,7 @@ use Rattle.desk.specs.Cases.{Worked, MixWorked}
 use Rattle.desk.specs.DeskCases.{DeskWorked}
 
 pub worked : Worked
-unfolding numberAt numberFrom oneOf between upTo isRaw isRequester isOutput firstWrong values headTold read timingKind timeAndDate timed Q.isInformation Q.isChannel Q.requestFields P.isStatus P.isLetter P.isChannel P.leastRun P.replyFields allBelow countBelow first sameKey isKey heard ends inPlace keyed seatWith lowestClear capacityOf isZero markNames lastEnds isDesk keyTried requestTried openTried opens seatTried labelTried replyTried replies run seatsInUse
+unfolding numberAt numberFrom oneOf between upTo isRaw isRequester isOutput allFrom fieldsOf headTold read timingKind timed Q.isInformation Q.isRequestChannel Q.requestFields isStatus P.isLetter P.isReplyChannel P.leastRun P.fromBib P.replyFields allBelow countBelow first sameKey isKey heard ends inPlace keyed seatWith lowestClear capacityOf isZero markNames lastEnds isDesk keyTried requestTried openTried opens seatTried labelTried replyTried replies run seatsInUse
 worked = record {
   no-desk-opens = refl;
   no-desk-replies = refl;
@@ -53,11 +55,11 @@ worked = record {
 }
 
 pub mix-worked : MixWorked
-unfolding numberAt numberFrom oneOf between upTo isRaw isRequester isOutput firstWrong values headTold read timingKind timeAndDate timed Q.isInformation Q.isChannel Q.requestFields P.isStatus P.isLetter P.isChannel P.leastRun P.replyFields allBelow countBelow first sameKey isKey heard ends inPlace keyed seatWith lowestClear capacityOf isZero markNames lastEnds isDesk keyTried requestTried openTried opens seatTried labelTried replyTried replies run repliesTo recordsOf
+unfolding numberAt numberFrom oneOf between upTo isRaw isRequester isOutput allFrom fieldsOf headTold read timingKind timed Q.isInformation Q.isRequestChannel Q.requestFields isStatus P.isLetter P.isReplyChannel P.leastRun P.fromBib P.replyFields allBelow countBelow first sameKey isKey heard ends inPlace keyed seatWith lowestClear capacityOf isZero markNames lastEnds isDesk keyTried requestTried openTried opens seatTried labelTried replyTried replies run repliesTo recordsOf
 mix-worked = record { answers = refl; marks = refl; count = refl; bits = refl; seats = refl; held-by-1 = refl; held-by-A = refl; held-by-z = refl; bound = refl }
 
 pub desk-worked : DeskWorked
-unfolding numberAt numberFrom oneOf between upTo isRaw isRequester firstWrong values headTold read timingKind timeAndDate timed P.isStatus P.isLetter P.isChannel P.leastRun P.replyFields allBelow countBelow sameKey isKey heard ends keyed capacityOf isZero markNames lastEnds isDesk
+unfolding numberAt numberFrom oneOf between upTo isRaw isRequester allFrom fieldsOf headTold read timingKind timed isStatus P.isLetter P.isReplyChannel P.leastRun P.fromBib P.replyFields allBelow countBelow sameKey isKey heard ends keyed capacityOf isZero markNames lastEnds isDesk
 desk-worked = record {
   a-desk = refl;
   fifteen = refl;

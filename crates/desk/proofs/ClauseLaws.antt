@@ -10,7 +10,7 @@ use native.Mathlib.Omega.{arith}
 use native.Mathlib.Numerals.{add-one}
 use borrow.Author.Tests.{eqb-true, eq-eqb, ne-eqb, lt-ltb, ltb-true, le-leb, leb-true}
 use Rattle.digits.specs.Told.{gives}
-use Rattle.frames.specs.Timing.{isZ}
+use Rattle.frames.specs.Status.{isZ}
 use Rattle.frames.specs.Reply.{checkTold}
 use Rattle.frames.specs.declared.refusals.ReadRefusal.{ReadRefusal}
 use Rattle.frames.specs.declared.reply.ReplyCheck.{ReplyCheck}

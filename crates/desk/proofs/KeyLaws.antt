@@ -10,12 +10,11 @@ use Rattle.digits.specs.Told.{gives}
 use Rattle.digits.proofs.Tests.{and-l, and-r, and-true}
 use Rattle.frames.specs.declared.request.StaticRequest.{StaticRequest}
 use Rattle.frames.specs.Rules.{upTo, isRequester}
-use Rattle.frames.specs.Layout.{firstWrong, values, recordWrong}
-use Rattle.frames.specs.Kind.{headTold, read, wrongIn}
+use Rattle.frames.specs.Layout.{recordWrong}
+use Rattle.frames.specs.Kind.{read, wrongIn}
 use Rattle.frames.specs.Request.{request, requestFields}
-use Rattle.frames.proofs.HeadLaws.{tried-gives, then-gives}
-use Rattle.frames.proofs.LayoutLaws.{unless-none, values-fine}
-use Rattle.frames.proofs.RequestLaws.{request-plain}
+use Rattle.frames.proofs.LayoutLaws.{unless-none}
+use Rattle.frames.proofs.RequestLaws.{request-fine}
 use Rattle.desk.specs.declared.key.Key.{Key}
 use Rattle.desk.specs.Key.{requestKey, sameKey, isKey}
 
@@ -30,19 +29,10 @@ pub own-key : (k : Key) → sameKey k k ≡ true
 unfolding sameKey
 own-key k = and-true (eq-eqb (k .requester) (k .requester) refl) (eq-eqb (k .number) (k .number) refl)
 
-read-fine : (f : List ℕ) (r : StaticRequest) → read request f ≡ gives r → wrongIn request r ≡ 0
-unfolding read wrongIn
-read-fine f r e =
-    let h = then-gives (headTold 17 24 f) _ r e in
-    let t = tried-gives (eqb (firstWrong requestFields 3 f) 0) _ _ r (h .1) in
-    let is : request .ofValues (values requestFields 3 f) ≡ r = let g = t .1 in cc in
-    let z = eqb-true (firstWrong requestFields 3 f) 0 (t .0) in
-    rw (← is, request-plain .again f) (values-fine (request-plain .sound) 3 f z)
-
 -- a request that was read has a legal key
 pub request-legal : (f : List ℕ) (r : StaticRequest) → read request f ≡ gives r → isKey (requestKey r) ≡ true
 unfolding wrongIn requestFields recordWrong isKey upTo
 request-legal f r e =
-    let a = unless-none (isRequester (r .requester)) 3 _ (omega arith) (read-fine f r e) in
+    let a = unless-none (isRequester (r .requester)) 3 _ (omega arith) (request-fine f r e) in
     let b = unless-none (leb (r .number) 999) 4 _ (omega arith) (a .1) in
     and-true (a .0) (b .0)

@@ -6,7 +6,7 @@ use mathlib.Core.Path.{_≡_, refl, ap}
 use Rattle.digits.specs.Refusals.{ENDED, OUT-OF-PLACE}
 use Rattle.digits.specs.Told.{Told, gives, refuses}
 use Rattle.frames.specs.Kind.{read}
-use Rattle.frames.specs.Timing.{isZ}
+use Rattle.frames.specs.Status.{isZ}
 use Rattle.frames.specs.Reply.{reply, labelled}
 use Rattle.frames.specs.declared.reply.StaticReply.{StaticReply}
 use Rattle.desk.specs.declared.key.Key.{Key}

@@ -13,7 +13,7 @@ use Rattle.frames.specs.Kind.{read}
 use Rattle.frames.specs.declared.request.StaticRequest.{StaticRequest}
 use Rattle.frames.specs.declared.reply.StaticReply.{StaticReply}
 use Rattle.frames.specs.declared.reply.ReplyLabel.{ReplyLabel}
-use Rattle.frames.proofs.HeadLaws.{sure-read}
+use Rattle.frames.proofs.Places.{sure-request as sure-request-read, sure-reply as sure-reply-read}
 use Rattle.desk.specs.declared.state.Seat.{Seat}
 use Rattle.desk.specs.declared.key.Key.{Key}
 use Rattle.desk.specs.declared.opening.Opening.{Opening}
@@ -70,14 +70,14 @@ pub sure-opens : (m : Memory) (f : List ℕ) → Sure (opens m f .answer)
 unfolding opens openTried
 sure-opens m f =
     sure-opened m (openTried m f)
-    (sure-tried (isDesk m) DESK _ (λ _. refl) (sure-given (read request f) (requestTried (m .row) (m .bits)) (sure-read request f) (sure-request (m .row) (m .bits))))
+    (sure-tried (isDesk m) DESK _ (λ _. refl) (sure-given (read request f) (requestTried (m .row) (m .bits)) (sure-request-read f) (sure-request (m .row) (m .bits))))
 
 pub sure-replies : (m : Memory) (f : List ℕ) → Sure (replies m f .answer)
 unfolding replies replyTried heard
 sure-replies m f =
     let free = ltb (m .count) (capacity m) in
     sure-taken m f (replyTried m f)
-    (sure-tried (isDesk m) DESK _ (λ _. refl) (sure-given (heard f) (labelTried (m .row) (m .bits) free) (sure-labelled (read reply f) (sure-read reply f)) (sure-label (m .row) (m .bits) free)))
+    (sure-tried (isDesk m) DESK _ (λ _. refl) (sure-given (heard f) (labelTried (m .row) (m .bits) free) (sure-labelled (read reply f) (sure-reply-read f)) (sure-label (m .row) (m .bits) free)))
 
 sure-reset : (b : Bool) (m : Memory) → Sure (cond {A = Outcome} b (record { answer = gives 0; after = emptied m }) (record { answer = refuses DESK; after = m }) .answer)
 sure-reset true m = sure-gives 0

@@ -4,7 +4,7 @@ use mathlib.Core.List.{List}
 use mathlib.Core.Bool.{Bool, true, cond, not, _&&_}
 use lib.ListN.{length}
 use lib.Dec.{eqb, leb, ltb}
-use Rattle.frames.specs.Timing.{isZ}
+use Rattle.frames.specs.Status.{isZ}
 use Rattle.desk.specs.declared.state.Seat.{Seat}
 use Rattle.desk.specs.Limits.{seatCount}
 use Rattle.desk.specs.Below.{allBelow, countBelow}

@@ -5,7 +5,7 @@ use mathlib.Core.Bool.{Bool, false, cond, not, _||_}
 use lib.Dec.{eqb}
 use Rattle.digits.specs.Told.{Told, gives, refuses}
 use Rattle.frames.specs.Kind.{read}
-use Rattle.frames.specs.Timing.{isZ}
+use Rattle.frames.specs.Status.{statusE, isZ}
 use Rattle.frames.specs.Reply.{reply, labelled}
 use Rattle.frames.specs.declared.reply.ReplyLabel.{ReplyLabel}
 use Rattle.desk.specs.declared.key.Key.{Key}
@@ -20,10 +20,10 @@ abbrev pub hasKey : Key → Told ReplyLabel → Bool
 hasKey k (gives l) = sameKey k (keyIn l)
 hasKey k (refuses f) = false
 
--- ---- status: R is one record of an answer, E its last, Z says that there is none
+-- ---- what a status says
 
 unfoldable pub ends : ℕ → Bool
-ends status = eqb status 69 || isZ status
+ends status = eqb status statusE || isZ status
 
 -- a Z is taken only as first record
 unfoldable pub inPlace : ℕ → ℕ → Bool

@@ -17,13 +17,13 @@ Frame = List ℕ
 -- ---- whose a frame is: well formed, with the request's requester and number
 
 abbrev pub isTo : Key → Told StaticReply → Bool
-isTo k (gives r) = eqb (k .requester) (r .requester) && eqb (k .number) (r .number)
+isTo k (gives r) = eqb (k .requester) (r .head .requester) && eqb (k .number) (r .head .number)
 isTo k (refuses f) = false
 
 -- ---- its status: R, E or Z
 
 abbrev pub letterIn : Told StaticReply → ℕ
-letterIn (gives r) = r .status
+letterIn (gives r) = r .head .status
 letterIn (refuses f) = 0
 
 abbrev pub hasStatusE : Frame → Bool

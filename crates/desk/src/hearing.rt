@@ -1,4 +1,6 @@
 // What the desk goes by in a reply: whether it ends its request, and whether it is in its place.
+use frames::reply::STATUS_E;
+use frames::reply::STATUS_Z;
 ghost use mathlib.Core.Path.{_≡_};
 ghost use Rattle.desk.specs.Hearing.{ends, endedBy, inPlace};
 
@@ -6,14 +8,14 @@ ghost use Rattle.desk.specs.Hearing.{ends, endedBy, inPlace};
 pub fn ends_with(status: u8) -> bool
     ensures { λ r. ⌜ r ≡ ends status ⌝ }
 {
-    (status == 69) | (status == 90)
+    (status == STATUS_E) | (status == STATUS_Z)
 }
 
 // A Z is taken only as first record.
 pub fn in_place(held: u32, status: u8) -> bool
     ensures { λ r. ⌜ r ≡ inPlace held status ⌝ }
 {
-    (status != 90) | (held == 0)
+    (status != STATUS_Z) | (held == 0)
 }
 
 pub fn ended_by(status: u8) -> u32

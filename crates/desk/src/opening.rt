@@ -145,7 +145,7 @@ fn judged(row: [Seat; SEATS], bits: u64, frame: &[u8]) -> OpenJudged
 fn request_judged(row: [Seat; SEATS], bits: u64, r: StaticRequest) -> OpenJudged
     ensures { λ a. ⌜ openJudged a ≡ requestTried row bits r ⌝ }
 {
-    if r.information == 113 {
+    if r.information == b'q' {
         return OpenJudged::Refuses(OpenRefusal::NoAnswerDue);
     }
     key_judged(row, bits, key_asked(r))

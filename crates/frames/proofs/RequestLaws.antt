@@ -7,20 +7,20 @@ use native.Mathlib.Omega.{arith}
 use lib.ListN.{length, getD, set}
 use lib.Seq.{sets}
 use borrow.Author.Tests.{eqb-true}
-use Rattle.digits.specs.Text.{oneOf}
 use Rattle.digits.specs.Digits.{digits}
+use Rattle.digits.specs.Told.{gives}
 use Rattle.digits.proofs.Writing.{sets-append, length-digits}
 use Rattle.frames.specs.declared.request.StaticRequest.{StaticRequest}
 use Rattle.frames.specs.Rules.{upTo, space, isAddress}
 use Rattle.frames.specs.Layout.{recordWrong, write}
-use Rattle.frames.specs.Kind.{letterR, CR, wrongIn, frameOf}
+use Rattle.frames.specs.Kind.{letterR, CR, read, wrongIn, frameOf}
 use Rattle.frames.specs.Faithful.{Faithful}
 use Rattle.frames.specs.Request.{isRequestChannel, requestFields, request}
 use Rattle.frames.specs.inside.Held.{requestAt}
 use Rattle.frames.proofs.RuleLaws.{up-to, or-one, to-240}
 use Rattle.frames.proofs.LayoutLaws.{Sound, end-sound, byte-sound, number-sound, Sees, sees-end}
 use Rattle.frames.proofs.SeesLaws.{sees-byte, sees-number}
-use Rattle.frames.proofs.KindLaws.{SoundKind, faithful, length-frame, sees-address}
+use Rattle.frames.proofs.KindLaws.{SoundKind, faithful, frame-again, length-frame, sees-address}
 
 channel-bound : (v : ℕ) → isRequestChannel v ≡ true → v ≤ 255
 unfolding isRequestChannel
@@ -58,6 +58,10 @@ request-sound = record { bytes = 21; sound = sound; size = refl; some = omega ar
 -- what is demanded of reading and writing holds of the static request
 pub request-faithful : Faithful request (λ _. Unit {0})
 request-faithful = faithful request-sound
+
+-- a record that was read is well formed
+pub request-fine : (s : List ℕ) (r : StaticRequest) → read request s ≡ gives r → wrongIn request r ≡ 0
+request-fine s r e = frame-again request-sound s r e .fine
 
 pub length-request : (r : StaticRequest) → wrongIn request r ≡ 0 → length (frameOf request r) ≡ 24
 length-request r = length-frame request-sound r
