@@ -3,7 +3,7 @@ use Prim.Native.Nat.{ℕ, _+_}
 use Prim.Native.String.{String}
 use mathlib.Core.Bool.{true}
 use mathlib.Core.List.{List, [], _∷_, _++_}
-use mathlib.Core.Path.{_≡_, refl, ap, ap₂, _∙_}
+use mathlib.Core.Path.{_≡_, refl, ap, _∙_}
 use lib.ListN.{length, drop, replicate}
 use Rattle.digits.specs.Digits.{digits, numberAt, numberFrom}
 use Rattle.digits.specs.Text.{codes, oneOf}

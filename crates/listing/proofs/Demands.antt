@@ -1,13 +1,12 @@
 -- A list is that of the capture, and a call turned away changes nothing that is lent. Assumes nothing.
 use Prim.Native.Nat.{ℕ}
-use mathlib.Core.List.{List}
-use mathlib.Core.Bool.{Bool, true, false, cond, _&&_}
+use mathlib.Core.Bool.{Bool, true, false}
 use mathlib.Core.Path.{_≡_, refl, sym, _∙_}
 use native.Mathlib.Omega.{arith}
-use Rattle.digits.specs.Told.{Told, gives, refuses, tried}
+use Rattle.digits.specs.Told.{gives, refuses, tried}
 use Rattle.digits.specs.declared.refusal.Refusal.{Refusal}
 use Rattle.digits.specs.Refusals.{ROOM}
-use Rattle.listing.specs.Listing.{short, fits}
+use Rattle.listing.specs.Listing.{fits}
 use Rattle.listing.specs.Demands.{ListIsOfCapture, RefusedKeeps}
 use Rattle.listing.proofs.StoreLaws.{store-desk}
 

@@ -1,6 +1,5 @@
 -- No second outcome meets the promise of the listing. Assumes nothing.
 use Prim.Native.Nat.{ℕ}
-use mathlib.Core.List.{List}
 use mathlib.Core.Path.{_≡_, refl, sym, ap, _∙_}
 use Rattle.digits.specs.Told.{Told, gives, refuses}
 use Rattle.listing.specs.declared.ListAnswer.{ListAnswer}

@@ -8,14 +8,13 @@ use native.Mathlib.Nat.{pow-suc, pow-zero}
 use lib.ListN.{length, getD, List·getD-append}
 use lib.Seq.{sets}
 use lib.Dec.{ltb}
-use borrow.Author.Tests.{le-leb, lt-ltb, le-ltb, ltb-true, ltb-false}
-use Rattle.digits.specs.declared.Number.the-variants.{Is}
+use borrow.Author.Tests.{le-leb, lt-ltb, le-ltb, ltb-true}
 use Rattle.digits.specs.Digits.{digits, numberFrom, isPutWidth, numberText}
 use Rattle.digits.proofs.Tests.{by-test, by-less, and-true}
 use Rattle.digits.proofs.Writing.{length-digits}
 use Rattle.digits.proofs.Laws.{value-of-digits}
 use Rattle.text.specs.Put.{placeAfter, Put}
-use Rattle.text.specs.Decimal.{widthWithin, width, decimal, Whole, DecimalIsWhole}
+use Rattle.text.specs.Decimal.{widthWithin, width, decimal, DecimalIsWhole}
 
 -- ---- one digit, or one more than without the last
 

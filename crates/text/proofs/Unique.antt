@@ -1,7 +1,7 @@
 -- No second outcome meets the promise of a call that puts. Assumes nothing.
 use Prim.Native.Nat.{ℕ}
 use mathlib.Core.List.{List, [], _∷_}
-use mathlib.Core.Path.{_≡_, sym, _∙_}
+use mathlib.Core.Path.{sym, _∙_}
 use Rattle.digits.specs.Once.{Once}
 use Rattle.text.specs.Put.{Put}
 use Rattle.text.specs.Decimal.{decimal}

@@ -1,6 +1,5 @@
 -- Numbers and places, spelled.
 use mathlib.Core.Path.{_≡_}
-use Prim.Native.Nat.{ℕ}
 use Rattle.digits.specs.Text.{codes}
 use Rattle.text.specs.Put.{placeAfter}
 use Rattle.text.specs.Decimal.{decimal}
