@@ -9,9 +9,11 @@ use Rattle.digits.specs.Digits.{digits, numberAt, numberFrom}
 use Rattle.digits.specs.Text.{codes, oneOf}
 use Rattle.times.specs.Clock.{ticksOf}
 use Rattle.frames.specs.Rules.{between, upTo, isRaw, isRequester, isOutput}
-use Rattle.frames.specs.Layout.{firstWrong, values}
+use Rattle.frames.specs.Status.{isStatus}
+use Rattle.frames.specs.Shape.{allFrom}
+use Rattle.frames.specs.Layout.{fieldsOf}
 use Rattle.frames.specs.Kind.{headTold, read}
-use Rattle.frames.specs.Timing.{timingKind, timeAndDate, timed}
+use Rattle.frames.specs.Timing.{timingKind, timed}
 use Rattle.frames.specs.Request as Q
 use Rattle.frames.specs.Reply as P
 use Rattle.frames.specs.Dynamic as D
@@ -85,11 +87,11 @@ abbrev four : Counts
 four = record { opened = 2; collected = 3; dynamic = 1; refused = 2 }
 
 after-small : afterAll (store (replicate 204 0) (replicate 4 0)) found ≡ kept
-unfolding numberAt numberFrom oneOf ticksOf between upTo isRaw isRequester isOutput firstWrong values headTold read timingKind timeAndDate timed Q.isInformation Q.isChannel Q.requestFields P.isStatus P.isLetter P.isChannel P.leastRun P.replyFields D.isOrder D.isChannel D.leastPeriod D.dynamicFields allBelow countBelow first sameKey isKey heard ends inPlace keyed seatWith lowestClear capacityOf isZero markNames lastEnds isDesk keyTried requestTried openTried opens seatTried labelTried replyTried replies meets fates afterAll howMany
+unfolding numberAt numberFrom oneOf ticksOf between upTo isRaw isRequester isOutput allFrom fieldsOf headTold read timingKind timed Q.isInformation Q.isRequestChannel Q.requestFields isStatus P.isLetter P.isReplyChannel P.leastRun P.fromBib P.replyFields D.isOrder D.isDynamicChannel D.leastPeriod D.dynamicFields allBelow countBelow first sameKey isKey heard ends inPlace keyed seatWith lowestClear capacityOf isZero markNames lastEnds isDesk keyTried requestTried openTried opens seatTried labelTried replyTried replies meets fates afterAll howMany
 after-small = refl
 
 counts-small : countsOf (fates (store (replicate 204 0) (replicate 4 0)) found) ≡ four
-unfolding numberAt numberFrom oneOf ticksOf between upTo isRaw isRequester isOutput firstWrong values headTold read timingKind timeAndDate timed Q.isInformation Q.isChannel Q.requestFields P.isStatus P.isLetter P.isChannel P.leastRun P.replyFields D.isOrder D.isChannel D.leastPeriod D.dynamicFields allBelow countBelow first sameKey isKey heard ends inPlace keyed seatWith lowestClear capacityOf isZero markNames lastEnds isDesk keyTried requestTried openTried opens seatTried labelTried replyTried replies meets fates afterAll howMany
+unfolding numberAt numberFrom oneOf ticksOf between upTo isRaw isRequester isOutput allFrom fieldsOf headTold read timingKind timed Q.isInformation Q.isRequestChannel Q.requestFields isStatus P.isLetter P.isReplyChannel P.leastRun P.fromBib P.replyFields D.isOrder D.isDynamicChannel D.leastPeriod D.dynamicFields allBelow countBelow first sameKey isKey heard ends inPlace keyed seatWith lowestClear capacityOf isZero markNames lastEnds isDesk keyTried requestTried openTried opens seatTried labelTried replyTried replies meets fates afterAll howMany
 counts-small = refl
 
 text-small : listText kept four

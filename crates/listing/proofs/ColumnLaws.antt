@@ -19,6 +19,7 @@ use Rattle.text.specs.Decimal.{width, decimal}
 use Rattle.text.proofs.PutLaws.{put-parted}
 use Rattle.text.proofs.DecimalLaws.{decimal-length}
 use Rattle.desk.specs.Limits.{cellSize}
+use Rattle.listing.specs.declared.line.Part.{Part}
 use Rattle.listing.specs.Text.{rowText, Column, columns, shown, HeadingNamesColumns}
 use Rattle.listing.specs.Sizes.{columnsSize}
 
@@ -28,53 +29,57 @@ heading-names-columns = refl
 
 -- ---- where the columns begin and end
 
-abbrev pub froms : List ℕ
-froms = 6 ∷ 9 ∷ 12 ∷ 17 ∷ 20 ∷ 23 ∷ 26 ∷ 29 ∷ 30 ∷ 40 ∷ 5 ∷ []
+abbrev part : Column → Part
+part c = record { from = c .from; to = c .to }
 
-abbrev pub tos : List ℕ
-tos = 7 ∷ 12 ∷ 17 ∷ 20 ∷ 23 ∷ 26 ∷ 29 ∷ 30 ∷ 40 ∷ 48 ∷ 6 ∷ []
+-- as the code has them
+abbrev pub parts : List Part
+parts =
+    record { from = 6; to = 7 }
+    ∷ record { from = 9; to = 12 }
+    ∷ record { from = 12; to = 17 }
+    ∷ record { from = 17; to = 20 }
+    ∷ record { from = 20; to = 23 }
+    ∷ record { from = 23; to = 26 }
+    ∷ record { from = 26; to = 29 }
+    ∷ record { from = 29; to = 30 }
+    ∷ record { from = 30; to = 40 }
+    ∷ record { from = 40; to = 48 }
+    ∷ record { from = 5; to = 6 }
+    ∷ []
 
-none : Column
+abbrev none : Column
 none = record { name = []; from = 0; to = 0 }
 
-froms-are : froms ≡ map (λ (c : Column). c .from) columns
+parts-are : parts ≡ map part columns
 unfolding columns
-froms-are = refl
+parts-are = refl
 
-tos-are : tos ≡ map (λ (c : Column). c .to) columns
-unfolding columns
-tos-are = refl
-
-from-at : (i : ℕ) → getD froms i 0 ≡ getD columns i none .from
-unfolding none
-from-at i = ap (λ (l : List ℕ). getD l i 0) froms-are ∙ List·getD-map (λ (c : Column). c .from) columns i none
-
-to-at : (i : ℕ) → getD tos i 0 ≡ getD columns i none .to
-unfolding none
-to-at i = ap (λ (l : List ℕ). getD l i 0) tos-are ∙ List·getD-map (λ (c : Column). c .to) columns i none
+part-at : (i : ℕ) → getD parts i (part none) ≡ part (getD columns i none)
+part-at i = ap (λ (l : List Part). getD l i (part none)) parts-are ∙ List·getD-map part columns i none
 
 eleven : length columns ≡ 11
 unfolding columns
 eleven = refl
 
 abbrev fine : ℕ → Bool
-fine i = ltb (getD froms i 0) (getD tos i 0) && leb (getD tos i 0) cellSize
+fine i = ltb (getD parts i (part none) .from) (getD parts i (part none) .to) && leb (getD parts i (part none) .to) cellSize
 
 all-fine : allBelow 11 fine ≡ true
 unfolding allBelow
 all-fine = refl
 
 -- a column begins before it ends, and ends in the frame
-pub record Cut (a e : ℕ) : Type 0 where
-  pub some : a < e
-  pub inside : e ≤ cellSize
+pub record Cut (p : Part) : Type 0 where
+  pub some : p .from < p .to
+  pub inside : p .to ≤ cellSize
 
-pub cut-at : (i : ℕ) → i < 11 → Cut (getD froms i 0) (getD tos i 0)
+pub cut-at : (i : ℕ) → i < 11 → Cut (getD parts i (part none))
 cut-at i l =
     let h = all-at 11 fine all-fine i l in
     record {
-      some = ltb-true _ _ (and-l (ltb (getD froms i 0) (getD tos i 0)) _ h);
-      inside = leb-true _ _ (and-r (ltb (getD froms i 0) (getD tos i 0)) _ h);
+      some = ltb-true _ _ (and-l (ltb (getD parts i (part none) .from) (getD parts i (part none) .to)) _ h);
+      inside = leb-true _ _ (and-r (ltb (getD parts i (part none) .from) (getD parts i (part none) .to)) _ h);
     }
 
 -- ---- one column more
@@ -85,20 +90,20 @@ shown-last f (d ∷ cs) c =
     ap (λ (l : List ℕ). TAB ∷ (slice (d .from) (d .to) f ++ l)) (shown-last f cs c)
     ∙ ap (λ (l : List ℕ). TAB ∷ l) (sym (append-assoc (slice (d .from) (d .to) f) (shown f cs) (TAB ∷ slice (c .from) (c .to) f)))
 
-shown-more : (f : List ℕ) (i : ℕ) → i < 11 → shown f (take (i + 1) columns) ≡ shown f (take i columns) ++ (TAB ∷ slice (getD froms i 0) (getD tos i 0) f)
+shown-more : (f : List ℕ) (i : ℕ) → i < 11 → shown f (take (i + 1) columns) ≡ shown f (take i columns) ++ (TAB ∷ slice (getD parts i (part none) .from) (getD parts i (part none) .to) f)
 shown-more f i l =
     let n = eleven in
     ap (shown f) (ap (λ (k : ℕ). take k columns) (add-one i) ∙ take-suc columns i none (omega arith))
     ∙ shown-last f (take i columns) (getD columns i none)
-    ∙ rw (from-at i, to-at i)
+    ∙ rw (part-at i)
 
-pub columns-more : (out : List ℕ) (at : ℕ) (f : List ℕ) (i p : ℕ) (mid : List ℕ) (q : ℕ) (mid′ : List ℕ) (r : ℕ) (out′ : List ℕ) → length out ≤ mostPlace → i < 11
-    → Put out at (shown f (take i columns)) p mid → Put mid p (TAB ∷ []) q mid′ → Put mid′ q (take (getD tos i 0 - getD froms i 0) (drop (getD froms i 0) f)) r out′
-    → Put out at (shown f (take (i + 1) columns)) r out′
-columns-more out at f i p mid q mid′ r out′ n l x y z =
-    let a = getD froms i 0 in
-    let b = getD tos i 0 in
-    rw (shown-more f i l, part-is f a b (cut-at i l .some)) (put-parted out at (shown f (take i columns)) p mid TAB q mid′ (take (b - a) (drop a f)) r out′ n x y z)
+module _ (out : List ℕ) (at : ℕ) (f : List ℕ) (i p : ℕ) (mid : List ℕ) (q : ℕ) (mid′ : List ℕ) (r : ℕ) (out′ : List ℕ) (n : length out ≤ mostPlace) (l : i < 11) where
+  pub columns-more : Put out at (shown f (take i columns)) p mid → Put mid p (TAB ∷ []) q mid′
+      → Put mid′ q (take (getD parts i (part none) .to - getD parts i (part none) .from) (drop (getD parts i (part none) .from) f)) r out′
+      → Put out at (shown f (take (i + 1) columns)) r out′
+  columns-more x y z =
+      let c = getD parts i (part none) in
+      rw (shown-more f i l, part-is f (c .from) (c .to) (cut-at i l .some)) (put-parted out at (shown f (take i columns)) p mid TAB q mid′ (take (c .to - c .from) (drop (c .from) f)) r out′ n x y z)
 
 pub columns-all : (out : List ℕ) (at : ℕ) (f : List ℕ) (i p : ℕ) (out′ : List ℕ) → i ≡ 11 → Put out at (shown f (take i columns)) p out′ → Put out at (shown f columns) p out′
 columns-all out at f i p out′ e x =

@@ -1,5 +1,6 @@
 // Lines of a list put to an output, from a place on.
 use desk::capture::Counts;
+use frames::reply::field;
 use text::LF;
 use text::TAB;
 use text::place_after;
@@ -13,15 +14,65 @@ ghost use Rattle.text.specs.Put.{Put};
 ghost use Rattle.desk.specs.Limits.{cellSize};
 ghost use Rattle.listing.specs.Text.{columns, shown, rowText, endText};
 
+// The bytes of a frame that stand below a column's name, up to the field behind.
+struct Part {
+    from: usize,
+    to: usize,
+}
+
 const COLUMNS: usize = 11;
 
-// The bytes of a frame that the columns show.
-const FROM: [usize; COLUMNS] = [6, 9, 12, 17, 20, 23, 26, 29, 30, 40, 5];
+// A request's number has three digits, so the first two of five are not shown.
+const PARTS: [Part; COLUMNS] = [
+    Part {
+        from: field::REQUESTER,
+        to: field::NUMBER,
+    },
+    Part {
+        from: field::NUMBER + 2,
+        to: field::BIB,
+    },
+    Part {
+        from: field::BIB,
+        to: field::GROUP,
+    },
+    Part {
+        from: field::GROUP,
+        to: field::RUN,
+    },
+    Part {
+        from: field::RUN,
+        to: field::PHYSICAL,
+    },
+    Part {
+        from: field::PHYSICAL,
+        to: field::CHANNEL,
+    },
+    Part {
+        from: field::CHANNEL,
+        to: field::INFORMATION,
+    },
+    Part {
+        from: field::INFORMATION,
+        to: field::TIME,
+    },
+    Part {
+        from: field::TIME,
+        to: field::DATE,
+    },
+    Part {
+        from: field::DATE,
+        to: field::SPARE,
+    },
+    Part {
+        from: field::STATUS,
+        to: field::REQUESTER,
+    },
+];
 
-const TO: [usize; COLUMNS] = [7, 12, 17, 20, 23, 26, 29, 30, 40, 48, 6];
-
-// The bytes of a row that stand after the seat: columns, each with its tab, and the end of the line.
-const AFTER_SEAT: usize = 53;
+// The bytes of a row that stand after the seat: columns, each with its tab, and the end of the line. Together the columns show all from
+// the status to the date but the two digits.
+const AFTER_SEAT: usize = COLUMNS + (field::SPARE - field::STATUS - 2) + 1;
 
 // How many digits the last seat has, and how many a count has at most.
 const SEAT_DIGITS: usize = 2;
@@ -70,13 +121,13 @@ fn put_columns(out: &mut [u8], at: usize, frame: &[u8]) -> usize
     requires { ⌜ length (now frame) ≡ cellSize ⌝ }
     ensures { λ r. ⌜ Put (now (out .entry)) at (shown (now (frame .entry)) columns) r (now (out .exit)) ⌝ }
 {
-    let from = FROM;
-    let to = TO;
+    let parts = PARTS;
     let mut p = at;
     let mut i: usize = 0;
     while i < COLUMNS {
-        let a = from[i];
-        let e = to[i];
+        let part = parts[i];
+        let a = part.from;
+        let e = part.to;
         let q = put_one(out, p, TAB);
         p = put_text(out, q, &frame[a..e]);
         i += 1;

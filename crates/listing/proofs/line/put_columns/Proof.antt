@@ -12,37 +12,31 @@ use Rattle.listing.proofs.line.put_columns.Statement.{statement}
 use Rattle.listing.proofs.line.put_columns.Tie as tie
 
 abbrev Inv-loop : tie.InvT-loop
-Inv-loop out₀ at frame from to p₀ i₀ out p i = (i ≤ 11) × ((length out ≡ length out₀) × Put out₀ at (shown frame (take i columns)) p out)
+Inv-loop out₀ at frame parts p₀ i₀ out p i = (i ≤ 11) × ((length out ≡ length out₀) × Put out₀ at (shown frame (take i columns)) p out)
 
 abbrev μ-loop : tie.MeasureT-loop
-μ-loop out₀ at frame from to p₀ i₀ out p i = 11 - i
+μ-loop out₀ at frame parts p₀ i₀ out p i = 11 - i
 
 loop-holds : tie.Need-loop-holds Inv-loop μ-loop
 loop-holds c = (search needs, (refl, put-none (c .before .before .args .out .now) (c .before .before .args .at) (omega arith)))
 
-mul-a : tie.Need-mul-a Inv-loop μ-loop
-mul-a c = search needs
+mul-part : tie.Need-mul-part Inv-loop μ-loop
+mul-part c = search needs
 
-array-read-a : tie.Need-array-read-a Inv-loop μ-loop
-array-read-a c = search needs
-
-mul-e : tie.Need-mul-e Inv-loop μ-loop
-mul-e c = search needs
-
-array-read-e : tie.Need-array-read-e Inv-loop μ-loop
-array-read-e c = search needs
+array-copy-out-part : tie.Need-array-copy-out-part Inv-loop μ-loop
+array-copy-out-part c = search needs
 
 put-one-requires : tie.Need-put-one-requires Inv-loop μ-loop
 put-one-requires c κs = search needs
 
 sub-put-text : tie.Need-sub-put-text Inv-loop μ-loop
-sub-put-text c = let k = cut-at (c .before .before .before .before .before .before .loop .i) (search needs) in omega (arith, k .some)
+sub-put-text c = let k = cut-at (c .before .before .before .before .before .before .before .loop .i) (search needs) in omega (arith, k .some)
 
 part-put-text-start : tie.Need-part-put-text-start Inv-loop μ-loop
-part-put-text-start c = let k = cut-at (c .before .before .before .before .before .before .loop .i) (search needs) in omega (arith, k .some)
+part-put-text-start c = let k = cut-at (c .before .before .before .before .before .before .before .loop .i) (search needs) in omega (arith, k .some)
 
 part-put-text-end : tie.Need-part-put-text-end Inv-loop μ-loop
-part-put-text-end c = let k = cut-at (c .before .before .before .before .before .before .loop .i) (search needs) in omega (arith, k .inside, c .before .before .before .before .before .before .before .before .before .pre)
+part-put-text-end c = let k = cut-at (c .before .before .before .before .before .before .before .loop .i) (search needs) in omega (arith, k .inside, c .before .before .before .before .before .before .before .before .before .before .pre)
 
 put-text-requires : tie.Need-put-text-requires Inv-loop μ-loop
 put-text-requires c κs = search needs
@@ -55,8 +49,8 @@ loop-less c = search needs
 
 loop-again : tie.Need-loop-again Inv-loop μ-loop
 loop-again c =
-    let a = c .before .before .before .before .before .before .before .before .before .before .before .before .before .args in
-    let l = c .before .before .before .before .before .before .before .before .before .before .loop in (
+    let a = c .before .before .before .before .before .before .before .before .before .before .before .before .before .before .args in
+    let l = c .before .before .before .before .before .before .before .before .before .before .before .loop in (
       search needs,
       (
         c .before .before .put-text .kept .0 ∙ c .before .before .before .before .before .before .before .put-one .kept .0 ∙ l .inv .1 .0,
@@ -77,10 +71,8 @@ put-columns-spec =
     Inv-loop
     μ-loop
     loop-holds
-    mul-a
-    array-read-a
-    mul-e
-    array-read-e
+    mul-part
+    array-copy-out-part
     put-one-requires
     sub-put-text
     part-put-text-start
