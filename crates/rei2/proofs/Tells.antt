@@ -16,7 +16,7 @@ use Rattle.desk.specs.Desk.{isDesk}
 use Rattle.desk.specs.Capture.{fates, countsOf}
 use Rattle.listing.specs.Listing.{fits, listOf}
 use Rattle.frames.specs.Kind.{writeTried}
-use Rattle.frames.proofs.HeadLaws.{sure-read}
+use Rattle.frames.proofs.Places.{sure-request, sure-reply, sure-dynamic}
 use Rattle.desk.proofs.SureLaws.{sure-resets, sure-opens, sure-replies}
 use Rattle.rei2.specs.Numbers.{numberIn, offsetIn, valueIn}
 use Rattle.rei2.specs.Tells.{NumbersTell}
@@ -37,12 +37,14 @@ told-by zero (refuses f) (refuses g) s s′ n o v = λ i. refuses (placed (n i) 
 
 pub numbers-tell : NumbersTell
 numbers-tell = record {
-  reading = sure-read;
+  reading-request = sure-request;
+  reading-reply = sure-reply;
+  reading-dynamic = sure-dynamic;
   writing = sure-writing;
   running = sure-running;
   reset = sure-resets;
   opening = sure-opens;
-  reply = sure-replies;
+  replying = sure-replies;
   capture = λ m s. sure-tried (isDesk m) DESK _ (λ _. refl) (sure-gives (countsOf (fates m (pieces s))));
   naming = λ name out. sure-tried (ltb (length name) (length out)) ROOM _ (λ _. refl) (sure-gives tt);
   listing = λ cells marks s out. sure-tried (fits cells marks s out) ROOM _ (λ _. refl) (sure-gives (length (listOf cells marks s)));
