@@ -4,6 +4,6 @@ fn main() {
     let native = std::env::var("CARGO_CFG_TARGET_ARCH").is_ok_and(|arch| arch == "x86_64");
     let folder = if native { "target/staticlib" } else { "target/bench/native" };
     println!("cargo:rustc-link-search=native={root}/{folder}");
-    println!("cargo:rustc-link-lib=static=host");
-    println!("cargo:rerun-if-changed={root}/{folder}/libhost.a");
+    println!("cargo:rustc-link-lib=static=rei2");
+    println!("cargo:rerun-if-changed={root}/{folder}/librei2.a");
 }

@@ -15,9 +15,12 @@
    THREADS. Two calls that are lent the same memory must not run at once, unless both only read it. Calls on different
    memory may, since the library has no state.
 
-   ANSWERS. A number of 0 (REI2_DONE) says that the call was done; any other is a refusal. Then the state that comes
-   back is the one that went in, no lent byte has changed, the offset is 0 with all but REI2_FIELD and REI2_RECORD, and
-   the rest of the answer is 0. Structs have padding, so compare them field by field; a seat has none. */
+   ANSWERS. A refusal of 0 (REI2_DONE) says that the call was done; any other number says why it was not, as enum
+   rei2_refusal has it. Then the state that comes back is the one that went in, no lent byte has changed, the offset is
+   0 with all but REI2_FIELD and REI2_RECORD, and the rest of the answer is 0. rei2_refusal_name has the names. Structs
+   have padding, so compare them field by field; a seat has none.
+
+   The example to start from is examples/watch/watch.c. */
 #ifndef REI2_H
 #define REI2_H
 
@@ -26,18 +29,19 @@
 
 /* ---- constants */
 
-enum rei2_limits {
-    REI2_SEATS = 16,          /* in every row of seats */
-    REI2_CELLS = 256,         /* a desk holds at most, however many are lent */
-    REI2_CELL_SIZE = 51,      /* bytes of a cell */
-    REI2_REQUEST_SIZE = 24,   /* bytes of a static request */
-    REI2_REPLY_SIZE = 51,     /* bytes of a static reply */
-    REI2_DYNAMIC_SIZE = 46,   /* bytes of a dynamic request */
-    REI2_REQUEST_LEAD = 17,   /* first byte of a static request, DC1 */
-    REI2_REPLY_LEAD = 18,     /* first byte of a static reply, DC2 */
-    REI2_DYNAMIC_LEAD = 19,   /* first byte of a dynamic request, DC3 */
-    REI2_MOST_INPUT = 32768,  /* bytes of a capture that is listed */
-    REI2_LONGEST_LIST = 14170 /* no list has more bytes */
+enum rei2_limit {
+    REI2_SEATS = 16,           /* in every row of seats */
+    REI2_CELLS = 256,          /* a desk holds at most, however many are lent */
+    REI2_CELL_SIZE = 51,       /* bytes of a cell */
+    REI2_REQUEST_SIZE = 24,    /* bytes of a static request */
+    REI2_REPLY_SIZE = 51,      /* bytes of a static reply */
+    REI2_DYNAMIC_SIZE = 46,    /* bytes of a dynamic request */
+    REI2_REQUEST_LEAD = 17,    /* first byte of a static request, DC1 */
+    REI2_REPLY_LEAD = 18,      /* first byte of a static reply, DC2 */
+    REI2_DYNAMIC_LEAD = 19,    /* first byte of a dynamic request, DC3 */
+    REI2_MOST_INPUT = 32768,   /* bytes of a capture that is listed */
+    REI2_LONGEST_LIST = 14170, /* no list has more bytes */
+    REI2_NAME_SIZE = 14        /* bytes of the longest name of a refusal, with its zero byte */
 };
 
 /* Why a call was refused. */
@@ -75,8 +79,9 @@ enum rei2_found {
     REI2_CUT = 2      /* a frame that the next one or the end of the capture cut off */
 };
 
-/* ---- structs. A tick is a ten-thousandth of a second; a day has 864000000. A uint8_t holds a byte of the frame as it
-   is, a letter by its code. */
+/* ---- structs. In an answer, refusal is as enum rei2_refusal says, and offset is where the wrong field begins. A tick
+   is a ten-thousandth of a second; a day has 864000000. A uint8_t holds a byte of the frame as it is, a letter by its
+   code. */
 
 /* The state of a desk: the seats in use, seat 0 as bit 0, and how many cells are held. {0, 0} is an empty desk's. */
 typedef struct rei2_desk {
@@ -96,9 +101,9 @@ typedef struct rei2_seat {
 /* The answer of a call on a desk: the state after it, and the seat that was opened or took the reply. */
 typedef struct rei2_desk_answer {
     rei2_desk desk;
-    uint32_t number;
+    uint32_t refusal;
     uint32_t offset;
-    size_t seat;
+    uint32_t seat;
 } rei2_desk_answer;
 
 /* What became of the frames of a capture; the four add up to its lead bytes. A cut frame is refused. */
@@ -112,7 +117,7 @@ typedef struct rei2_counts {
 /* The answer of a whole capture: the state after it, and the counts. */
 typedef struct rei2_captured_answer {
     rei2_desk desk;
-    uint32_t number;
+    uint32_t refusal;
     rei2_counts counts;
 } rei2_captured_answer;
 
@@ -130,7 +135,7 @@ typedef struct rei2_static_request {
 
 /* A static request that was read. */
 typedef struct rei2_request_answer {
-    uint32_t number;
+    uint32_t refusal;
     uint32_t offset;
     rei2_static_request request;
 } rei2_request_answer;
@@ -146,8 +151,8 @@ typedef struct rei2_timing_numbers {
     int64_t net;
 } rei2_timing_numbers;
 
-/* A static reply. raw_time and raw_date are the bytes of time and date where the timing is REI2_RAW, otherwise 0. */
-typedef struct rei2_reply_record {
+/* The parts of a static reply that stand before its time. */
+typedef struct rei2_reply_head {
     uint8_t program;
     uint8_t mode;
     uint8_t status;
@@ -159,6 +164,11 @@ typedef struct rei2_reply_record {
     uint32_t physical;
     uint32_t channel;
     uint8_t information;
+} rei2_reply_head;
+
+/* A static reply. raw_time and raw_date are the bytes of time and date where the timing is REI2_RAW, otherwise 0. */
+typedef struct rei2_reply_record {
+    rei2_reply_head head;
     rei2_timing_numbers timing;
     uint8_t raw_time[10];
     uint8_t raw_date[8];
@@ -167,7 +177,7 @@ typedef struct rei2_reply_record {
 
 /* A static reply that was read. */
 typedef struct rei2_reply_answer {
-    uint32_t number;
+    uint32_t refusal;
     uint32_t offset;
     rei2_reply_record reply;
 } rei2_reply_answer;
@@ -191,20 +201,20 @@ typedef struct rei2_dynamic_request {
 
 /* A dynamic request that was read. */
 typedef struct rei2_dynamic_answer {
-    uint32_t number;
+    uint32_t refusal;
     uint32_t offset;
     rei2_dynamic_request request;
 } rei2_dynamic_answer;
 
-/* A frame that was written: how many bytes it has. */
+/* A frame or a name that was written: how many bytes it has. */
 typedef struct rei2_written_answer {
-    uint32_t number;
+    uint32_t refusal;
     uint32_t offset;
     size_t size;
 } rei2_written_answer;
 
 /* A frame that was found: kind as enum rei2_found says, its bytes from start up to, not with, end, and where to look
-   next. All 0 with REI2_NOTHING. */
+   next. With REI2_NOTHING start and end are 0, and next is the length of the capture. */
 typedef struct rei2_frame_answer {
     uint32_t kind;
     size_t start;
@@ -230,15 +240,26 @@ typedef struct rei2_running_of {
 
 /* A running time in ticks. */
 typedef struct rei2_running_answer {
-    uint32_t number;
+    uint32_t refusal;
     int64_t ticks;
 } rei2_running_answer;
 
 /* A list that was written: how many bytes it has. */
 typedef struct rei2_listed_answer {
-    uint32_t number;
+    uint32_t refusal;
     size_t size;
 } rei2_listed_answer;
+
+/* What a host must lend: the seats of a row; the bytes of cells and the marks that the largest desk uses, fewer make a
+   smaller one; the bytes of a cell; the most bytes of a capture that is listed; the bytes that every list fits in. */
+typedef struct rei2_limits_answer {
+    size_t seats;
+    size_t cells;
+    size_t marks;
+    size_t cell_size;
+    size_t most_input;
+    size_t longest_list;
+} rei2_limits_answer;
 
 /* ---- the layout that the library goes by. Where the compiler has another, it stops here. */
 
@@ -262,7 +283,7 @@ REI2_OFFSET(rei2_seat, ended, 12);
 
 REI2_SIZE(rei2_desk_answer, 32);
 REI2_OFFSET(rei2_desk_answer, desk, 0);
-REI2_OFFSET(rei2_desk_answer, number, 16);
+REI2_OFFSET(rei2_desk_answer, refusal, 16);
 REI2_OFFSET(rei2_desk_answer, offset, 20);
 REI2_OFFSET(rei2_desk_answer, seat, 24);
 
@@ -274,7 +295,7 @@ REI2_OFFSET(rei2_counts, refused, 24);
 
 REI2_SIZE(rei2_captured_answer, 56);
 REI2_OFFSET(rei2_captured_answer, desk, 0);
-REI2_OFFSET(rei2_captured_answer, number, 16);
+REI2_OFFSET(rei2_captured_answer, refusal, 16);
 REI2_OFFSET(rei2_captured_answer, counts, 24);
 
 REI2_SIZE(rei2_static_request, 32);
@@ -288,7 +309,7 @@ REI2_OFFSET(rei2_static_request, group, 24);
 REI2_OFFSET(rei2_static_request, output, 28);
 
 REI2_SIZE(rei2_request_answer, 40);
-REI2_OFFSET(rei2_request_answer, number, 0);
+REI2_OFFSET(rei2_request_answer, refusal, 0);
 REI2_OFFSET(rei2_request_answer, offset, 4);
 REI2_OFFSET(rei2_request_answer, request, 8);
 
@@ -300,25 +321,28 @@ REI2_OFFSET(rei2_timing_numbers, month, 12);
 REI2_OFFSET(rei2_timing_numbers, year, 16);
 REI2_OFFSET(rei2_timing_numbers, net, 24);
 
+REI2_SIZE(rei2_reply_head, 32);
+REI2_OFFSET(rei2_reply_head, program, 0);
+REI2_OFFSET(rei2_reply_head, mode, 1);
+REI2_OFFSET(rei2_reply_head, status, 2);
+REI2_OFFSET(rei2_reply_head, requester, 3);
+REI2_OFFSET(rei2_reply_head, number, 4);
+REI2_OFFSET(rei2_reply_head, bib, 8);
+REI2_OFFSET(rei2_reply_head, group, 12);
+REI2_OFFSET(rei2_reply_head, run, 16);
+REI2_OFFSET(rei2_reply_head, physical, 20);
+REI2_OFFSET(rei2_reply_head, channel, 24);
+REI2_OFFSET(rei2_reply_head, information, 28);
+
 REI2_SIZE(rei2_reply_record, 88);
-REI2_OFFSET(rei2_reply_record, program, 0);
-REI2_OFFSET(rei2_reply_record, mode, 1);
-REI2_OFFSET(rei2_reply_record, status, 2);
-REI2_OFFSET(rei2_reply_record, requester, 3);
-REI2_OFFSET(rei2_reply_record, number, 4);
-REI2_OFFSET(rei2_reply_record, bib, 8);
-REI2_OFFSET(rei2_reply_record, group, 12);
-REI2_OFFSET(rei2_reply_record, run, 16);
-REI2_OFFSET(rei2_reply_record, physical, 20);
-REI2_OFFSET(rei2_reply_record, channel, 24);
-REI2_OFFSET(rei2_reply_record, information, 28);
+REI2_OFFSET(rei2_reply_record, head, 0);
 REI2_OFFSET(rei2_reply_record, timing, 32);
 REI2_OFFSET(rei2_reply_record, raw_time, 64);
 REI2_OFFSET(rei2_reply_record, raw_date, 74);
 REI2_OFFSET(rei2_reply_record, spare, 82);
 
 REI2_SIZE(rei2_reply_answer, 96);
-REI2_OFFSET(rei2_reply_answer, number, 0);
+REI2_OFFSET(rei2_reply_answer, refusal, 0);
 REI2_OFFSET(rei2_reply_answer, offset, 4);
 REI2_OFFSET(rei2_reply_answer, reply, 8);
 
@@ -338,12 +362,12 @@ REI2_OFFSET(rei2_dynamic_request, period, 40);
 REI2_OFFSET(rei2_dynamic_request, output, 44);
 
 REI2_SIZE(rei2_dynamic_answer, 56);
-REI2_OFFSET(rei2_dynamic_answer, number, 0);
+REI2_OFFSET(rei2_dynamic_answer, refusal, 0);
 REI2_OFFSET(rei2_dynamic_answer, offset, 4);
 REI2_OFFSET(rei2_dynamic_answer, request, 8);
 
 REI2_SIZE(rei2_written_answer, 16);
-REI2_OFFSET(rei2_written_answer, number, 0);
+REI2_OFFSET(rei2_written_answer, refusal, 0);
 REI2_OFFSET(rei2_written_answer, offset, 4);
 REI2_OFFSET(rei2_written_answer, size, 8);
 
@@ -366,12 +390,20 @@ REI2_OFFSET(rei2_running_of, days, 16);
 REI2_OFFSET(rei2_running_of, time, 20);
 
 REI2_SIZE(rei2_running_answer, 16);
-REI2_OFFSET(rei2_running_answer, number, 0);
+REI2_OFFSET(rei2_running_answer, refusal, 0);
 REI2_OFFSET(rei2_running_answer, ticks, 8);
 
 REI2_SIZE(rei2_listed_answer, 16);
-REI2_OFFSET(rei2_listed_answer, number, 0);
+REI2_OFFSET(rei2_listed_answer, refusal, 0);
 REI2_OFFSET(rei2_listed_answer, size, 8);
+
+REI2_SIZE(rei2_limits_answer, 48);
+REI2_OFFSET(rei2_limits_answer, seats, 0);
+REI2_OFFSET(rei2_limits_answer, cells, 8);
+REI2_OFFSET(rei2_limits_answer, marks, 16);
+REI2_OFFSET(rei2_limits_answer, cell_size, 24);
+REI2_OFFSET(rei2_limits_answer, most_input, 32);
+REI2_OFFSET(rei2_limits_answer, longest_list, 40);
 
 #undef REI2_IS
 #undef REI2_SIZE
@@ -380,6 +412,21 @@ REI2_OFFSET(rei2_listed_answer, size, 8);
 #ifdef __cplusplus
 extern "C" {
 #endif
+
+/* ---- limits and names */
+
+/* What a host must lend. The same numbers are REI2_SEATS, REI2_CELLS * REI2_CELL_SIZE, REI2_CELLS, REI2_CELL_SIZE,
+   REI2_MOST_INPUT and REI2_LONGEST_LIST, for arrays; a host that allocates, or that compares the library with the
+   header that it was built with, asks here. Never refused. */
+rei2_limits_answer rei2_limits(void);
+
+/* Writes the name of a refusal to out, in ASCII capitals with a zero byte after it, to be printed with %s: DONE for 0,
+   KIND to FULL for 1 to 16, with spaces as in NO ANSWER DUE, and UNKNOWN for any other number. An output of
+   REI2_NAME_SIZE bytes is always enough.
+   Refused with: ROOM.
+   Done: name and zero byte are the first bytes of out, and no other byte of out changes; size is that of the name
+   alone. */
+rei2_written_answer rei2_refusal_name(uint32_t refusal, uint8_t *out, size_t out_len);
 
 /* ---- the desk. seats is a row of REI2_SEATS seats, and another length is refused; cells are REI2_CELL_SIZE bytes
    each, one behind the other; marks has a number for each cell, the seat that it belongs to. The first desk.count cells
@@ -462,8 +509,9 @@ rei2_written_answer rei2_write_dynamic(rei2_dynamic_request record, uint8_t *out
 /* ---- captures */
 
 /* The first frame that begins at the index at or behind it. Start with 0 and go on with the answer's next, until
-   REI2_NOTHING. A frame begins with a lead byte and runs to its CR; bytes between frames are passed over. Any index is
-   taken, and the call is never refused. Costs a look at each byte up to the end of the frame that it finds. */
+   REI2_NOTHING: then nothing is left, and next is the capture's length, however far behind the end the index was. A
+   frame begins with a lead byte and runs to its CR; bytes between frames are passed over. Any index is taken, and the
+   call is never refused. Costs a look at each byte up to the end of the frame that it finds. */
 rei2_frame_answer rei2_next_frame(const uint8_t *capture, size_t capture_len, size_t at);
 
 /* Writes the list of a capture to out: a heading, the records of each seat in order, and an end line with the counts.

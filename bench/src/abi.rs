@@ -1,10 +1,11 @@
-//! The structs of include/rei2.h, and its sixteen calls as both sides have them.
+//! The structs of include/rei2.h, and its calls as both sides have them.
 
 use crate::plain;
 
 pub const SEATS: usize = 16;
 pub const CELLS: usize = 256;
 pub const CELL_SIZE: usize = 51;
+pub const NAME_SIZE: usize = 14;
 
 pub const RAW: u32 = 0;
 pub const CLOCK: u32 = 1;
@@ -22,30 +23,33 @@ macro_rules! structs {
 structs! {
     Desk { bits: u64, count: u32 }
     Seat { requester: u32, number: u32, held: u32, ended: u32 }
-    DeskAnswer { desk: Desk, number: u32, offset: u32, seat: usize }
+    DeskAnswer { desk: Desk, refusal: u32, offset: u32, seat: u32 }
     Counts { opened: usize, collected: usize, dynamic: usize, refused: usize }
-    CapturedAnswer { desk: Desk, number: u32, counts: Counts }
+    CapturedAnswer { desk: Desk, refusal: u32, counts: Counts }
     StaticRequest {
         requester: u8, number: u32, bib: u32, information: u8, channel: u32, run: u32, group: u32, output: u8,
     }
-    RequestAnswer { number: u32, offset: u32, request: StaticRequest }
+    RequestAnswer { refusal: u32, offset: u32, request: StaticRequest }
     TimingNumbers { kind: u32, ticks: u32, day: u32, month: u32, year: u32, net: i64 }
-    ReplyRecord {
+    ReplyHead {
         program: u8, mode: u8, status: u8, requester: u8, number: u32, bib: u32, group: u32, run: u32, physical: u32,
-        channel: u32, information: u8, timing: TimingNumbers, raw_time: [u8; 10], raw_date: [u8; 8], spare: [u8; 2],
+        channel: u32, information: u8,
     }
-    ReplyAnswer { number: u32, offset: u32, reply: ReplyRecord }
+    ReplyRecord {
+        head: ReplyHead, timing: TimingNumbers, raw_time: [u8; 10], raw_date: [u8; 8], spare: [u8; 2],
+    }
+    ReplyAnswer { refusal: u32, offset: u32, reply: ReplyRecord }
     DynamicRequest {
         requester: u8, order: u8, bib: u32, channel: u32, run: u32, stop_bib: u32, stop_channel: u32, stop_run: u32,
         sign: u32, time: u32, days: u32, period: u32, output: u8,
     }
-    DynamicAnswer { number: u32, offset: u32, request: DynamicRequest }
-    WrittenAnswer { number: u32, offset: u32, size: usize }
+    DynamicAnswer { refusal: u32, offset: u32, request: DynamicRequest }
+    WrittenAnswer { refusal: u32, offset: u32, size: usize }
     FrameAnswer { kind: u32, start: usize, end: usize, next: usize }
     CellAnswer { found: u32, cell: usize }
     RunningOf { bib: u32, tnow: u32, tev: u32, sign: u32, days: u32, time: u32 }
-    RunningAnswer { number: u32, ticks: i64 }
-    ListedAnswer { number: u32, size: usize }
+    RunningAnswer { refusal: u32, ticks: i64 }
+    ListedAnswer { refusal: u32, size: usize }
 }
 
 /// Declares the calls, and the two sides as tables of pointers to them. Both sides have the same types, and are called
@@ -100,4 +104,5 @@ calls! {
         out: *mut u8, out_len: usize,
     ) -> ListedAnswer;
     running_time rei2_running_time(of: RunningOf) -> RunningAnswer;
+    refusal_name rei2_refusal_name(refusal: u32, out: *mut u8, out_len: usize) -> WrittenAnswer;
 }

@@ -23,7 +23,7 @@ fn one_row(row: &mut Row) -> usize {
         let what = format!("{} {}: on {}", about.call, about.case, a.asked);
         assert!(a.answer == b.answer, "{what}\nproved: {}\nplain: {}", a.answer, b.answer);
         assert!(a == b, "{what}\nmemory, proved: {}\nmemory, plain: {}", a.memory, b.memory);
-        assert!(a.number == about.number, "{what}\nanswered {}, not with {}", a.answer, about.number);
+        assert!(a.refusal == about.refusal, "{what}\nanswered {}, not with {}", a.answer, about.refusal);
     }
     about.calls
 }

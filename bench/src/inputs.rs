@@ -34,7 +34,7 @@ pub fn request(random: &mut Random) -> StaticRequest {
 
 /// A reply with status R and a timing of this kind.
 pub fn reply(random: &mut Random, kind: u32) -> ReplyRecord {
-    let mut record = ReplyRecord {
+    let head = ReplyHead {
         program: random.raw::<1>()[0],
         mode: random.raw::<1>()[0],
         status: b'R',
@@ -46,10 +46,9 @@ pub fn reply(random: &mut Random, kind: u32) -> ReplyRecord {
         physical: random.between(0, 999),
         channel: random.between(0, 240),
         information: random.one_of([RAW_LETTERS, CLOCK_LETTERS, NET_LETTERS][kind as usize]),
-        timing: TimingNumbers { kind, ..TimingNumbers::default() },
-        spare: random.raw(),
-        ..ReplyRecord::default()
     };
+    let timing = TimingNumbers { kind, ..TimingNumbers::default() };
+    let mut record = ReplyRecord { head, timing, spare: random.raw(), ..ReplyRecord::default() };
     match kind {
         CLOCK => record.timing = clock_timing(random),
         NET => record.timing.net = net_value(random),
@@ -131,10 +130,15 @@ pub fn request_with(random: &mut Random, (requester, number): Key) -> Vec<u8> {
     request_frame(&StaticRequest { requester, number, ..request(random) })
 }
 
+/// The record with this key.
+pub fn with_key(record: ReplyRecord, (requester, number): Key) -> ReplyRecord {
+    ReplyRecord { head: ReplyHead { requester, number, ..record.head }, ..record }
+}
+
 /// A reply of any timing with this key and status R.
-pub fn reply_with(random: &mut Random, (requester, number): Key) -> Vec<u8> {
+pub fn reply_with(random: &mut Random, key: Key) -> Vec<u8> {
     let kind = random.between(RAW, NET);
-    reply_frame(&ReplyRecord { requester, number, ..reply(random, kind) })
+    reply_frame(&with_key(reply(random, kind), key))
 }
 
 /// A desk with all that is lent to it.

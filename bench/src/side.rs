@@ -119,4 +119,9 @@ impl Side {
     pub fn running_time(&self, of: RunningOf) -> RunningAnswer {
         unsafe { (self.running_time)(of) }
     }
+
+    #[inline(always)]
+    pub fn refusal_name(&self, refusal: u32, out: &mut [u8]) -> WrittenAnswer {
+        unsafe { (self.refusal_name)(refusal, out.as_mut_ptr(), out.len()) }
+    }
 }

@@ -128,18 +128,19 @@ fn spoil_request(record: &mut StaticRequest, part: usize, value: u32, byte: u8) 
 }
 
 fn spoil_reply(record: &mut ReplyRecord, part: usize, value: u32, byte: u8) {
+    let head = &mut record.head;
     match part {
-        0 => record.program = byte,
-        1 => record.mode = byte,
-        2 => record.status = byte,
-        3 => record.requester = byte,
-        4 => record.number = value,
-        5 => record.bib = value,
-        6 => record.group = value,
-        7 => record.run = value,
-        8 => record.physical = value,
-        9 => record.channel = value,
-        10 => record.information = byte,
+        0 => head.program = byte,
+        1 => head.mode = byte,
+        2 => head.status = byte,
+        3 => head.requester = byte,
+        4 => head.number = value,
+        5 => head.bib = value,
+        6 => head.group = value,
+        7 => head.run = value,
+        8 => head.physical = value,
+        9 => head.channel = value,
+        10 => head.information = byte,
         11 => record.timing.kind = value,
         12 => record.timing.ticks = value,
         13 => record.timing.day = value,
@@ -150,8 +151,8 @@ fn spoil_reply(record: &mut ReplyRecord, part: usize, value: u32, byte: u8) {
         18 => record.raw_time[usize::from(byte) % 10] = byte,
         19 => record.raw_date[usize::from(byte) % 8] = byte,
         20 => record.spare[usize::from(byte) % 2] = byte,
-        21 => record.status = b'Z',
-        22 => (record.status, record.run) = (b'E', value),
+        21 => head.status = b'Z',
+        22 => (head.status, head.run) = (b'E', value),
         _ => (),
     }
 }
@@ -179,8 +180,7 @@ fn spoil_dynamic(record: &mut DynamicRequest, part: usize, value: u32, byte: u8)
 fn damaged_cells(random: &mut Random) -> usize {
     for kind in [CLOCK, NET, RAW] {
         let mut lent = Lent::with(random, 2, 3);
-        let (requester, number) = key_of_seat(0);
-        let cell = reply_frame(&ReplyRecord { requester, number, ..reply(random, kind) });
+        let cell = reply_frame(&with_key(reply(random, kind), key_of_seat(0)));
         let frame = reply_with(random, key_of_seat(0));
         for place in 0..CELL_SIZE {
             for byte in 0..=u8::MAX {
@@ -303,5 +303,19 @@ fn numbers(random: &mut Random) -> usize {
             (got(|answer| side.reset(answer, &mut seats[..length], desk)), seats)
         });
     }
-    5 * TIMES
+    5 * TIMES + names()
+}
+
+/// Every name, on outputs of each length up to one byte more than the longest needs.
+fn names() -> usize {
+    let refusals = || (0..20).chain([255, 256, u32::MAX]);
+    for refusal in refusals() {
+        for room in 0..=NAME_SIZE + 1 {
+            same(&(refusal, room), |side| {
+                let mut out = [7; NAME_SIZE + 1];
+                (side.refusal_name(refusal, &mut out[..room]), out)
+            });
+        }
+    }
+    refusals().count() * (NAME_SIZE + 2)
 }

@@ -4,15 +4,15 @@ use crate::abi::*;
 use std::fmt::Debug;
 use std::hint::black_box;
 
-/// An answer, with the number that says whether it is a refusal.
+/// An answer, with what it says of being refused.
 pub trait Answer: Debug {
-    fn number(&self) -> u32 {
+    fn refusal(&self) -> u32 {
         0
     }
 }
 
 macro_rules! answers {
-    ($($name:ty),*) => {$(impl Answer for $name { fn number(&self) -> u32 { self.number } })*};
+    ($($name:ty),*) => {$(impl Answer for $name { fn refusal(&self) -> u32 { self.refusal } })*};
 }
 
 answers!(
@@ -48,7 +48,7 @@ impl Witness for Nobody {
 #[derive(PartialEq)]
 pub struct Seen {
     pub asked: String,
-    pub number: u32,
+    pub refusal: u32,
     pub answer: String,
     pub memory: String,
 }
@@ -60,7 +60,7 @@ impl Witness for Keeper {
     fn saw(&mut self, asked: &dyn Debug, answer: &impl Answer, memory: &[&dyn Debug]) {
         self.0.push(Seen {
             asked: format!("{asked:?}"),
-            number: answer.number(),
+            refusal: answer.refusal(),
             answer: format!("{answer:?}"),
             memory: format!("{memory:?}"),
         });

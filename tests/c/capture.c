@@ -61,8 +61,8 @@ static void want_example(void) {
 struct step {
     size_t start;
     size_t end;
-    uint32_t number;
-    size_t seat;
+    uint32_t refusal;
+    uint32_t seat;
     rei2_seat seats[2];
 };
 
@@ -86,9 +86,9 @@ static rei2_desk_answer met(rei2_desk desk, const uint8_t *frame, size_t size) {
 /* What a step changes: the seats, and with a reply that is taken a cell and its mark. */
 static void want_step(const struct step *step, uint32_t count) {
     memcpy(wanted.seats, step->seats, sizeof step->seats);
-    if (example_capture[step->start] == REI2_REPLY_LEAD && step->number == REI2_DONE) {
+    if (example_capture[step->start] == REI2_REPLY_LEAD && step->refusal == REI2_DONE) {
         memcpy(wanted.cells + count * REI2_CELL_SIZE, example_capture + step->start, REI2_CELL_SIZE);
-        wanted.marks[count] = (uint32_t)step->seat;
+        wanted.marks[count] = step->seat;
     }
 }
 
@@ -100,14 +100,15 @@ static void example_by_frames(void) {
         CHECK(found.kind == REI2_WHOLE && found.start == steps[i].start && found.end == steps[i].end);
         CHECK(found.next == found.end);
         rei2_desk_answer answer = met(desk, example_capture + found.start, found.end - found.start);
-        SAYS(answer, steps[i].number, 0);
+        SAYS(answer, steps[i].refusal, 0);
         CHECK(answer.seat == steps[i].seat);
         want_step(&steps[i], desk.count);
         is_as_wanted();
         desk = answer.desk;
         at = found.next;
     }
-    CHECK(rei2_next_frame(example_capture, EXAMPLE_CAPTURE, at).kind == REI2_NOTHING);
+    rei2_frame_answer last = rei2_next_frame(example_capture, EXAMPLE_CAPTURE, at);
+    CHECK(last.kind == REI2_NOTHING && last.next == EXAMPLE_CAPTURE);
     CHECK(desk.bits == 3 && desk.count == 3);
     want_example();
     is_as_wanted();
@@ -232,13 +233,19 @@ static void finds(const char *capture, size_t size, size_t at, rei2_frame_answer
     CHECK(got.kind == wants.kind && got.start == wants.start && got.end == wants.end && got.next == wants.next);
 }
 
+/* Nothing is left: the search goes on at the end of the capture, wherever it began. */
+static void finds_nothing(const char *capture, size_t size, size_t at) {
+    finds(capture, size, at, (rei2_frame_answer){REI2_NOTHING, 0, 0, size});
+}
+
 static void finder(void) {
-    static const rei2_frame_answer nothing = {REI2_NOTHING, 0, 0, 0};
     static const char capture[] = "ab\rc\021xy\r\022z\023\r\r\021";
     enum { SIZE = sizeof capture - 1 };
-    finds(NULL, 0, 0, nothing);
-    finds(NULL, 0, SIZE_MAX, nothing);
-    finds(capture, 4, 0, nothing);
+    finds_nothing(NULL, 0, 0);
+    finds_nothing(NULL, 0, SIZE_MAX);
+    finds_nothing(capture, 4, 0);
+    finds_nothing(capture, 4, 3);
+    finds_nothing(capture, 0, 0);
     finds(capture, 5, 0, (rei2_frame_answer){REI2_CUT, 4, 5, 5});
     finds(capture, 7, 0, (rei2_frame_answer){REI2_CUT, 4, 7, 7});
     finds(capture, SIZE, 0, (rei2_frame_answer){REI2_WHOLE, 4, 8, 8});
@@ -246,12 +253,26 @@ static void finder(void) {
     finds(capture, SIZE, 5, (rei2_frame_answer){REI2_CUT, 8, 10, 10});
     finds(capture, SIZE, 10, (rei2_frame_answer){REI2_WHOLE, 10, 12, 12});
     finds(capture, SIZE, 12, (rei2_frame_answer){REI2_CUT, 13, 14, 14});
-    finds(capture, SIZE, SIZE, nothing);
-    finds(capture, SIZE, SIZE_MAX, nothing);
+    finds_nothing(capture, SIZE, SIZE);
+    finds_nothing(capture, SIZE, SIZE + 1);
+    finds_nothing(capture, SIZE, SIZE_MAX);
+}
+
+/* A loop that goes on with next passes all frames and ends at the capture's length. */
+static void finder_in_a_loop(void) {
+    size_t frames = 0, at = 0;
+    while (at < EXAMPLE_CAPTURE && frames <= STEPS) {
+        rei2_frame_answer found = rei2_next_frame(example_capture, EXAMPLE_CAPTURE, at);
+        CHECK(found.next > at);
+        frames += found.kind != REI2_NOTHING;
+        at = found.next;
+    }
+    CHECK(frames == STEPS && at == EXAMPLE_CAPTURE);
 }
 
 void test_capture(void) {
     finder();
+    finder_in_a_loop();
     example_by_frames();
     example_at_once();
     example_in_parts();

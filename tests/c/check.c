@@ -39,30 +39,30 @@ void check_same(const void *got, const void *wanted, size_t size, struct place p
 }
 
 void check_said(struct said got, struct said wanted, struct place place) {
-    if (got.number <= REI2_FULL) {
-        met[got.number] = 1;
+    if (got.refusal <= REI2_FULL) {
+        met[got.refusal] = 1;
     }
-    if (fails(got.number == wanted.number && got.offset == wanted.offset, place)) {
-        printf(": says %u at %u and not %u at %u\n", got.number, got.offset, wanted.number, wanted.offset);
+    if (fails(got.refusal == wanted.refusal && got.offset == wanted.offset, place)) {
+        printf(": says %u at %u and not %u at %u\n", got.refusal, got.offset, wanted.refusal, wanted.offset);
     }
 }
 
 struct said said(struct said s) { return s; }
-struct said said_by_desk(rei2_desk_answer a) { return (struct said){a.number, a.offset}; }
-struct said said_captured(rei2_captured_answer a) { return (struct said){a.number, 0}; }
-struct said said_request(rei2_request_answer a) { return (struct said){a.number, a.offset}; }
-struct said said_reply(rei2_reply_answer a) { return (struct said){a.number, a.offset}; }
-struct said said_dynamic(rei2_dynamic_answer a) { return (struct said){a.number, a.offset}; }
-struct said said_written(rei2_written_answer a) { return (struct said){a.number, a.offset}; }
-struct said said_listed(rei2_listed_answer a) { return (struct said){a.number, 0}; }
-struct said said_running(rei2_running_answer a) { return (struct said){a.number, 0}; }
+struct said said_by_desk(rei2_desk_answer a) { return (struct said){a.refusal, a.offset}; }
+struct said said_captured(rei2_captured_answer a) { return (struct said){a.refusal, 0}; }
+struct said said_request(rei2_request_answer a) { return (struct said){a.refusal, a.offset}; }
+struct said said_reply(rei2_reply_answer a) { return (struct said){a.refusal, a.offset}; }
+struct said said_dynamic(rei2_dynamic_answer a) { return (struct said){a.refusal, a.offset}; }
+struct said said_written(rei2_written_answer a) { return (struct said){a.refusal, a.offset}; }
+struct said said_listed(rei2_listed_answer a) { return (struct said){a.refusal, 0}; }
+struct said said_running(rei2_running_answer a) { return (struct said){a.refusal, 0}; }
 
 void trying(const char *what) {
     tried = what;
 }
 
-int was_said(uint32_t number) {
-    return number <= REI2_FULL && met[number];
+int was_said(uint32_t refusal) {
+    return refusal <= REI2_FULL && met[refusal];
 }
 
 int verdict(void) {

@@ -18,12 +18,12 @@ struct place {
 /* Two runs of bytes are the same. */
 #define SAME(got, wanted, size) check_same(got, wanted, size, HERE(#got))
 
-/* An answer has this number and this offset; the number is noted as met. */
-#define SAYS(answer, number, offset) check_said(SAID(answer), (struct said){number, offset}, HERE(#answer))
+/* An answer has this refusal and this offset; the refusal is noted as met. */
+#define SAYS(answer, refusal, offset) check_said(SAID(answer), (struct said){refusal, offset}, HERE(#answer))
 
-/* Number and offset of an answer; the offset is 0 where the answer has none. */
+/* Refusal and offset of an answer; the offset is 0 where the answer has none. */
 struct said {
-    uint32_t number;
+    uint32_t refusal;
     uint32_t offset;
 };
 #define SAID(answer)                         \
@@ -55,8 +55,8 @@ void check_said(struct said got, struct said wanted, struct place place);
 /* What is tried now, for the lines of checks that stand in a loop; null for nothing. */
 void trying(const char *what);
 
-/* Has a call answered with this number? */
-int was_said(uint32_t number);
+/* Has a call answered with this refusal? */
+int was_said(uint32_t refusal);
 
 /* Prints the counts. Gives the exit status: 0 where checks ran and none failed. */
 int verdict(void);

@@ -22,12 +22,16 @@ static int zero_timing(rei2_timing_numbers t) {
     return t.kind == 0 && t.ticks == 0 && t.day == 0 && t.month == 0 && t.year == 0 && t.net == 0;
 }
 
+static int zero_head(rei2_reply_head h) {
+    int bytes = h.program == 0 && h.mode == 0 && h.status == 0 && h.requester == 0 && h.information == 0;
+    int numbers = h.number == 0 && h.bib == 0 && h.group == 0 && h.run == 0 && h.physical == 0 && h.channel == 0;
+    return bytes && numbers;
+}
+
 static int zero_reply(rei2_reply_record r) {
     static const uint8_t zero[10];
-    int bytes = r.program == 0 && r.mode == 0 && r.status == 0 && r.requester == 0 && r.information == 0;
-    int numbers = r.number == 0 && r.bib == 0 && r.group == 0 && r.run == 0 && r.physical == 0 && r.channel == 0;
     int raw = !memcmp(r.raw_time, zero, 10) && !memcmp(r.raw_date, zero, 8) && !memcmp(r.spare, zero, 2);
-    return bytes && numbers && raw && zero_timing(r.timing);
+    return zero_head(r.head) && raw && zero_timing(r.timing);
 }
 
 static int zero_dynamic(rei2_dynamic_request r) {
@@ -79,8 +83,8 @@ static void make_kinds(void) {
     make_dynamic(kinds[2].frame);
 }
 
-static void is_refused(struct reading r, uint32_t number, uint32_t offset) {
-    SAYS(r.said, number, offset);
+static void is_refused(struct reading r, uint32_t refusal, uint32_t offset) {
+    SAYS(r.said, refusal, offset);
     CHECK(r.empty);
 }
 
@@ -181,8 +185,8 @@ static void wrote(rei2_written_answer answer, const uint8_t *frame, size_t size)
 }
 
 /* It was not, and no byte of the output changed. */
-static void wrote_not(rei2_written_answer answer, uint32_t number, uint32_t offset) {
-    SAYS(answer, number, offset);
+static void wrote_not(rei2_written_answer answer, uint32_t refusal, uint32_t offset) {
+    SAYS(answer, refusal, offset);
     CHECK(answer.size == 0);
     SAME(out, out_was, OUT);
     clear_out();
@@ -254,15 +258,17 @@ static int timing_is(rei2_timing_numbers t, rei2_timing_numbers w) {
 
 static void reply_records(void) {
     rei2_reply_record r = reply_in(clock_frame);
-    CHECK(r.program == 'S' && r.mode == 'O' && r.status == 'E' && r.requester == 'A' && r.number == 12 && r.bib == 41);
-    CHECK(r.group == 0 && r.run == 1 && r.physical == 15 && r.channel == 255 && r.information == '0');
+    rei2_reply_head h = r.head;
+    CHECK(h.program == 'S' && h.mode == 'O' && h.status == 'E' && h.requester == 'A' && h.number == 12 && h.bib == 41);
+    CHECK(h.group == 0 && h.run == 1 && h.physical == 15 && h.channel == 255 && h.information == '0');
     CHECK(timing_is(r.timing, (rei2_timing_numbers){REI2_CLOCK, 863999999, 29, 2, 2024, 0}));
     CHECK(no_raw(r) && r.spare[0] == 'a' && r.spare[1] == 'b');
     r = reply_in(net_frame);
     CHECK(timing_is(r.timing, (rei2_timing_numbers){REI2_NET, 0, 0, 0, 0, -10000}) && no_raw(r));
     r = reply_in(raw_frame);
-    CHECK(r.program == ' ' && r.mode == '~' && r.number == 99999 && r.bib == 59999 && r.group == 199 && r.run == 0);
-    CHECK(r.physical == 999 && r.channel == 250);
+    h = r.head;
+    CHECK(h.program == ' ' && h.mode == '~' && h.number == 99999 && h.bib == 59999 && h.group == 199 && h.run == 0);
+    CHECK(h.physical == 999 && h.channel == 250);
     CHECK(timing_is(r.timing, (rei2_timing_numbers){REI2_RAW, 0, 0, 0, 0, 0}));
     SAME(r.raw_time, raw_frame + 30, 10);
     SAME(r.raw_date, raw_frame + 40, 8);
@@ -286,27 +292,27 @@ static void reply_refused(rei2_reply_record r, uint32_t offset) {
 
 /* The parts before the time wrong, from the last to the first, whatever is wrong behind them. */
 static void spoil_head(rei2_reply_record r) {
-    r.information = 'L';
+    r.head.information = 'L';
     reply_refused(r, 29);
-    r.channel = 251;
+    r.head.channel = 251;
     reply_refused(r, 26);
-    r.physical = 1000;
+    r.head.physical = 1000;
     reply_refused(r, 23);
-    r.run = r.status == 'Z' ? 251 : 0;
+    r.head.run = r.head.status == 'Z' ? 251 : 0;
     reply_refused(r, 20);
-    r.group = 200;
+    r.head.group = 200;
     reply_refused(r, 17);
-    r.bib = 60000;
+    r.head.bib = 60000;
     reply_refused(r, 12);
-    r.number = 100000;
+    r.head.number = 100000;
     reply_refused(r, 7);
-    r.requester = '_';
+    r.head.requester = '_';
     reply_refused(r, 6);
-    r.status = 'r';
+    r.head.status = 'r';
     reply_refused(r, 5);
-    r.mode = 127;
+    r.head.mode = 127;
     reply_refused(r, 4);
-    r.program = 31;
+    r.head.program = 31;
     reply_refused(r, 3);
 }
 
@@ -377,7 +383,7 @@ static void reply_timing(void) {
         reply_refused(r, 30);
         r.timing = (rei2_timing_numbers){UINT32_MAX, 1, 1, 1, 2024, 1};
         reply_refused(r, 30);
-        r.bib = 60000;
+        r.head.bib = 60000;
         reply_refused(r, 12);
     }
 }

@@ -1,4 +1,4 @@
-/* Calls each exported function of libhost.a. With no word it runs the checks; with the word capture or list it writes
+/* Calls each exported function of librei2.a. With no word it runs the checks; with the word capture or list it writes
    the example that it has, for tests/c/run to compare. */
 #include <string.h>
 #include <unistd.h>
@@ -12,8 +12,8 @@ static int write_out(const uint8_t *bytes, size_t size) {
 }
 
 static void every_refusal_was_met(void) {
-    for (uint32_t number = REI2_DONE; number <= REI2_FULL; number++) {
-        CHECK(was_said(number));
+    for (uint32_t refusal = REI2_DONE; refusal <= REI2_FULL; refusal++) {
+        CHECK(was_said(refusal));
     }
 }
 
@@ -23,6 +23,8 @@ static int run_all(void) {
     test_desk();
     test_spoiled();
     test_capture();
+    test_names();
+    test_limits();
     every_refusal_was_met();
     return verdict();
 }

@@ -64,7 +64,7 @@ rei2_captured_answer table_capture(struct table *table, const uint8_t *capture, 
 
 /* The state goes on with what a call that was done gave. */
 static rei2_desk_answer kept(struct table *table, rei2_desk_answer answer) {
-    if (answer.number == REI2_DONE) {
+    if (answer.refusal == REI2_DONE) {
         table->desk = answer.desk;
     }
     return answer;
@@ -88,8 +88,9 @@ int same_desk(rei2_desk a, rei2_desk b) {
     return a.bits == b.bits && a.count == b.count;
 }
 
-void table_refused(struct table *table, rei2_desk_answer answer, uint32_t number, uint32_t offset, struct place place) {
-    check_said(SAID(answer), (struct said){number, offset}, place);
+void table_refused(struct table *table, rei2_desk_answer answer, uint32_t refusal, uint32_t offset,
+                   struct place place) {
+    check_said(SAID(answer), (struct said){refusal, offset}, place);
     check(same_desk(answer.desk, table->desk) && answer.seat == 0, place);
     check_same(&table->memory, &table->was, sizeof table->was, place);
 }

@@ -54,9 +54,9 @@ rei2_desk_answer table_takes(struct table *table, char status, char requester, c
 /* Are two states the same? */
 int same_desk(rei2_desk a, rei2_desk b);
 
-/* Was the call refused with this number and offset, the state handed back, and no seat named? */
-#define REFUSED(table, answer, wanted_number, wanted_offset) \
-    table_refused(table, answer, wanted_number, wanted_offset, HERE(#answer))
-void table_refused(struct table *table, rei2_desk_answer answer, uint32_t number, uint32_t offset, struct place place);
+/* Was the call refused so, with this offset, the state handed back, and no seat named? */
+#define REFUSED(table, answer, refusal, offset) \
+    table_refused(table, answer, refusal, offset, HERE(#answer))
+void table_refused(struct table *table, rei2_desk_answer answer, uint32_t refusal, uint32_t offset, struct place place);
 
 #endif

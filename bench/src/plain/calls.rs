@@ -1,7 +1,7 @@
 //! The calls in the shape that C gives them. No pointer is null here, with no elements either.
 #![allow(clippy::missing_safety_doc, clippy::too_many_arguments)]
 
-use super::refusal::{Refusal, DESK};
+use super::refusal::{put_name, Refusal, DESK};
 use super::{desk, dynamic, finder, listing, reply, request, times};
 use crate::abi::*;
 use std::slice::{from_raw_parts, from_raw_parts_mut};
@@ -16,16 +16,16 @@ unsafe fn store<T>(place: *mut T, answer: T) -> *mut T {
 #[inline(always)]
 fn desk_answer(before: Desk, done: Result<(Desk, usize), Refusal>) -> DeskAnswer {
     match done {
-        Ok((desk, seat)) => DeskAnswer { desk, number: 0, offset: 0, seat },
-        Err(Refusal { number, offset }) => DeskAnswer { desk: before, number, offset, seat: 0 },
+        Ok((desk, seat)) => DeskAnswer { desk, refusal: 0, offset: 0, seat: seat as u32 },
+        Err(Refusal { number, offset }) => DeskAnswer { desk: before, refusal: number, offset, seat: 0 },
     }
 }
 
 #[inline(always)]
 fn written(done: Result<usize, Refusal>) -> WrittenAnswer {
     match done {
-        Ok(size) => WrittenAnswer { number: 0, offset: 0, size },
-        Err(Refusal { number, offset }) => WrittenAnswer { number, offset, size: 0 },
+        Ok(size) => WrittenAnswer { refusal: 0, offset: 0, size },
+        Err(Refusal { number, offset }) => WrittenAnswer { refusal: number, offset, size: 0 },
     }
 }
 
@@ -96,8 +96,8 @@ pub unsafe extern "C" fn capture(
     let cells = from_raw_parts_mut(cells, cells_len);
     let marks = from_raw_parts_mut(marks, marks_len);
     let answer = match desk::capture(seats, state, cells, marks, from_raw_parts(bytes, bytes_len)) {
-        Ok((desk, counts)) => CapturedAnswer { desk, number: 0, counts },
-        Err(refusal) => CapturedAnswer { desk: state, number: refusal.number, counts: Counts::default() },
+        Ok((desk, counts)) => CapturedAnswer { desk, refusal: 0, counts },
+        Err(refusal) => CapturedAnswer { desk: state, refusal: refusal.number, counts: Counts::default() },
     };
     store(place, answer)
 }
@@ -130,8 +130,8 @@ pub unsafe extern "C" fn next_held(
 #[inline(never)]
 pub unsafe extern "C" fn read_request(place: *mut RequestAnswer, frame: *const u8, len: usize) -> *mut RequestAnswer {
     let answer = match request::read(from_raw_parts(frame, len)) {
-        Ok(request) => RequestAnswer { number: 0, offset: 0, request },
-        Err(Refusal { number, offset }) => RequestAnswer { number, offset, request: StaticRequest::default() },
+        Ok(request) => RequestAnswer { refusal: 0, offset: 0, request },
+        Err(Refusal { number, offset }) => RequestAnswer { refusal: number, offset, request: StaticRequest::default() },
     };
     store(place, answer)
 }
@@ -144,8 +144,8 @@ pub unsafe extern "C" fn write_request(record: StaticRequest, out: *mut u8, len:
 #[inline(never)]
 pub unsafe extern "C" fn read_reply(place: *mut ReplyAnswer, frame: *const u8, len: usize) -> *mut ReplyAnswer {
     let answer = match reply::read(from_raw_parts(frame, len)) {
-        Ok(reply) => ReplyAnswer { number: 0, offset: 0, reply },
-        Err(Refusal { number, offset }) => ReplyAnswer { number, offset, reply: ReplyRecord::default() },
+        Ok(reply) => ReplyAnswer { refusal: 0, offset: 0, reply },
+        Err(Refusal { number, offset }) => ReplyAnswer { refusal: number, offset, reply: ReplyRecord::default() },
     };
     store(place, answer)
 }
@@ -158,8 +158,10 @@ pub unsafe extern "C" fn write_reply(record: ReplyRecord, out: *mut u8, len: usi
 #[inline(never)]
 pub unsafe extern "C" fn read_dynamic(place: *mut DynamicAnswer, frame: *const u8, len: usize) -> *mut DynamicAnswer {
     let answer = match dynamic::read(from_raw_parts(frame, len)) {
-        Ok(request) => DynamicAnswer { number: 0, offset: 0, request },
-        Err(Refusal { number, offset }) => DynamicAnswer { number, offset, request: DynamicRequest::default() },
+        Ok(request) => DynamicAnswer { refusal: 0, offset: 0, request },
+        Err(Refusal { number, offset }) => {
+            DynamicAnswer { refusal: number, offset, request: DynamicRequest::default() }
+        }
     };
     store(place, answer)
 }
@@ -177,7 +179,7 @@ pub unsafe extern "C" fn next_frame(
     at: usize,
 ) -> *mut FrameAnswer {
     let found = finder::next_frame(from_raw_parts(capture, len), at);
-    store(place, found.unwrap_or_default())
+    store(place, found.unwrap_or(FrameAnswer { next: len, ..FrameAnswer::default() }))
 }
 
 #[inline(never)]
@@ -195,15 +197,20 @@ pub unsafe extern "C" fn list(
     let cells = from_raw_parts_mut(cells, cells_len);
     let marks = from_raw_parts_mut(marks, marks_len);
     match listing::list(capture, cells, marks, from_raw_parts_mut(out, out_len)) {
-        Ok(size) => ListedAnswer { number: 0, size },
-        Err(refusal) => ListedAnswer { number: refusal.number, size: 0 },
+        Ok(size) => ListedAnswer { refusal: 0, size },
+        Err(refusal) => ListedAnswer { refusal: refusal.number, size: 0 },
     }
 }
 
 #[inline(never)]
 pub unsafe extern "C" fn running_time(of: RunningOf) -> RunningAnswer {
     match times::running_time(&of) {
-        Ok(ticks) => RunningAnswer { number: 0, ticks },
-        Err(refusal) => RunningAnswer { number: refusal.number, ticks: 0 },
+        Ok(ticks) => RunningAnswer { refusal: 0, ticks },
+        Err(refusal) => RunningAnswer { refusal: refusal.number, ticks: 0 },
     }
+}
+
+#[inline(never)]
+pub unsafe extern "C" fn refusal_name(refusal: u32, out: *mut u8, len: usize) -> WrittenAnswer {
+    written(put_name(refusal, from_raw_parts_mut(out, len)))
 }

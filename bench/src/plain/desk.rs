@@ -75,14 +75,14 @@ fn open_on_desk(seats: &mut [Seat; SEATS], desk: Desk, frame: &[u8]) -> Done {
 }
 
 fn reply_on_desk(seats: &mut [Seat; SEATS], desk: Desk, cells: &mut [u8], marks: &mut [u32], frame: &[u8]) -> Done {
-    let record = reply::read(frame)?;
-    let key = Key { requester: record.requester.into(), number: record.number };
+    let head = reply::read(frame)?.head;
+    let key = Key { requester: head.requester.into(), number: head.number };
     let place = seat_with(seats, desk.bits, key).ok_or(STRAY)?;
     let seat = &mut seats[place];
     if seat.ended != 0 {
         return Err(ENDED);
     }
-    if record.status == b'Z' && seat.held != 0 {
+    if head.status == b'Z' && seat.held != 0 {
         return Err(OUT_OF_PLACE);
     }
     let cell = desk.count as usize;
@@ -92,7 +92,7 @@ fn reply_on_desk(seats: &mut [Seat; SEATS], desk: Desk, cells: &mut [u8], marks:
     cells[cell * CELL_SIZE..][..CELL_SIZE].copy_from_slice(frame);
     marks[cell] = place as u32;
     seat.held += 1;
-    seat.ended = u32::from(record.status != b'R');
+    seat.ended = u32::from(head.status != b'R');
     Ok((Desk { count: desk.count + 1, ..desk }, place))
 }
 

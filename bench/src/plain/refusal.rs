@@ -39,3 +39,18 @@ pub fn part(good: bool, at: u32) -> Result<(), Refusal> {
         Err(Refusal { number: 6, offset: at })
     }
 }
+
+#[rustfmt::skip]
+const NAMES: [&str; 17] = [
+    "DONE", "KIND", "LENGTH", "END", "ADDRESS", "FIELD", "RECORD", "ROOM", "TIME", "DESK", "NO ANSWER DUE", "IN USE",
+    "NO SEAT", "STRAY", "ENDED", "OUT OF PLACE", "FULL",
+];
+
+/// Writes a refusal's name and a zero byte, and gives the name's size.
+pub fn put_name(refusal: u32, out: &mut [u8]) -> Result<usize, Refusal> {
+    let name = NAMES.get(refusal as usize).unwrap_or(&"UNKNOWN").as_bytes();
+    let place = out.get_mut(..=name.len()).ok_or(ROOM)?;
+    place[..name.len()].copy_from_slice(name);
+    place[name.len()] = 0;
+    Ok(name.len())
+}

@@ -5,7 +5,7 @@ use super::fields::{
 };
 use super::refusal::{field, part, Refusal, ROOM};
 use super::times::{is_clock, is_day, net_parts, net_value, put_clock};
-use crate::abi::{ReplyRecord, TimingNumbers, CLOCK, NET, RAW};
+use crate::abi::{ReplyHead, ReplyRecord, TimingNumbers, CLOCK, NET, RAW};
 
 pub const LEAD: u8 = 0x12;
 const SIZE: usize = 51;
@@ -31,23 +31,8 @@ pub fn read(bytes: &[u8]) -> Result<ReplyRecord, Refusal> {
         _ => (TimingNumbers { kind: RAW, ..TimingNumbers::default() }, raw_at(frame, 30)?, raw_at(frame, 40)?),
     };
     let spare = raw_at(frame, 48)?;
-    Ok(ReplyRecord {
-        program,
-        mode,
-        status,
-        requester,
-        number,
-        bib,
-        group,
-        run,
-        physical,
-        channel,
-        information,
-        timing,
-        raw_time,
-        raw_date,
-        spare,
-    })
+    let head = ReplyHead { program, mode, status, requester, number, bib, group, run, physical, channel, information };
+    Ok(ReplyRecord { head, timing, raw_time, raw_date, spare })
 }
 
 #[inline(always)]
@@ -76,21 +61,22 @@ fn read_net(frame: &[u8; SIZE]) -> Result<TimingNumbers, Refusal> {
 }
 
 pub fn write(record: &ReplyRecord, out: &mut [u8]) -> Result<usize, Refusal> {
-    head_must_be_good(record)?;
+    let head = &record.head;
+    head_must_be_good(head)?;
     timing_must_be_good(record)?;
     let frame: &mut [u8; SIZE] = out.first_chunk_mut().ok_or(ROOM)?;
     frame[..3].copy_from_slice(&[LEAD, b'R', b' ']);
-    frame[3] = record.program;
-    frame[4] = record.mode;
-    frame[5] = record.status;
-    frame[6] = record.requester;
-    put_number(&mut frame[7..12], record.number);
-    put_number(&mut frame[12..17], record.bib);
-    put_number(&mut frame[17..20], record.group);
-    put_number(&mut frame[20..23], record.run);
-    put_number(&mut frame[23..26], record.physical);
-    put_number(&mut frame[26..29], record.channel);
-    frame[29] = record.information;
+    frame[3] = head.program;
+    frame[4] = head.mode;
+    frame[5] = head.status;
+    frame[6] = head.requester;
+    put_number(&mut frame[7..12], head.number);
+    put_number(&mut frame[12..17], head.bib);
+    put_number(&mut frame[17..20], head.group);
+    put_number(&mut frame[20..23], head.run);
+    put_number(&mut frame[23..26], head.physical);
+    put_number(&mut frame[26..29], head.channel);
+    frame[29] = head.information;
     put_timing(record, frame);
     frame[48..50].copy_from_slice(&record.spare);
     frame[50] = CR;
@@ -120,24 +106,24 @@ fn put_timing(record: &ReplyRecord, frame: &mut [u8; SIZE]) {
     }
 }
 
-fn head_must_be_good(record: &ReplyRecord) -> Result<(), Refusal> {
-    part(is_raw(record.program), 3)?;
-    part(is_raw(record.mode), 4)?;
-    part(is_status(record.status), 5)?;
-    part(is_requester(record.requester), 6)?;
-    part(record.number <= 99_999, 7)?;
-    part(is_bib(record.bib), 12)?;
-    part(is_group(record.group), 17)?;
-    part(is_run(record.run, record.status), 20)?;
-    part(record.physical <= 999, 23)?;
-    part(is_channel(record.channel), 26)?;
-    part(is_information(record.information), 29)
+fn head_must_be_good(head: &ReplyHead) -> Result<(), Refusal> {
+    part(is_raw(head.program), 3)?;
+    part(is_raw(head.mode), 4)?;
+    part(is_status(head.status), 5)?;
+    part(is_requester(head.requester), 6)?;
+    part(head.number <= 99_999, 7)?;
+    part(is_bib(head.bib), 12)?;
+    part(is_group(head.group), 17)?;
+    part(is_run(head.run, head.status), 20)?;
+    part(head.physical <= 999, 23)?;
+    part(is_channel(head.channel), 26)?;
+    part(is_information(head.information), 29)
 }
 
 /// What a kind of timing does not use is zero.
 fn timing_must_be_good(record: &ReplyRecord) -> Result<(), Refusal> {
     let timing = &record.timing;
-    part(timing.kind == kind_of(record.status, record.information), 30)?;
+    part(timing.kind == kind_of(record.head.status, record.head.information), 30)?;
     match timing.kind {
         CLOCK => {
             part(is_clock(timing.ticks), 30)?;

@@ -3,7 +3,7 @@
 use super::desk::{capacity, is_used, key_of, Key};
 use super::fields::is_requester;
 use super::reply;
-use crate::abi::{Desk, Seat, CELL_SIZE, SEATS};
+use crate::abi::{Desk, ReplyRecord, Seat, CELL_SIZE, SEATS};
 
 /// What the cells so far say of one seat.
 #[derive(Clone, Copy, Default)]
@@ -50,15 +50,15 @@ fn cells_are_good(seats: &[Seat; SEATS], desk: Desk, cells: &[u8], marks: &[u32]
         if place >= SEATS || !is_used(desk.bits, place) {
             return false;
         }
-        let Ok(record) = reply::read(cell) else { return false };
+        let Ok(ReplyRecord { head, .. }) = reply::read(cell) else { return false };
         let view = &mut views[place];
-        let key = Key { requester: record.requester.into(), number: record.number };
-        let in_place = !view.ended && (record.status != b'Z' || view.held == 0);
+        let key = Key { requester: head.requester.into(), number: head.number };
+        let in_place = !view.ended && (head.status != b'Z' || view.held == 0);
         if key != key_of(&seats[place]) || !in_place {
             return false;
         }
         view.held += 1;
-        view.ended = record.status != b'R';
+        view.ended = head.status != b'R';
     }
     // A seat that is not in use is all zero, and so is its view.
     views.iter().zip(seats).all(|(view, seat)| view.held == seat.held && u32::from(view.ended) == seat.ended)

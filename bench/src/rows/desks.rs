@@ -25,7 +25,7 @@ impl Calls for Opening {
         for frame in &self.frames {
             side.open(&mut answer, seats, *desk, cells, marks, frame);
             witness.saw(frame, &answer, &[seats, cells, marks]);
-            seats[answer.seat] = Seat::default();
+            seats[answer.seat as usize] = Seat::default();
         }
     }
 }
@@ -94,16 +94,16 @@ fn opening(held: usize) -> Row {
     Row::new(about, Opening { lent, frames })
 }
 
-fn replying(used: usize, held: usize, number: u32) -> Row {
+fn replying(used: usize, held: usize, refusal: u32) -> Row {
     let mut random = Random::new(5);
     let lent = Lent::with(&mut random, used, held);
     let seats = || (0..FRAMES).map(|k| k % used);
     let frames = seats().map(|seat| reply_with(&mut random, key_of_seat(seat))).collect();
     let before = seats().map(|seat| (seat, lent.seats[seat])).collect();
-    let outcome = if number == 0 { "taken" } else { "refused (full)" };
+    let outcome = if refusal == 0 { "taken" } else { "refused (full)" };
     let plural = if used == 1 { "seat" } else { "seats" };
     let case = format!("{outcome}, {held} cells held, {used} {plural} in use");
-    let mut about = About::new("rei2_reply", case, number, FRAMES);
+    let mut about = About::new("rei2_reply", case, refusal, FRAMES);
     about.cleared = "the seat";
     Row::new(about, Replying { lent, frames, before })
 }
@@ -120,7 +120,7 @@ pub fn rows() -> Vec<Row> {
     rows.extend([0, 64, 256].map(opening));
     rows.extend(
         [(8, 0, 0), (8, 64, 0), (8, 255, 0), (8, 256, 16), (1, 64, 0), (16, 64, 0)]
-            .map(|(used, held, number)| replying(used, held, number)),
+            .map(|(used, held, refusal)| replying(used, held, refusal)),
     );
     rows.push(reading_back("one record of a full desk: every 16th of 256 marks", 15, 17));
     rows.push(reading_back("no record: all 256 marks of a full desk passed", 99, 1));

@@ -60,9 +60,9 @@ fn readings<A: Answer + Default + 'static>(
     read: impl Fn(&Side, &mut A, &[u8]) + Copy + 'static,
 ) -> Vec<Row> {
     let any: Vec<Vec<u8>> = good.iter().flat_map(|(_, frames)| frames.clone()).collect();
-    let row = |case: &str, number: u32, frames: Vec<Vec<u8>>| {
+    let row = |case: &str, refusal: u32, frames: Vec<Vec<u8>>| {
         let answer = A::default();
-        Row::new(About::new(call, case, number, frames.len()), Reading { frames, answer, read })
+        Row::new(About::new(call, case, refusal, frames.len()), Reading { frames, answer, read })
     };
     let mut rows = Vec::new();
     for (name, frames) in good {
@@ -84,9 +84,9 @@ fn writings<T: Copy + Debug + 'static>(
     let any: Vec<T> = good.iter().flat_map(|(_, records)| records.clone()).collect();
     let mut wrong = any.clone();
     wrong.iter_mut().for_each(spoil);
-    let row = |case: &str, number: u32, records: Vec<T>, room: usize| {
+    let row = |case: &str, refusal: u32, records: Vec<T>, room: usize| {
         let out = vec![0xee; room];
-        Row::new(About::new(call, case, number, records.len()), Writing { records, out, write })
+        Row::new(About::new(call, case, refusal, records.len()), Writing { records, out, write })
     };
     let mut rows: Vec<Row> = Vec::new();
     for (name, records) in good {

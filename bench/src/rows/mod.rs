@@ -12,8 +12,8 @@ use crate::witness::{Keeper, Nobody, Seen, Witness};
 pub struct About {
     pub call: &'static str,
     pub case: String,
-    /// The number that each call answers.
-    pub number: u32,
+    /// The refusal that each call answers.
+    pub refusal: u32,
     /// Calls in one pass.
     pub calls: usize,
     /// Bytes in one pass, where the row is told by them.
@@ -23,8 +23,8 @@ pub struct About {
 }
 
 impl About {
-    pub fn new(call: &'static str, case: impl Into<String>, number: u32, calls: usize) -> Self {
-        About { call, case: case.into(), number, calls, bytes: None, cleared: "no" }
+    pub fn new(call: &'static str, case: impl Into<String>, refusal: u32, calls: usize) -> Self {
+        About { call, case: case.into(), refusal, calls, bytes: None, cleared: "no" }
     }
 }
 

@@ -25,11 +25,11 @@ impl<T: Copy + Debug, A: Answer, C: Fn(&Side, T) -> A> Calls for Asking<T, C> {
 fn row<T: Copy + Debug + 'static, A: Answer + 'static>(
     call: &'static str,
     case: &str,
-    number: u32,
+    refusal: u32,
     inputs: Vec<T>,
     ask: impl Fn(&Side, T) -> A + 'static,
 ) -> Row {
-    Row::new(About::new(call, case, number, inputs.len()), Asking { inputs, call: ask })
+    Row::new(About::new(call, case, refusal, inputs.len()), Asking { inputs, call: ask })
 }
 
 /// The same with one part out of range, each part in turn.
@@ -49,6 +49,13 @@ pub fn rows() -> Vec<Row> {
         row("rei2_running_time", "good", 0, good, Side::running_time),
         row("rei2_running_time", "refused", 8, refused, Side::running_time),
         row("rei2_seats_in_use", "any state", 0, states, Side::seats_in_use),
+        row(
+            "rei2_refusal_name",
+            "1 to 16",
+            0,
+            (0..INPUTS as u32).map(|k| k % 16 + 1).collect(),
+            |side: &Side, refusal| side.refusal_name(refusal, &mut [0; NAME_SIZE]),
+        ),
         row("rei2_capacity", "any sizes", 0, sizes, |side: &Side, (cells, marks)| side.capacity(cells, marks)),
     ]
 }

@@ -6,12 +6,13 @@ use crate::source::Source;
 use crate::spec::Spec;
 use std::path::Path;
 
-/// Each constant of `enum rei2_limits`, and where its number stands below the crates: a constant of a source, and a
-/// definition, or a field of one, of a file of specs.
-const LIMITS: [(&str, [(&str, &str); 2]); 11] = [
-    ("REI2_SEATS", [("desk/src/state.rt", "SEATS"), ("desk/specs/Limits.antt", "seatCount")]),
-    ("REI2_CELLS", [("desk/src/state.rt", "CELLS"), ("desk/specs/Limits.antt", "mostCells")]),
-    ("REI2_CELL_SIZE", [("desk/src/state.rt", "CELL_SIZE"), ("desk/specs/Limits.antt", "cellSize")]),
+/// Each constant of `enum rei2_limit`, and where its number stands below the crates: a constant of a source; and in a
+/// file of specs a definition, a field of one, or a case of one that is a formula, `NAME ≡ NUMBER` or
+/// `NAME ≡ record { FIELD = NUMBER }`.
+const LIMITS: [(&str, [(&str, &str); 2]); 12] = [
+    ("REI2_SEATS", [("desk/src/limits.rt", "SEATS"), ("desk/specs/Limits.antt", "seatCount")]),
+    ("REI2_CELLS", [("desk/src/limits.rt", "CELLS"), ("desk/specs/Limits.antt", "mostCells")]),
+    ("REI2_CELL_SIZE", [("desk/src/limits.rt", "CELL_SIZE"), ("rei2/specs/Cases.antt", "limits ≡ .cell_size")]),
     ("REI2_REQUEST_SIZE", [("frames/src/request.rt", "REQUEST_SIZE"), ("frames/specs/Request.antt", "request .size")]),
     ("REI2_REPLY_SIZE", [("frames/src/reply.rt", "REPLY_SIZE"), ("frames/specs/Reply.antt", "reply .size")]),
     ("REI2_DYNAMIC_SIZE", [("frames/src/dynamic.rt", "DYNAMIC_SIZE"), ("frames/specs/Dynamic.antt", "dynamic .size")]),
@@ -19,15 +20,16 @@ const LIMITS: [(&str, [(&str, &str); 2]); 11] = [
     ("REI2_REPLY_LEAD", [("frames/src/reply.rt", "REPLY_LEAD"), ("frames/specs/Reply.antt", "reply .lead")]),
     ("REI2_DYNAMIC_LEAD", [("frames/src/dynamic.rt", "DYNAMIC_LEAD"), ("frames/specs/Dynamic.antt", "dynamic .lead")]),
     ("REI2_MOST_INPUT", [("listing/src/lib.rt", "MOST_INPUT"), ("listing/specs/Listing.antt", "mostInput")]),
-    ("REI2_LONGEST_LIST", [("listing/src/lib.rt", "LONGEST_LIST"), ("listing/specs/Sizes.antt", "longestList")]),
+    ("REI2_LONGEST_LIST", [("listing/src/lib.rt", "LONGEST_LIST"), ("listing/specs/Cases.antt", "longestList ≡")]),
+    ("REI2_NAME_SIZE", [("rei2/src/names.rt", "NAME_SIZE"), ("rei2/specs/Names.antt", "nameSize")]),
 ];
 
-/// The files whose definitions in capitals are the refusals, each with its number.
-const REFUSALS: [&str; 3] = ["frames/specs/Refusals.antt", "times/specs/Running.antt", "desk/specs/Calls.antt"];
+/// The table of refusals: a file whose constants are their numbers, and one that defines them.
+const REFUSALS: (&str, &str) = ("digits/src/refusal.rt", "digits/specs/Refusals.antt");
 
 /// Each enum of kinds, and the function that gives each constructor its number, as the field `kind` of a record.
 const KINDS: [(&str, &str, &str); 2] =
-    [("rei2_timing", "host/specs/Reply.antt", "numbersOf"), ("rei2_found", "host/specs/Calls.antt", "frameAnswer")];
+    [("rei2_timing", "rei2/specs/Reply.antt", "numbersOf"), ("rei2_found", "rei2/specs/Calls.antt", "frameAnswer")];
 
 /// The programs that list captures.
 const PROGRAMS: [&str; 2] = ["rei2list/src/main.rt", "lists/src/main.rt"];
@@ -81,24 +83,28 @@ fn wanted_differences(wanted: &Wanted, constants: &[Constant]) -> Vec<String> {
 fn limits(root: &Path) -> Result<Vec<Wanted>, String> {
     let mut found = Vec::new();
     for (name, [(source, constant), (spec, definition)]) in LIMITS {
-        let in_source = Source::at(root, source)?.constant(root, constant);
+        let in_source = Source::at(root, source)?.constant(constant);
         let in_spec = Spec::read(root, spec)?.number(definition);
         let places = vec![(format!("{source} ({constant})"), in_source), (format!("{spec} ({definition})"), in_spec)];
-        found.push(Wanted { group: "rei2_limits", name: name.to_string(), places });
+        found.push(Wanted { group: "rei2_limit", name: name.to_string(), places });
     }
     Ok(found)
 }
 
 fn refusals(root: &Path) -> Result<Vec<Wanted>, String> {
-    let wanted = |name: &str, place: &str, value| {
-        let places = vec![(place.to_string(), Some(value))];
-        Wanted { group: "rei2_refusal", name: format!("REI2_{name}"), places }
-    };
-    let mut found = vec![wanted("DONE", "the answer of a call that was done", 0)];
-    for file in REFUSALS {
-        let capitals = |name: &str| name.chars().all(|c| c.is_ascii_uppercase() || c == '-');
-        let numbers = Spec::read(root, file)?.numbers().into_iter().filter(|(name, _)| capitals(name));
-        found.extend(numbers.map(|(name, value)| wanted(&name.replace('-', "_"), &format!("{file} ({name})"), value)));
+    let (file, definitions) = (Source::at(root, REFUSALS.0)?, Spec::read(root, REFUSALS.1)?);
+    let group = "rei2_refusal";
+    let done = vec![("the answer of a call that was done".to_string(), Some(0))];
+    let mut found = vec![Wanted { group, name: "REI2_DONE".to_string(), places: done }];
+    let mut names = file.constants();
+    names.extend(definitions.refusals().into_iter().map(|name| name.replace('-', "_")));
+    names.sort();
+    names.dedup();
+    for name in names {
+        let defined = name.replace('_', "-");
+        let in_source = (format!("{} ({name})", REFUSALS.0), file.constant(&name));
+        let in_spec = (format!("{} ({defined})", REFUSALS.1), definitions.refusal(&defined));
+        found.push(Wanted { group, name: format!("REI2_{name}"), places: vec![in_source, in_spec] });
     }
     Ok(found)
 }
@@ -123,7 +129,7 @@ fn lent_differences(root: &Path, program: &str, constants: &[Constant]) -> Resul
         // a constant that the header lacks is told already
         let Some(wanted) = factors.iter().map(value).product::<Option<u64>>() else { continue };
         let wanted = wanted + more;
-        let lengths = source.lengths(root, array);
+        let lengths = source.lengths(array);
         if lengths.is_empty() {
             found.push(format!("{program}: makes no array {array}"));
         }

@@ -48,6 +48,16 @@ pub fn number(word: &str) -> Option<u64> {
     }
 }
 
+/// What stands between marks, each outside of all groups.
+pub fn parts<'a>(tokens: &'a [Token], mark: &str) -> Vec<&'a [Token]> {
+    let mut depth = 0;
+    let is_mark = |token: &Token| {
+        depth += nesting(&token.text);
+        depth == 0 && token.text == mark
+    };
+    tokens.split(is_mark).collect()
+}
+
 /// What stands in the group that the first token opens.
 pub fn group(tokens: &[Token]) -> &[Token] {
     let mut depth = 0;

@@ -1,4 +1,4 @@
-//! Holds a C header that is written by hand to what the Rattle crate `host` exports.
+//! Holds a C header that is written by hand to what the Rattle crate `rei2` exports.
 //!
 //! `header CRATES HEADER [ARCHIVE]` reads the sources below the folder CRATES, and the header. Each exported function and
 //! each struct that it names shall be in the header with the same names, types and order, and nothing else; each struct's
@@ -23,7 +23,7 @@ use std::path::Path;
 use std::process::ExitCode;
 
 /// The crate whose functions are exported.
-const CRATE: &str = "host";
+const CRATE: &str = "rei2";
 
 fn main() -> ExitCode {
     let words: Vec<String> = std::env::args_os().skip(1).map(|word| word.to_string_lossy().into_owned()).collect();

@@ -5,6 +5,8 @@ use std::fs;
 use std::path::{Path, PathBuf};
 
 pub struct Source {
+    /// The folder of the crates.
+    root: PathBuf,
     pub crate_name: String,
     /// Its path below the crate's `src`, without `.rt`; `lib` is the root.
     pub module: String,
@@ -17,7 +19,8 @@ impl Source {
         let path = folder(root, crate_name).join(format!("{module}.rt"));
         let text = fs::read_to_string(&path).map_err(|e| format!("{}: cannot be read: {e}", path.display()))?;
         let tokens = lex::tokens(&text, Language::Rattle);
-        Ok(Source { crate_name: crate_name.to_string(), module: module.to_string(), tokens })
+        let (crate_name, module) = (crate_name.to_string(), module.to_string());
+        Ok(Source { root: root.to_path_buf(), crate_name, module, tokens })
     }
 
     /// Reads `ROOT/FILE`, where FILE is `CRATE/src/MODULE.rt`.
@@ -35,16 +38,26 @@ impl Source {
         }
     }
 
-    /// The crate and module that a path leads to.
+    /// The crate and module that a path leads to: it begins with `crate`, with a module of this one, or with a crate.
     fn place(&self, path: &[String]) -> (String, String) {
         let (first, rest) = path.split_first().expect("a path has a word");
+        let below = if self.module == "lib" { first.clone() } else { format!("{}/{first}", self.module) };
+        if folder(&self.root, &self.crate_name).join(format!("{below}.rt")).exists() {
+            return (self.crate_name.clone(), [&[below], rest].concat().join("/"));
+        }
         let crate_name = if first == "crate" { &self.crate_name } else { first };
         let module = if rest.is_empty() { "lib".to_string() } else { rest.join("/") };
         (crate_name.clone(), module)
     }
 
+    /// The names of all constants.
+    pub fn constants(&self) -> Vec<String> {
+        let named = self.tokens.windows(3).filter(|w| w[0].text == "const" && w[2].text == ":");
+        named.map(|w| w[1].text.clone()).collect()
+    }
+
     /// The number of `const name: type = ..;`, if it stands here just once.
-    pub fn constant(&self, root: &Path, name: &str) -> Option<u64> {
+    pub fn constant(&self, name: &str) -> Option<u64> {
         let items = self.tokens.split(|token| token.text == ";");
         let values = items.filter_map(|item| {
             let at = item.windows(3).position(|w| w[0].text == "const" && w[1].text == name && w[2].text == ":")?;
@@ -52,21 +65,25 @@ impl Source {
             Some(&item[at + equals + 1..])
         });
         match values.collect::<Vec<_>>().as_slice() {
-            [value] => self.value(root, value),
+            [value] => self.value(value),
             _ => None,
         }
     }
 
-    /// The value of a sum of products of numbers and constants.
-    pub fn value(&self, root: &Path, tokens: &[Token]) -> Option<u64> {
+    /// The value of a sum of products of numbers, constants and sums in brackets.
+    pub fn value(&self, tokens: &[Token]) -> Option<u64> {
         let product = |tokens: &[Token]| -> Option<u64> {
-            tokens.split(|token| token.text == "*").map(|factor| self.factor(root, factor)).product()
+            lex::parts(tokens, "*").into_iter().map(|factor| self.factor(factor)).product()
         };
-        tokens.split(|token| token.text == "+").map(product).sum()
+        lex::parts(tokens, "+").into_iter().map(product).sum()
     }
 
-    /// The value of a number or a constant, which is named or reached by a path.
-    fn factor(&self, root: &Path, tokens: &[Token]) -> Option<u64> {
+    /// The value of a sum in brackets, of a number, or of a constant, which is named or reached by a path.
+    fn factor(&self, tokens: &[Token]) -> Option<u64> {
+        if tokens.first()?.text == "(" {
+            let inside = lex::group(tokens);
+            return if inside.len() + 2 == tokens.len() { self.value(inside) } else { None };
+        }
         let words: Vec<String> = tokens.iter().map(|t| t.text.clone()).filter(|text| text != ":").collect();
         let (name, path) = words.split_last()?;
         let (crate_name, module) = match path {
@@ -74,14 +91,14 @@ impl Source {
             [] => self.home(name),
             path => self.place(path),
         };
-        Source::read(root, &crate_name, &module).ok()?.constant(root, name)
+        Source::read(&self.root, &crate_name, &module).ok()?.constant(name)
     }
 
     /// The lengths of the arrays that `let name = [..; length]` makes, none where a length is not read.
-    pub fn lengths(&self, root: &Path, name: &str) -> Vec<Option<u64>> {
+    pub fn lengths(&self, name: &str) -> Vec<Option<u64>> {
         let plain: Vec<Token> = self.tokens.iter().filter(|token| token.text != "mut").cloned().collect();
         let made = (1..plain.len()).filter(|i| plain[*i].text == name && plain[i - 1].text == "let");
-        made.map(|i| self.value(root, length(&plain[i..])?)).collect()
+        made.map(|i| self.value(length(&plain[i..])?)).collect()
     }
 
     /// The path in front of `name` in the `use` that ends with it: `a::b` is `["a", "b"]`.

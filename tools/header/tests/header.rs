@@ -6,10 +6,14 @@ use std::sync::atomic::{AtomicUsize, Ordering};
 use std::{env, fs, process};
 
 /// The files of the right pair, each a path and its text.
-const FILES: [(&str, &str); 21] = [
-    ("crates/host/src/lib.rt", "pub mod calls;\n"),
-    ("crates/host/src/calls.rt", CALLS),
+const FILES: [(&str, &str); 25] = [
+    ("crates/rei2/src/lib.rt", "pub mod calls;\n"),
+    ("crates/rei2/src/calls.rt", CALLS),
+    ("crates/rei2/src/names.rt", "pub const NAME_SIZE: usize = 14;\n"),
+    ("crates/rei2/specs/Names.antt", "abbrev pub nameSize : ℕ\nnameSize = 14\n"),
+    ("crates/rei2/specs/Cases.antt", LENT),
     ("crates/desk/src/state.rt", STATE),
+    ("crates/desk/src/limits.rt", SIZES),
     ("rei2.h", HEADER),
     ("crates/desk/specs/Limits.antt", LIMITS),
     ("crates/frames/src/request.rt", "pub const REQUEST_LEAD: u8 = 0x11;\npub const REQUEST_SIZE: usize = 24;\n"),
@@ -18,14 +22,14 @@ const FILES: [(&str, &str); 21] = [
     ("crates/frames/specs/Request.antt", REQUEST_KIND),
     ("crates/frames/specs/Reply.antt", REPLY_KIND),
     ("crates/frames/specs/Dynamic.antt", "dynamic = record { lead = 19; size = 46 }\n\nother = record { size = 7 }\n"),
-    ("crates/frames/specs/Refusals.antt", REFUSALS),
-    ("crates/times/specs/Running.antt", "TIME = 3\n\npub record Worked : Type 0 where\n  pub a : f 1 ≡ 3\n"),
-    ("crates/desk/specs/Calls.antt", "abbrev pub IN-USE : ℕ\nIN-USE = 4\n{- NO-SEAT = 5\nOLD = 6 -}\n"),
+    ("crates/digits/src/refusal.rt", TABLE),
+    ("crates/digits/specs/Refusals.antt", REFUSALS),
     ("crates/listing/src/lib.rt", LISTING),
+    ("crates/listing/src/line.rt", "pub const ROW: usize = 53 + DIGITS;\nconst DIGITS: usize = 2;\n"),
     ("crates/listing/specs/Listing.antt", "abbrev pub mostInput : ℕ\nmostInput = 32768\n"),
-    ("crates/listing/specs/Sizes.antt", "abbrev pub longestList : ℕ\nlongestList = 14170\n"),
-    ("crates/host/specs/Reply.antt", NUMBERS),
-    ("crates/host/specs/Calls.antt", FOUND),
+    ("crates/listing/specs/Cases.antt", "pub record Worked : Type 0 where\n  pub longest : longestList ≡ 14170\n"),
+    ("crates/rei2/specs/Reply.antt", NUMBERS),
+    ("crates/rei2/specs/Calls.antt", FOUND),
     ("crates/rei2list/src/main.rt", PROGRAM),
     ("crates/lists/src/main.rt", PROGRAM_BY_NAMES),
 ];
@@ -38,7 +42,11 @@ unfoldable pub mostCells : ℕ
 mostCells = 256
 
 abbrev pub cellSize : ℕ
-cellSize = 51 -- bytes
+cellSize = reply .size -- bytes
+";
+
+const LENT: &str = "pub record Lends : Type 0 where
+  pub limits-are : limits ≡ record { in = record { «cell_size» = 9 }; «cell_size» = 51; marks = 256 }
 ";
 
 const REPLY: &str = "pub const REPLY_LEAD: u8 = 18;
@@ -63,22 +71,50 @@ reply = record {
 }
 ";
 
-const REFUSALS: &str = "-- another lead byte
-abbrev pub KIND : ℕ
-KIND = 1
+const TABLE: &str = "pub const KIND: u32 = 1;
+pub const FIELD: u32 = 2;
+pub const ROOM: u32 = 3;
+pub const IN_USE: u32 = 4;
+// pub const OLD: u32 = 5;
 
-abbrev pub ROOM : ℕ
+pub fn plain(number: u32) -> Refusal {
+    placed(number, 0)
+}
+";
+
+const REFUSALS: &str = "-- without an offset
+plain number = placed number 0
+
+-- another lead byte
+abbrev pub KIND : Refusal
+KIND = plain 1
+
+abbrev pub FIELD : ℕ → Refusal
+FIELD = placed 2
+
+abbrev pub ROOM : Refusal
 ROOM =
-    2
+    plain 3
+
+IN-USE = plain 4
+{- NO-SEAT = plain 5
+OLD = plain 6 -}
 
 abbrev pub most : ℕ
 most = 9
 ";
 
+const SIZES: &str = "pub const SEATS: usize = 16;
+pub const CELLS: usize = 256;
+pub const CELL_SIZE: usize = 51;
+";
+
 const LISTING: &str = r#"pub const TEXT: [u8; 3] = *b"a;b";
 // const MOST_INPUT: usize = 1;
+use desk::limits::CELLS;
+use line::ROW;
 pub const MOST_INPUT: usize = 32768;
-pub const LONGEST_LIST: usize = 14170;
+pub const LONGEST_LIST: usize = 62 + CELLS * ROW + 2 * (2 * (1 + 5) + 2);
 "#;
 
 const FOUND: &str = "frameAnswer (OnTheWay start) = record { kind = 1; start = start }
@@ -103,14 +139,14 @@ const PROGRAM: &str = "fn main() {
 }
 ";
 
-const PROGRAM_BY_NAMES: &str = "use desk::state::CELLS;
-use desk::state::CELL_SIZE;
+const PROGRAM_BY_NAMES: &str = "use desk::limits::CELLS;
+use desk::limits::CELL_SIZE;
 use listing::LONGEST_LIST;
 
 fn main() {
     let mut input = [0u8; listing::MOST_INPUT + 1];
     let mut cells = [0; CELLS * CELL_SIZE];
-    let marks = [0; desk::state::CELLS];
+    let marks = [0; desk::limits::CELLS];
     let mut out = [0u8; LONGEST_LIST];
 }
 ";
@@ -152,10 +188,7 @@ fn helper(out: &mut [u8]) -> u32 {
 }
 "#;
 
-const STATE: &str = r#"pub const SEATS: usize = 16;
-pub const CELLS: usize = 256;
-pub const CELL_SIZE: usize = 51;
-
+const STATE: &str = r#"
 #[repr(C)]
 pub struct Desk {
     pub bits: u64,
@@ -180,7 +213,7 @@ const HEADER: &str = r#"/* A small header; void rei2_in_a_comment(void); */
 #define REI2_LONG(x) \
     int rei2_in_a_macro(x);
 
-enum rei2_limits {
+enum rei2_limit {
     REI2_SEATS = 16, /* seats */
     REI2_CELLS = 256,
     REI2_CELL_SIZE = 51,
@@ -191,9 +224,10 @@ enum rei2_limits {
     REI2_REPLY_LEAD = 0x12,
     REI2_DYNAMIC_LEAD = 19,
     REI2_MOST_INPUT = 32768,
-    REI2_LONGEST_LIST = 14170
+    REI2_LONGEST_LIST = 14170,
+    REI2_NAME_SIZE = 14
 };
-enum rei2_refusal { REI2_DONE = 0, REI2_KIND = 1, REI2_ROOM = 2, REI2_TIME = 3, REI2_IN_USE = 4 };
+enum rei2_refusal { REI2_DONE = 0, REI2_KIND = 1, REI2_FIELD = 2, REI2_ROOM = 3, REI2_IN_USE = 4 };
 enum rei2_timing { REI2_RAW = 0, REI2_CLOCK = 1, REI2_NET = 2, };
 enum rei2_found { REI2_NOTHING = 0, REI2_ON_THE_WAY = 1 };
 
@@ -239,7 +273,7 @@ void rei2_nothing(void);
 #endif
 "#;
 
-const RIGHT: &str = "header: 3 functions, 3 structs, 21 constants, 0 differences\n";
+const RIGHT: &str = "header: 3 functions, 3 structs, 22 constants, 0 differences\n";
 
 /// A folder for one test, which is removed with it.
 struct Folder(PathBuf);
@@ -279,7 +313,7 @@ impl Folder {
         let index = [&count[..], &vec![0; 4 * names.len()], text.as_bytes()].concat();
         let head = format!("{:<16}{:<12}{:<6}{:<6}{:<8}{:<10}`\n", "/", 0, 0, 0, 0, index.len());
         let bytes = [b"!<arch>\n", head.as_bytes(), &index].concat();
-        fs::write(self.0.join("libhost.a"), bytes).expect("the archive is written");
+        fs::write(self.0.join("librei2.a"), bytes).expect("the archive is written");
     }
 }
 
@@ -317,7 +351,7 @@ fn differs(old: &str, new: &str, wanted: &[&str]) {
 fn archive_differs(names: &[&str], wanted: &[&str]) {
     let folder = Folder::right();
     folder.archive(names);
-    let (status, printed, errors) = folder.run(&["crates", "rei2.h", "libhost.a"]);
+    let (status, printed, errors) = folder.run(&["crates", "rei2.h", "librei2.a"]);
     let mut lines: String = wanted.iter().map(|line| format!("{line}\n")).collect();
     lines += &RIGHT.replace(" 0 ", &format!(" {} ", wanted.len()));
     assert_eq!((status, printed, errors), (i32::from(!wanted.is_empty()), lines, String::new()));
@@ -491,10 +525,10 @@ fn an_assertion_is_missing() {
 
 #[test]
 fn what_is_not_read_is_told() {
-    let wanted = ["header, line 58: not read: extern int rei2_errors ;"];
+    let wanted = ["header, line 59: not read: extern int rei2_errors ;"];
     differs("uint32_t rei2_look", "extern int rei2_errors;\nuint32_t rei2_look", &wanted);
     let wanted = [
-        "header, line 25: not read: typedef struct rei2_seat { uint32_t requester ; uint32_t held , more ;",
+        "header, line 26: not read: typedef struct rei2_seat { uint32_t requester ; uint32_t held , more ;",
         "rei2_seat: the header lacks this struct",
     ];
     differs("uint32_t held;", "uint32_t held, more;", &wanted);
@@ -505,21 +539,21 @@ fn what_is_not_read_is_told() {
 #[test]
 fn a_slice_becomes_mutable() {
     let wanted = ["rei2_take: parameter 4 is `uint8_t *frame`, in the header `const uint8_t *frame`"];
-    differs_in("crates/host/src/calls.rt", "frame: &[u8]", "frame: &mut [u8]", &wanted);
+    differs_in("crates/rei2/src/calls.rt", "frame: &[u8]", "frame: &mut [u8]", &wanted);
 }
 
 #[test]
 fn a_function_more_is_exported() {
     let more = "#[no_mangle]\npub extern \"C\" fn rei2_more(x: u8) -> u8 {\n    x\n}\n\nfn helper(";
-    differs_in("crates/host/src/calls.rt", "fn helper(", more, &["rei2_more: the header lacks this function"]);
+    differs_in("crates/rei2/src/calls.rt", "fn helper(", more, &["rei2_more: the header lacks this function"]);
 }
 
 #[test]
 fn a_function_without_its_mark() {
     let wanted = ["rei2_nothing: is not exported: `#[no_mangle] pub extern \"C\"` is asked for"];
     let old = "#[no_mangle]\npub extern \"C\" fn rei2_nothing";
-    differs_in("crates/host/src/calls.rt", old, "pub extern \"C\" fn rei2_nothing", &wanted);
-    differs_in("crates/host/src/calls.rt", old, "#[no_mangle]\npub fn rei2_nothing", &wanted);
+    differs_in("crates/rei2/src/calls.rt", old, "pub extern \"C\" fn rei2_nothing", &wanted);
+    differs_in("crates/rei2/src/calls.rt", old, "#[no_mangle]\npub fn rei2_nothing", &wanted);
 }
 
 #[test]
@@ -540,7 +574,7 @@ fn a_struct_of_another_crate_moves_a_field() {
 #[test]
 fn a_limit_has_another_number_in_the_header() {
     let wanted = [
-        "REI2_SEATS: 16 in desk/src/state.rt (SEATS), 17 in the header",
+        "REI2_SEATS: 16 in desk/src/limits.rt (SEATS), 17 in the header",
         "REI2_SEATS: 16 in desk/specs/Limits.antt (seatCount), 17 in the header",
     ];
     differs("REI2_SEATS = 16", "REI2_SEATS = 17", &wanted);
@@ -553,8 +587,8 @@ fn a_limit_has_another_number_in_the_header() {
 
 #[test]
 fn a_limit_has_another_number_in_a_source() {
-    let wanted = ["REI2_SEATS: 64 in desk/src/state.rt (SEATS), 16 in the header"];
-    differs_in("crates/desk/src/state.rt", "SEATS: usize = 16", "SEATS: usize = 64", &wanted);
+    let wanted = ["REI2_SEATS: 64 in desk/src/limits.rt (SEATS), 16 in the header"];
+    differs_in("crates/desk/src/limits.rt", "SEATS: usize = 16", "SEATS: usize = 64", &wanted);
     let wanted = ["REI2_REPLY_SIZE: 52 in frames/src/reply.rt (REPLY_SIZE), 51 in the header"];
     differs_in("crates/frames/src/reply.rt", "5_1", "5_2", &wanted);
     differs_in("crates/frames/src/reply.rt", "= CELL_SIZE", "= CELL_SIZE + 1", &wanted);
@@ -568,8 +602,49 @@ fn a_limit_has_another_number_in_a_definition() {
     differs_in("crates/frames/specs/Request.antt", "size = 24", "size = 25", &wanted);
     let wanted = ["REI2_REPLY_SIZE: 50 in frames/specs/Reply.antt (reply .size), 51 in the header"];
     differs_in("crates/frames/specs/Reply.antt", "size = 51", "size = 50", &wanted);
-    let wanted = ["REI2_LONGEST_LIST: 1417 in listing/specs/Sizes.antt (longestList), 14170 in the header"];
-    differs_in("crates/listing/specs/Sizes.antt", "= 14170", "= 1417", &wanted);
+    let wanted = ["REI2_NAME_SIZE: 13 in rei2/specs/Names.antt (nameSize), 14 in the header"];
+    differs_in("crates/rei2/specs/Names.antt", "nameSize = 14", "nameSize = 13", &wanted);
+}
+
+#[test]
+fn a_limit_has_another_number_in_a_case() {
+    let wanted = ["REI2_LONGEST_LIST: 1417 in listing/specs/Cases.antt (longestList ≡), 14170 in the header"];
+    differs_in("crates/listing/specs/Cases.antt", "≡ 14170", "≡ 1417", &wanted);
+    let wanted = ["REI2_CELL_SIZE: 50 in rei2/specs/Cases.antt (limits ≡ .cell_size), 51 in the header"];
+    differs_in("crates/rei2/specs/Cases.antt", "= 51", "= 50", &wanted);
+    let wanted = ["REI2_CELL_SIZE: no single number in rei2/specs/Cases.antt (limits ≡ .cell_size)"];
+    differs_in("crates/rei2/specs/Cases.antt", "limits ≡ record", "others ≡ record", &wanted);
+    differs_in("crates/rei2/specs/Cases.antt", "limits ≡ record", "limits ≡ f record", &wanted);
+    let wanted = ["REI2_LONGEST_LIST: no single number in listing/specs/Cases.antt (longestList ≡)"];
+    differs_in("crates/listing/specs/Cases.antt", "≡ 14170", "≡ size", &wanted);
+    let twice = "longestList ≡ 14170\n  pub again : longestList ≡ 14170";
+    differs_in("crates/listing/specs/Cases.antt", "longestList ≡ 14170", twice, &wanted);
+}
+
+#[test]
+fn a_limit_by_a_formula() {
+    let lengths = |length: &str| format!("lists/src/main.rt: out has {length}, by the header 14170");
+    for (old, new, length) in [
+        ("2 * (2 * (1 + 5) + 2)", "2 * 2 * (1 + 5) + 2", "14168"),
+        ("* ROW", "* (ROW)", ""),
+        ("* ROW", "* ((line::ROW))", ""),
+        ("(1 + 5)", "1 + 5", "14160"),
+    ] {
+        let wanted = [
+            format!("REI2_LONGEST_LIST: {length} in listing/src/lib.rt (LONGEST_LIST), 14170 in the header"),
+            lengths(length),
+        ];
+        let wanted: Vec<&str> = wanted.iter().map(String::as_str).collect();
+        differs_in("crates/listing/src/lib.rt", old, new, if length.is_empty() { &[] } else { &wanted });
+    }
+    let unread = [
+        "REI2_LONGEST_LIST: no single number in listing/src/lib.rt (LONGEST_LIST)".to_string(),
+        lengths("a length that is not read"),
+    ];
+    let unread: Vec<&str> = unread.iter().map(String::as_str).collect();
+    differs_in("crates/listing/src/lib.rt", "(1 + 5)", "(1 + 5) 2", &unread);
+    differs_in("crates/listing/src/lib.rt", "(1 + 5)", "()", &unread);
+    differs_in("crates/listing/src/lib.rt", "use line::ROW;", "use lines::ROW;", &unread);
 }
 
 #[test]
@@ -595,9 +670,9 @@ fn a_limit_has_no_number() {
 
 #[test]
 fn a_constant_is_missing_in_the_header() {
-    let wanted = ["REI2_REPLY_SIZE: enum rei2_limits of the header lacks this constant"];
+    let wanted = ["REI2_REPLY_SIZE: enum rei2_limit of the header lacks this constant"];
     differs("    REI2_REPLY_SIZE = 51,\n", "", &wanted);
-    differs(", REI2_ROOM = 2", "", &["REI2_ROOM: enum rei2_refusal of the header lacks this constant"]);
+    differs(", REI2_ROOM = 3", "", &["REI2_ROOM: enum rei2_refusal of the header lacks this constant"]);
     differs("REI2_CLOCK = 1,", "", &["REI2_CLOCK: enum rei2_timing of the header lacks this constant"]);
     differs(", REI2_ON_THE_WAY = 1", "", &["REI2_ON_THE_WAY: enum rei2_found of the header lacks this constant"]);
 }
@@ -636,7 +711,7 @@ fn a_constant_that_is_not_read_is_told() {
     for other in ["REI2_NOTHING,", "REI2_NOTHING = 1 - 1,", "REI2_NOTHING = ZERO,"] {
         let (status, printed, _) = Folder::edited("rei2.h", "REI2_NOTHING = 0,", other).run(&["crates", "rei2.h"]);
         let lines: Vec<&str> = printed.lines().collect();
-        assert!(lines[0].starts_with("header, line 23: not read: enum rei2_found { REI2_NOTHING "), "{}", lines[0]);
+        assert!(lines[0].starts_with("header, line 24: not read: enum rei2_found { REI2_NOTHING "), "{}", lines[0]);
         assert_eq!(lines[1..3], [lacks("ON_THE_WAY"), lacks("NOTHING")]);
         assert_eq!((status, lines.len()), (1, 4));
     }
@@ -644,53 +719,68 @@ fn a_constant_that_is_not_read_is_told() {
 
 #[test]
 fn a_refusal_has_another_number() {
-    let wanted = ["REI2_IN_USE: 4 in desk/specs/Calls.antt (IN-USE), 5 in the header"];
+    let wanted = [
+        "REI2_IN_USE: 4 in digits/src/refusal.rt (IN_USE), 5 in the header",
+        "REI2_IN_USE: 4 in digits/specs/Refusals.antt (IN-USE), 5 in the header",
+    ];
     differs("REI2_IN_USE = 4", "REI2_IN_USE = 5", &wanted);
-    let wanted = ["REI2_TIME: 8 in times/specs/Running.antt (TIME), 3 in the header"];
-    differs_in("crates/times/specs/Running.antt", "TIME = 3", "TIME = 8", &wanted);
+    let wanted = ["REI2_FIELD: 8 in digits/specs/Refusals.antt (FIELD), 2 in the header"];
+    differs_in("crates/digits/specs/Refusals.antt", "placed 2", "placed 8", &wanted);
+    let wanted = ["REI2_FIELD: 8 in digits/src/refusal.rt (FIELD), 2 in the header"];
+    differs_in("crates/digits/src/refusal.rt", "FIELD: u32 = 2", "FIELD: u32 = 8", &wanted);
     let wanted = ["REI2_DONE: 0 in the answer of a call that was done, 9 in the header"];
     differs("REI2_DONE = 0", "REI2_DONE = 9", &wanted);
 }
 
 #[test]
 fn a_refusal_is_only_on_one_side() {
-    let wanted = ["REI2_NO_SEAT: enum rei2_refusal of the header lacks this constant"];
-    differs_in("crates/desk/specs/Calls.antt", "IN-USE = 4\n", "IN-USE = 4\nNO-SEAT = 5\n", &wanted);
-    let wanted = ["REI2_ROOM: not compared: no number is known that it stands for"];
-    differs_in("crates/frames/specs/Refusals.antt", "ROOM =\n    2", "ROOM = KIND", &wanted);
+    let lacks = "REI2_NO_SEAT: enum rei2_refusal of the header lacks this constant";
+    differs_in(
+        "crates/digits/specs/Refusals.antt",
+        "IN-USE = plain 4",
+        "IN-USE = plain 4\nNO-SEAT = plain 5",
+        &[lacks],
+    );
+    let more = "pub const NO_SEAT: u32 = 5;\npub const IN_USE";
+    differs_in("crates/digits/src/refusal.rt", "pub const IN_USE", more, &[lacks]);
+    let wanted = ["REI2_ROOM: no single number in digits/specs/Refusals.antt (ROOM)"];
+    differs_in("crates/digits/specs/Refusals.antt", "ROOM =\n    plain 3", "ROOM = KIND", &wanted);
+    let wanted = ["REI2_ROOM: no single number in digits/src/refusal.rt (ROOM)"];
+    differs_in("crates/digits/src/refusal.rt", "pub const ROOM: u32 = 3;", "", &wanted);
 }
 
 #[test]
 fn a_kind_has_another_number() {
     let wanted = [
-        "REI2_CLOCK: 1 in host/specs/Reply.antt (numbersOf Clock), 0 in the header",
-        "REI2_RAW: 0 in host/specs/Reply.antt (numbersOf Raw), 1 in the header",
+        "REI2_CLOCK: 1 in rei2/specs/Reply.antt (numbersOf Clock), 0 in the header",
+        "REI2_RAW: 0 in rei2/specs/Reply.antt (numbersOf Raw), 1 in the header",
     ];
     differs("REI2_RAW = 0, REI2_CLOCK = 1", "REI2_RAW = 1, REI2_CLOCK = 0", &wanted);
-    let wanted = ["REI2_NET: 3 in host/specs/Reply.antt (numbersOf Net), 2 in the header"];
-    differs_in("crates/host/specs/Reply.antt", "kind = 2", "kind = 3", &wanted);
-    let wanted = ["REI2_ON_THE_WAY: 2 in host/specs/Calls.antt (frameAnswer OnTheWay), 1 in the header"];
-    differs_in("crates/host/specs/Calls.antt", "kind = 1", "kind = 2", &wanted);
-    let wanted = ["REI2_NET: no single number in host/specs/Reply.antt (numbersOf Net)"];
-    differs_in("crates/host/specs/Reply.antt", "kind = 2", "kind = two", &wanted);
+    let wanted = ["REI2_NET: 3 in rei2/specs/Reply.antt (numbersOf Net), 2 in the header"];
+    differs_in("crates/rei2/specs/Reply.antt", "kind = 2", "kind = 3", &wanted);
+    let wanted = ["REI2_ON_THE_WAY: 2 in rei2/specs/Calls.antt (frameAnswer OnTheWay), 1 in the header"];
+    differs_in("crates/rei2/specs/Calls.antt", "kind = 1", "kind = 2", &wanted);
+    let wanted = ["REI2_NET: no single number in rei2/specs/Reply.antt (numbersOf Net)"];
+    differs_in("crates/rei2/specs/Reply.antt", "kind = 2", "kind = two", &wanted);
 }
 
 #[test]
 fn a_kind_by_name_has_its_definitions_number() {
     let named = |number: &str| format!("abbrev pub TWO : ℕ\nTWO = {number}\n\nabbrev pub numbersOf :");
-    let text = |number: &str| NUMBERS.replace("abbrev pub numbersOf :", &named(number)).replace("kind = 2", "kind = TWO");
-    differs_in("crates/host/specs/Reply.antt", NUMBERS, &text("2"), &[]);
-    let wanted = ["REI2_NET: 3 in host/specs/Reply.antt (numbersOf Net), 2 in the header"];
-    differs_in("crates/host/specs/Reply.antt", NUMBERS, &text("3"), &wanted);
+    let text =
+        |number: &str| NUMBERS.replace("abbrev pub numbersOf :", &named(number)).replace("kind = 2", "kind = TWO");
+    differs_in("crates/rei2/specs/Reply.antt", NUMBERS, &text("2"), &[]);
+    let wanted = ["REI2_NET: 3 in rei2/specs/Reply.antt (numbersOf Net), 2 in the header"];
+    differs_in("crates/rei2/specs/Reply.antt", NUMBERS, &text("3"), &wanted);
 }
 
 #[test]
 fn a_kind_is_only_on_one_side() {
     let more = "numbersOf Raw = record { kind = 0; ticks = 0; net = pos 0 }\nnumbersOf Mark = record { kind = 3 }";
     let wanted = ["REI2_MARK: enum rei2_timing of the header lacks this constant"];
-    differs_in("crates/host/specs/Reply.antt", more.lines().next().expect("a line"), more, &wanted);
+    differs_in("crates/rei2/specs/Reply.antt", more.lines().next().expect("a line"), more, &wanted);
     let wanted = ["REI2_NOTHING: not compared: no number is known that it stands for"];
-    differs_in("crates/host/specs/Calls.antt", "frameAnswer Nothing", "answer Nothing", &wanted);
+    differs_in("crates/rei2/specs/Calls.antt", "frameAnswer Nothing", "answer Nothing", &wanted);
 }
 
 #[test]
@@ -708,7 +798,7 @@ fn an_array_of_a_program_has_another_length() {
     let wanted = ["lists/src/main.rt: cells has 307, by the header 13056"];
     differs_in("crates/lists/src/main.rt", "CELLS * CELL_SIZE", "CELLS + CELL_SIZE", &wanted);
     let wanted = ["lists/src/main.rt: marks has 51, by the header 256"];
-    differs_in("crates/lists/src/main.rt", "desk::state::CELLS]", "desk::state::CELL_SIZE]", &wanted);
+    differs_in("crates/lists/src/main.rt", "desk::limits::CELLS]", "desk::limits::CELL_SIZE]", &wanted);
 }
 
 #[test]
@@ -757,7 +847,7 @@ fn it_cannot_tell() {
     };
     assert_eq!(told(&["crates"]), "header: usage: header CRATES HEADER [ARCHIVE]\n");
     assert!(told(&["crates", "other.h"]).starts_with("header: other.h: cannot be read"));
-    assert!(told(&["nowhere", "rei2.h"]).starts_with("header: nowhere/host/src: cannot be read"));
+    assert!(told(&["nowhere", "rei2.h"]).starts_with("header: nowhere/rei2/src: cannot be read"));
     let limits = folder.0.join("crates/desk/specs/Limits.antt");
     fs::remove_file(&limits).expect("the file is removed");
     assert!(told(&["crates", "rei2.h"]).starts_with("header: crates/desk/specs/Limits.antt: cannot be read"));
@@ -769,9 +859,9 @@ fn it_cannot_tell() {
 #[test]
 fn nothing_exported_is_no_success() {
     let folder = Folder::right();
-    fs::write(folder.0.join("crates/host/src/calls.rt"), "fn helper() {}\n").expect("the file is written");
+    fs::write(folder.0.join("crates/rei2/src/calls.rt"), "fn helper() {}\n").expect("the file is written");
     let constants = HEADER.find("typedef").expect("the structs come behind the constants");
     fs::write(folder.0.join("rei2.h"), &HEADER[..constants]).expect("the header is written");
     let (status, printed, _) = folder.run(&["crates", "rei2.h"]);
-    assert_eq!((status, printed.as_str()), (1, "header: 0 functions, 0 structs, 21 constants, 0 differences\n"));
+    assert_eq!((status, printed.as_str()), (1, "header: 0 functions, 0 structs, 22 constants, 0 differences\n"));
 }

@@ -86,7 +86,7 @@ fn of_crate(c: &Call) -> String {
     let (specs, proofs) = (format!("Rattle.{crate_name}.specs"), format!("Rattle.{crate_name}.proofs"));
     let (law, out) = (c.law(), c.out());
     [
-        format!("use {specs}.Lent.{{{kind}Lent}}\nuse {specs}.Inside.{{Core{kind}}}\n"),
+        format!("use {specs}.Lent.{{{kind}Lent}}\nuse {specs}.inside.Core.{{Core{kind}}}\n"),
         format!("use {proofs}.Rows.{{guards, is-true, is-false}}\nuse {proofs}.Views.{{gives-up}}\n"),
         format!("use {proofs}.Steps.{{rowVal, Load, Store, loads, stores}}\n"),
         format!("use {proofs}.Outs.{{{out}-row-is, {out}-answer-is}}\n"),

@@ -66,12 +66,12 @@ pub extern "C" fn rei2_count(seats: &[Seat]) -> u32 {
 struct Repo(PathBuf);
 
 impl Repo {
-    /// A repository with the module `host::lent` of this text.
+    /// A repository with the module `rei2::lent` of this text.
     fn new(module: &str) -> Repo {
         static MADE: AtomicUsize = AtomicUsize::new(0);
         let number = MADE.fetch_add(1, Ordering::Relaxed);
         let repo = Repo(env::temp_dir().join(format!("walks-test-{}-{number}", process::id())));
-        let folder = repo.0.join("crates/host/src");
+        let folder = repo.0.join("crates/rei2/src");
         fs::create_dir_all(&folder).expect("a folder is made");
         fs::write(folder.join("lent.rt"), module).expect("a file is written");
         repo
@@ -94,7 +94,7 @@ impl Drop for Repo {
 }
 
 fn walks(root: &Path, flags: &[&str]) -> (i32, String, String) {
-    run(Command::new(env!("CARGO_BIN_EXE_walks")).arg(root).args(["host", "lent"]).args(flags))
+    run(Command::new(env!("CARGO_BIN_EXE_walks")).arg(root).args(["rei2", "lent"]).args(flags))
 }
 
 fn run(command: &mut Command) -> (i32, String, String) {
@@ -113,7 +113,7 @@ fn here() -> PathBuf {
 }
 
 fn proof(root: &Path, call: &str) -> PathBuf {
-    root.join(format!("crates/host/proofs/lent/{call}/Proof.antt"))
+    root.join(format!("crates/rei2/proofs/lent/{call}/Proof.antt"))
 }
 
 fn read(path: &Path) -> String {
@@ -142,7 +142,7 @@ fn refuses(module: &str, message: &str) {
     let wanted = says(2, "", &format!("walks: {message}\n"));
     assert_eq!(repo.walks(&[]), wanted);
     assert_eq!(repo.walks(&["--check"]), wanted);
-    assert!(!repo.0.join("crates/host/proofs").exists());
+    assert!(!repo.0.join("crates/rei2/proofs").exists());
 }
 
 #[track_caller]
@@ -154,7 +154,7 @@ fn has_no_form(module: &str, call: &str) {
 
 #[test]
 fn the_files_of_the_repository_are_what_it_writes() {
-    let repo = Repo::new(&read(&here().join("crates/host/src/lent.rt")));
+    let repo = Repo::new(&read(&here().join("crates/rei2/src/lent.rt")));
     assert_eq!(repo.walks(&[]), says(0, "walks: 4 walks written\n", ""));
     for call in ["rei2_reset", "rei2_open", "rei2_reply", "rei2_capture"] {
         assert!(read(&repo.proof(call)) == read(&proof(&here(), call)), "{call}");
@@ -164,7 +164,7 @@ fn the_files_of_the_repository_are_what_it_writes() {
 
 #[test]
 fn a_check_fails_where_a_file_differs_by_a_byte() {
-    let repo = Repo::new(&read(&here().join("crates/host/src/lent.rt")));
+    let repo = Repo::new(&read(&here().join("crates/rei2/src/lent.rt")));
     let calls = ["rei2_reset", "rei2_open", "rei2_reply", "rei2_capture"];
     for call in calls {
         fs::create_dir_all(repo.proof(call).parent().expect("a file has a folder")).expect("a folder is made");
@@ -175,7 +175,7 @@ fn a_check_fails_where_a_file_differs_by_a_byte() {
         let right = fs::read(repo.proof(call)).expect("the file is read");
         let mut changed = right.clone();
         changed[right.len() / 2] ^= 1;
-        let differs = format!("walks: crates/host/proofs/lent/{call}/Proof.antt is not what this program writes\n");
+        let differs = format!("walks: crates/rei2/proofs/lent/{call}/Proof.antt is not what this program writes\n");
         for wrong in [changed, right[..right.len() - 1].to_vec(), [&right[..], b"\n"].concat()] {
             fs::write(repo.proof(call), &wrong).expect("the file is written");
             assert_eq!(repo.walks(&["--check"]), says(1, "", &differs));
@@ -190,7 +190,7 @@ fn a_check_fails_where_a_file_differs_by_a_byte() {
 #[test]
 fn a_check_names_the_first_file_that_is_not_there() {
     let repo = Repo::new(MODULE);
-    let missing = |call| format!("walks: crates/host/proofs/lent/{call}/Proof.antt is not what this program writes\n");
+    let missing = |call| format!("walks: crates/rei2/proofs/lent/{call}/Proof.antt is not what this program writes\n");
     assert_eq!(repo.walks(&["--check"]), says(1, "", &missing("rei2_take")));
     assert_eq!(repo.walks(&[]), says(0, "walks: 2 walks written\n", ""));
     assert_eq!(repo.walks(&["--check"]), says(0, "walks: 2 walks are as written\n", ""));
@@ -206,8 +206,8 @@ fn structs_stand_where_they_are_declared() {
     for line in [
         "use Rattle.desk.specs.declared.state.Desk.{Desk}\n",
         "use Rattle.desk.proofs.state.Seat.Laws as SeatL\n",
-        "use Rattle.host.specs.declared.answers.Answer.{Answer}\n",
-        "use Rattle.host.proofs.lent.Out as OutD\n",
+        "use Rattle.rei2.specs.declared.answers.Answer.{Answer}\n",
+        "use Rattle.rei2.proofs.lent.Out as OutD\n",
     ] {
         assert_eq!(text.matches(line).count(), 1, "{line}");
     }
@@ -220,14 +220,14 @@ fn words_that_are_not_understood() {
     assert_eq!(repo.walks(&["--list"]), usage);
     assert_eq!(repo.walks(&["--check", "--check"]), usage);
     assert_eq!(run(&mut Command::new(env!("CARGO_BIN_EXE_walks"))), usage);
-    let (status, printed, errors) = run(Command::new(env!("CARGO_BIN_EXE_walks")).arg(&repo.0).args(["host", "none"]));
+    let (status, printed, errors) = run(Command::new(env!("CARGO_BIN_EXE_walks")).arg(&repo.0).args(["rei2", "none"]));
     assert_eq!((status, printed.as_str()), (2, ""));
-    assert!(errors.starts_with("walks: crates/host/src/none.rt: cannot be read: "), "{errors}");
+    assert!(errors.starts_with("walks: crates/rei2/src/none.rt: cannot be read: "), "{errors}");
 }
 
 #[test]
 fn a_module_without_calls() {
-    refuses("fn f() {}\n", "crates/host/src/lent.rt has no call on lent seats");
+    refuses("fn f() {}\n", "crates/rei2/src/lent.rt has no call on lent seats");
 }
 
 // ---- calls that do not have the form

@@ -1,0 +1,13 @@
+pub mod Rows
+pub mod Views
+pub mod Steps
+pub mod Outs
+pub mod LentLaws
+pub mod NumberLaws
+pub mod NameLaws
+pub mod TimingLaws
+pub mod Tells
+pub mod Unique
+pub mod KeepsLaws
+pub mod ChainLaws
+pub mod Cases

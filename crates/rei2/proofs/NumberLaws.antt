@@ -1,0 +1,55 @@
+-- From what the calls below answer to the numbers of the host's answers. Assumes nothing.
+use mathlib.Core.Path.{_≡_, ap}
+use mathlib.Core.List.{List, []}
+use Prim.Native.Nat.{ℕ}
+use lib.ListN.{length}
+use borrow.Author.Tests.{eq-eqb}
+use Rattle.digits.specs.Told.{Told, gives, refuses}
+use Rattle.frames.specs.Refusals.{readRefused}
+use Rattle.frames.specs.declared.refusals.ReadRefusal.{ReadRefusal}
+use Rattle.frames.specs.declared.refusals.ReadVerdict.the-variants.{Read, Refused}
+use Rattle.frames.specs.declared.reply.ReplyRead.{ReplyRead}
+use Rattle.frames.specs.Kind.{read}
+use Rattle.frames.specs.Reply.{reply, ReadAs}
+use Rattle.desk.specs.declared.state.Seat.{Seat}
+use Rattle.desk.specs.declared.state.Desk.{Desk}
+use Rattle.desk.specs.declared.capture.CaptureAnswer.{CaptureAnswer}
+use Rattle.desk.specs.Limits.{seatCount}
+use Rattle.desk.specs.Memory.{Memory, memory}
+use Rattle.desk.specs.Calls.{Outcome, Did, resets, emptyRow, emptyState}
+use Rattle.desk.specs.Capture.{captureTold, captures, TookCapture}
+use Rattle.rei2.specs.declared.lent.Out.{Out}
+use Rattle.rei2.specs.declared.lent.Captured.{Captured}
+use Rattle.rei2.specs.declared.reply.ReplyAnswer.{ReplyAnswer}
+use Rattle.rei2.specs.Numbers.{numberIn, offsetIn}
+use Rattle.rei2.specs.Lent.{stateIn, deskAnswer, captureAnswer}
+use Rattle.rei2.specs.inside.Core.{outOf}
+use Rattle.rei2.specs.Reply.{shown, replyAnswer}
+
+-- ---- the reply
+
+module _ (s : List ℕ) (a : ReplyRead) (h : ReadAs s a) where
+  pub reply-read : a .verdict ≡ Read → _≡_ {A = ReplyAnswer} (record { refusal = 0; offset = 0; reply = shown (a .reply) }) (replyAnswer (read reply s))
+  reply-read e = ap replyAnswer (rw e at (h .told))
+
+  -- the record of zeros stands beside the refusal already
+  pub reply-refused : (g : ReadRefusal) → a .verdict ≡ Refused g
+      → _≡_ {A = ReplyAnswer} (record { refusal = readRefused g .number; offset = readRefused g .offset; reply = shown (a .reply) }) (replyAnswer (read reply s))
+  reply-refused g e =
+      let told : refuses (readRefused g) ≡ read reply s = rw e at (h .told) in
+      λ i. record { refusal = numberIn (told i); offset = offsetIn (told i); reply = shown (h .beside i) }
+
+-- ---- the calls by value
+
+pub out-is : (t : Told ℕ) (m : Memory) (o : Outcome) → Did t m o → _≡_ {A = Out} (record { row = m .row; answer = deskAnswer (stateIn m) t }) (outOf o)
+out-is t m o d = λ i. record { row = d .memory i .row; answer = deskAnswer (stateIn (d .memory i)) (d .answer i) }
+
+pub captured-is : (m m′ : Memory) (s : List ℕ) (a : CaptureAnswer) → TookCapture m s a m′
+    → _≡_ {A = Captured} (record { row = m′ .row; answer = captureAnswer (stateIn m′) (captureTold a) })
+    (record { row = captures m s .after .row; answer = captureAnswer (stateIn (captures m s .after)) (captures m s .answer) })
+captured-is m m′ s a h = λ i. record { row = h .memory i .row; answer = captureAnswer (stateIn (h .memory i)) (h .told i) }
+
+pub reset-is : (row row′ : List Seat) (d d′ : Desk) → length row ≡ seatCount → d′ ≡ emptyState → row′ ≡ emptyRow
+    → _≡_ {A = Out} (record { row = row′; answer = deskAnswer d′ (gives 0) }) (outOf (resets (memory d row [] [])))
+unfolding resets
+reset-is row row′ d d′ l e e′ = rw (eq-eqb (length row) seatCount l) (λ i. record { row = e′ i; answer = deskAnswer (e i) (gives 0) })

@@ -1,0 +1,61 @@
+-- Openings and replies on lent memory, one after the other: what they leave and answer is what the desk's calls in their order do.
+use Prim.Native.Nat.{ℕ, _≤_}
+use mathlib.Core.Bool.{false}
+use mathlib.Core.List.{List, [], _∷_}
+use mathlib.Core.Path.{_≡_}
+use lib.ListN.{length}
+use Rattle.digits.specs.Told.{gives}
+use Rattle.frames.specs.Kind.{read}
+use Rattle.frames.specs.Request.{request}
+use Rattle.frames.specs.declared.request.StaticRequest.{StaticRequest}
+use Rattle.desk.specs.declared.state.Seat.{Seat}
+use Rattle.desk.specs.declared.state.Desk.{Desk}
+use Rattle.desk.specs.declared.key.Key.{Key}
+use Rattle.desk.specs.Memory.{Memory, memory, capacityOf}
+use Rattle.desk.specs.Rule.{Frame}
+use Rattle.desk.specs.Mix.{Event, toOpen, toReply, happens, run, openings, Stretch, repliesTo, Sorted}
+use Rattle.rei2.specs.declared.lent.DeskAnswer.{DeskAnswer}
+use Rattle.rei2.specs.Lent.{answerOf, ResetLent, OpenLent, ReplyLent}
+
+-- each call is given state and lent memory as the last one left them: the events, the answers, and the memory after the last
+pub data Chain : Memory → List Event → List DeskAnswer → Memory → Type 0 where
+  none : {m : Memory} → Chain m [] [] m
+  opened : {seats seats′ : List Seat} {desk : Desk} {cells marks frame : List ℕ} {r : DeskAnswer} {es : List Event} {rs : List DeskAnswer} {m : Memory}
+      → OpenLent seats desk cells marks frame r seats′ → Chain (memory (r .desk) seats′ cells marks) es rs m
+      → Chain (memory desk seats cells marks) (toOpen frame ∷ es) (r ∷ rs) m
+  replied : {seats seats′ : List Seat} {desk : Desk} {cells marks cells′ marks′ frame : List ℕ} {r : DeskAnswer} {es : List Event} {rs : List DeskAnswer} {m : Memory}
+      → ReplyLent seats desk cells marks frame r seats′ cells′ marks′ → Chain (memory (r .desk) seats′ cells′ marks′) es rs m
+      → Chain (memory desk seats cells marks) (toReply frame ∷ es) (r ∷ rs) m
+
+-- the answers of the desk's calls, each with the state that its call left
+unfoldable pub answersOf : Memory → List Event → List DeskAnswer
+answersOf m [] = []
+answersOf m (e ∷ es) = answerOf (happens m e) ∷ answersOf (happens m e .after) es
+
+-- ---- a chain is the run of its events
+
+abbrev pub ChainsRun : Type 0
+ChainsRun = (m m′ : Memory) (es : List Event) (rs : List DeskAnswer) → Chain m es rs m′ → (m′ ≡ run m es) × (rs ≡ answersOf m es)
+
+-- ---- mixed replies, over the lent calls
+
+-- replies on m that leave m′: they are the desk's, and the request with key k at seat s is sorted as the rule says
+pub record SortedLent (m m′ : Memory) (es : List Event) (rs : List DeskAnswer) (s : ℕ) (k : Key) : Type 0 where
+  pub leaves : m′ ≡ run m es
+  pub answers : rs ≡ answersOf m es
+  pub sorted : Sorted m es s k [] false false
+
+-- a reset, openings, and then replies, strays and damaged frames with cells enough: each request that was opened, at the seat that its call answered with
+abbrev pub SortsLentCalls : Type 0
+SortsLentCalls =
+    (seats : List Seat) (desk : Desk) (cells marks : List ℕ) (emptied : DeskAnswer) (seats₀ : List Seat)
+    → ResetLent seats desk emptied seats₀ → emptied .refusal ≡ 0
+    -- openings, then the one of the request r, then other openings
+    → (before after : List Frame) (rs₁ rs₂ : List DeskAnswer) (desk₁ : Desk) (seats₁ : List Seat) (cells₁ marks₁ : List ℕ)
+    → Chain (memory (emptied .desk) seats₀ cells marks) (openings before) rs₁ (memory desk₁ seats₁ cells₁ marks₁)
+    → (f : Frame) (r : StaticRequest) (answer : DeskAnswer) (seats₂ : List Seat)
+    → OpenLent seats₁ desk₁ cells₁ marks₁ f answer seats₂ → answer .refusal ≡ 0 → read request f ≡ gives r
+    → (m : Memory) → Chain (memory (answer .desk) seats₂ cells₁ marks₁) (openings after) rs₂ m
+    -- the replies
+    → (es : List Event) (rs : List DeskAnswer) (m′ : Memory) → Chain m es rs m′ → Stretch es → repliesTo m es ≤ capacityOf (length cells) (length marks)
+    → SortedLent m m′ es rs (answer .seat) (record { requester = r .requester; number = r .number })

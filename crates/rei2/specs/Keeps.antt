@@ -1,0 +1,56 @@
+-- A call that is turned away changes nothing: the state comes back as it was given, and so does every seat, cell, mark and byte that is lent to be written.
+use Prim.Native.Nat.{ℕ}
+use mathlib.Core.List.{List}
+use mathlib.Core.Path.{_≡_}
+use Rattle.frames.specs.Kind.{Kind}
+use Rattle.desk.specs.declared.state.Seat.{Seat}
+use Rattle.desk.specs.declared.state.Desk.{Desk}
+use Rattle.rei2.specs.declared.lent.DeskAnswer.{DeskAnswer}
+use Rattle.rei2.specs.declared.lent.CapturedAnswer.{CapturedAnswer}
+use Rattle.rei2.specs.declared.request.WrittenAnswer.{WrittenAnswer}
+use Rattle.rei2.specs.declared.reply.ReplyRecord.{ReplyRecord}
+use Rattle.rei2.specs.declared.listed.ListedAnswer.{ListedAnswer}
+use Rattle.rei2.specs.Lent.{ResetLent, OpenLent, ReplyLent, CaptureLent}
+use Rattle.rei2.specs.Frames.{WroteLent}
+use Rattle.rei2.specs.Reply.{WroteReplyLent}
+use Rattle.rei2.specs.Calls.{ListLent}
+use Rattle.rei2.specs.Names.{NamedLent}
+
+-- the number of an answer is a refusal's
+abbrev pub Refusing : ℕ → Type 0
+Refusing number = number ≡ 0 → ⊥
+
+module _ (seats : List Seat) (desk : Desk) where
+  abbrev pub ResetKeeps : Type 0
+  ResetKeeps = (r : DeskAnswer) (seats′ : List Seat) → ResetLent seats desk r seats′ → Refusing (r .refusal) → (r .desk ≡ desk) × (seats′ ≡ seats)
+
+  module _ (cells marks : List ℕ) where
+    abbrev pub OpenKeeps : List ℕ → Type 0
+    OpenKeeps frame =
+        (r : DeskAnswer) (seats′ : List Seat) → OpenLent seats desk cells marks frame r seats′ → Refusing (r .refusal) → (r .desk ≡ desk) × (seats′ ≡ seats)
+
+    abbrev pub ReplyKeeps : List ℕ → Type 0
+    ReplyKeeps frame =
+        (r : DeskAnswer) (seats′ : List Seat) (cells′ marks′ : List ℕ) → ReplyLent seats desk cells marks frame r seats′ cells′ marks′ → Refusing (r .refusal)
+        → (r .desk ≡ desk) × ((seats′ ≡ seats) × ((cells′ ≡ cells) × (marks′ ≡ marks)))
+
+    abbrev pub CaptureKeeps : List ℕ → Type 0
+    CaptureKeeps capture =
+        (r : CapturedAnswer) (seats′ : List Seat) (cells′ marks′ : List ℕ) → CaptureLent seats desk cells marks capture r seats′ cells′ marks′ → Refusing (r .refusal)
+        → (r .desk ≡ desk) × ((seats′ ≡ seats) × ((cells′ ≡ cells) × (marks′ ≡ marks)))
+
+abbrev pub WriteKeeps : (List ℕ → WrittenAnswer → List ℕ → Type 0) → Type 0
+WriteKeeps Promised = (out : List ℕ) (answer : WrittenAnswer) (out′ : List ℕ) → Promised out answer out′ → Refusing (answer .refusal) → out′ ≡ out
+
+pub record RefusedKeeps : Type 1 where
+  pub reset : (seats : List Seat) (desk : Desk) → ResetKeeps seats desk
+  pub opening : (seats : List Seat) (desk : Desk) (cells marks frame : List ℕ) → OpenKeeps seats desk cells marks frame
+  pub reply : (seats : List Seat) (desk : Desk) (cells marks frame : List ℕ) → ReplyKeeps seats desk cells marks frame
+  pub capture : (seats : List Seat) (desk : Desk) (cells marks capture : List ℕ) → CaptureKeeps seats desk cells marks capture
+  -- request and dynamic request
+  pub writing : {R : Type 0} (k : Kind R) (r : R) → WriteKeeps (WroteLent k r)
+  pub writing-reply : (c : ReplyRecord) → WriteKeeps (WroteReplyLent c)
+  pub naming : (name : List ℕ) → WriteKeeps (NamedLent name)
+  pub listing : (cells marks capture out : List ℕ) (answer : ListedAnswer) (cells′ marks′ out′ : List ℕ)
+      → ListLent cells marks capture out answer cells′ marks′ out′ → Refusing (answer .refusal)
+      → (cells′ ≡ cells) × ((marks′ ≡ marks) × (out′ ≡ out))

@@ -1,0 +1,13 @@
+pub mod Numbers
+pub mod Lent
+pub mod Frames
+pub mod Reply
+pub mod Calls
+pub mod Limits
+pub mod Names
+pub mod Tells
+pub mod Unique
+pub mod Keeps
+pub mod Chain
+pub mod Cases
+pub mod inside

@@ -1,0 +1,9 @@
+-- What a host must lend, by the limits of desk and list.
+use Rattle.desk.specs.Limits.{seatCount, mostCells, cellSize, storeSize}
+use Rattle.listing.specs.Listing.{mostInput}
+use Rattle.listing.specs.Sizes.{longestList}
+use Rattle.rei2.specs.declared.limits.LimitsAnswer.{LimitsAnswer}
+
+-- a mark for each cell
+abbrev pub limits : LimitsAnswer
+limits = record { seats = seatCount; cells = storeSize; marks = mostCells; «cell_size» = cellSize; «most_input» = mostInput; «longest_list» = longestList }

@@ -1,0 +1,21 @@
+-- What an answer says on paper, in numbers: 0 where the call was done, otherwise the refusal's number with its offset.
+use Prim.Native.Nat.{ℕ}
+use Rattle.digits.specs.declared.refusal.Refusal.{Refusal}
+use Rattle.digits.specs.Refusals.{plain}
+use Rattle.digits.specs.Told.{Told, gives, refuses}
+
+module _ {A : Type 0} where
+  abbrev pub refusalIn : Told A → Refusal
+  refusalIn (gives a) = plain 0
+  refusalIn (refuses f) = f
+
+  abbrev pub numberIn : Told A → ℕ
+  numberIn t = refusalIn t .number
+
+  abbrev pub offsetIn : Told A → ℕ
+  offsetIn t = refusalIn t .offset
+
+  -- what is given, or the zero that stands beside a refusal
+  abbrev pub valueIn : A → Told A → A
+  valueIn zero (gives a) = a
+  valueIn zero (refuses f) = zero

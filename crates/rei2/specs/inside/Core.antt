@@ -1,0 +1,34 @@
+-- What the calls by value give that the lent calls are made of.
+use mathlib.Core.List.{List, []}
+use mathlib.Core.Path.{_≡_}
+use Prim.Native.Nat.{ℕ}
+use Rattle.desk.specs.declared.state.Seat.{Seat}
+use Rattle.desk.specs.declared.state.Desk.{Desk}
+use Rattle.desk.specs.Memory.{memory}
+use Rattle.desk.specs.Calls.{Outcome, resets, opens, replies}
+use Rattle.desk.specs.Capture.{captures}
+use Rattle.rei2.specs.declared.lent.Out.{Out}
+use Rattle.rei2.specs.declared.lent.Captured.{Captured}
+use Rattle.rei2.specs.Lent.{answerOf, capturedOf}
+
+abbrev pub outOf : Outcome → Out
+outOf o = record { row = o .after .row; answer = answerOf o }
+
+module _ (row : List Seat) (desk : Desk) where
+  -- no cells and no marks are looked at
+  abbrev pub CoreReset : Out → Type 0
+  CoreReset r = r ≡ outOf (resets (memory desk row [] []))
+
+  module _ (cells marks frame : List ℕ) where
+    abbrev pub CoreOpen : Out → Type 0
+    CoreOpen r = r ≡ outOf (opens (memory desk row cells marks) frame)
+
+    abbrev pub CoreReply : Out → List ℕ → List ℕ → Type 0
+    CoreReply r cells′ marks′ =
+        let o = replies (memory desk row cells marks) frame in
+        (r ≡ outOf o) × ((cells′ ≡ o .after .cells) × (marks′ ≡ o .after .marks))
+
+    abbrev pub CoreCapture : Captured → List ℕ → List ℕ → Type 0
+    CoreCapture r cells′ marks′ =
+        let o = captures (memory desk row cells marks) frame in
+        (r ≡ record { row = o .after .row; answer = capturedOf o }) × ((cells′ ≡ o .after .cells) × (marks′ ≡ o .after .marks))

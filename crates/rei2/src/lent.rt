@@ -1,0 +1,312 @@
+// The desk's calls on a row that a host lends: the row is loaded, the call by value made, and the row stored back.
+use desk::capture::CaptureAnswer;
+use desk::capture::Counts;
+use desk::capture::take_capture;
+use desk::limits::SEATS;
+use desk::opening::OpenAnswer;
+use desk::opening::of_opening;
+use desk::opening::open;
+use desk::reply::ReplyAnswer;
+use desk::reply::of_reply;
+use desk::reply::reply;
+use desk::state::Desk;
+use desk::state::Seat;
+use desk::state::reset;
+use digits::refusal as table;
+ghost use mathlib.Core.Path.{_≡_};
+ghost use lib.ListN.{length};
+ghost use Rattle.digits.specs.Refusals.{DESK};
+ghost use Rattle.digits.specs.Told.{refuses};
+ghost use Rattle.desk.specs.Limits.{seatCount};
+ghost use Rattle.desk.specs.Calls.{openTold, replyTold};
+ghost use Rattle.desk.specs.Capture.{captureTold};
+ghost use Rattle.rei2.specs.Lent.{deskAnswer, captureAnswer, ResetLent, OpenLent, ReplyLent, CaptureLent};
+ghost use Rattle.rei2.specs.inside.Core.{CoreReset, CoreOpen, CoreReply, CoreCapture};
+
+// The state after the call; the refusal by its number, 0 where the call was done, and its offset; the seat, 0 where it was refused.
+#[repr(C)]
+pub struct DeskAnswer {
+    pub desk: Desk,
+    pub refusal: u32,
+    pub offset: u32,
+    pub seat: u32,
+}
+
+// The state after the call, the refusal, and what became of the frames of the capture, all 0 where it was refused.
+#[repr(C)]
+pub struct CapturedAnswer {
+    pub desk: Desk,
+    pub refusal: u32,
+    pub counts: Counts,
+}
+
+// What a call by value makes: the row to store, and the answer.
+pub(crate) struct Out {
+    pub row: [Seat; SEATS],
+    pub answer: DeskAnswer,
+}
+
+pub(crate) struct Captured {
+    pub row: [Seat; SEATS],
+    pub answer: CapturedAnswer,
+}
+
+// ---- the row, in and out
+
+pub(crate) fn load(s: &[Seat]) -> [Seat; SEATS]
+    requires { ⌜ length (now s) ≡ seatCount ⌝ }
+    ensures { λ r. ⌜ r ≡ now (s .entry) ⌝ }
+{
+    let mut row = [s[0]; SEATS];
+    let mut i = 0;
+    while i < SEATS {
+        row[i] = s[i];
+        i += 1;
+    }
+    row
+}
+
+pub(crate) fn store(s: &mut [Seat], row: [Seat; SEATS])
+    requires { ⌜ length (now s) ≡ seatCount ⌝ }
+    ensures { λ _. ⌜ now (s .exit) ≡ row ⌝ }
+{
+    let mut i = 0;
+    while i < SEATS {
+        s[i] = row[i];
+        i += 1;
+    }
+}
+
+// ---- answers in numbers
+
+// Where the row is not of SEATS seats.
+pub(crate) fn no_desk(desk: Desk) -> DeskAnswer
+    ensures { λ r. ⌜ r ≡ deskAnswer desk (refuses DESK) ⌝ }
+{
+    DeskAnswer {
+        desk,
+        refusal: table::DESK,
+        offset: 0,
+        seat: 0,
+    }
+}
+
+pub(crate) fn no_captured(desk: Desk) -> CapturedAnswer
+    ensures { λ r. ⌜ r ≡ captureAnswer desk (refuses DESK) ⌝ }
+{
+    CapturedAnswer {
+        desk,
+        refusal: table::DESK,
+        counts: Counts {
+            opened: 0,
+            collected: 0,
+            dynamic: 0,
+            refused: 0,
+        },
+    }
+}
+
+fn open_answer(desk: Desk, answer: OpenAnswer) -> DeskAnswer
+    ensures { λ r. ⌜ r ≡ deskAnswer desk (openTold answer) ⌝ }
+{
+    match answer {
+        OpenAnswer::Opened(seat) => DeskAnswer {
+            desk,
+            refusal: 0,
+            offset: 0,
+            seat,
+        },
+        OpenAnswer::Refused(refusal) => {
+            let said = of_opening(refusal);
+            DeskAnswer {
+                desk,
+                refusal: said.number,
+                offset: said.offset,
+                seat: 0,
+            }
+        }
+    }
+}
+
+fn reply_answer(desk: Desk, answer: ReplyAnswer) -> DeskAnswer
+    ensures { λ r. ⌜ r ≡ deskAnswer desk (replyTold answer) ⌝ }
+{
+    match answer {
+        ReplyAnswer::Taken(seat) => DeskAnswer {
+            desk,
+            refusal: 0,
+            offset: 0,
+            seat,
+        },
+        ReplyAnswer::Refused(refusal) => {
+            let said = of_reply(refusal);
+            DeskAnswer {
+                desk,
+                refusal: said.number,
+                offset: said.offset,
+                seat: 0,
+            }
+        }
+    }
+}
+
+fn captured_answer(desk: Desk, answer: CaptureAnswer) -> CapturedAnswer
+    ensures { λ r. ⌜ r ≡ captureAnswer desk (captureTold answer) ⌝ }
+{
+    match answer {
+        CaptureAnswer::Taken(counts) => CapturedAnswer {
+            desk,
+            refusal: 0,
+            counts,
+        },
+        CaptureAnswer::NoDesk => no_captured(desk),
+    }
+}
+
+// ---- the calls by value
+
+pub(crate) fn reset_row(row: [Seat; SEATS], desk: Desk) -> Out
+    ensures { λ r. ⌜ CoreReset row desk r ⌝ }
+{
+    let emptied = reset();
+    let empty = emptied.desk;
+    let row = emptied.row;
+    Out {
+        row,
+        answer: DeskAnswer {
+            desk: empty,
+            refusal: 0,
+            offset: 0,
+            seat: 0,
+        },
+    }
+}
+
+pub(crate) fn open_row(
+    row: [Seat; SEATS],
+    desk: Desk,
+    cells: &[u8],
+    marks: &[u32],
+    frame: &[u8],
+) -> Out
+    ensures { λ r. ⌜ CoreOpen row desk (now (cells .entry)) (now (marks .entry)) (now (frame .entry)) r ⌝ }
+{
+    let done = open(desk, row, cells, marks, frame);
+    let after = done.desk;
+    let answer = done.answer;
+    let row = done.row;
+    Out {
+        row,
+        answer: open_answer(after, answer),
+    }
+}
+
+pub(crate) fn reply_row(
+    row: [Seat; SEATS],
+    desk: Desk,
+    cells: &mut [u8],
+    marks: &mut [u32],
+    frame: &[u8],
+) -> Out
+    ensures { λ r. ⌜ CoreReply row desk (now (cells .entry)) (now (marks .entry)) (now (frame .entry)) r (now (cells .exit)) (now (marks .exit)) ⌝ }
+{
+    let done = reply(desk, row, cells, marks, frame);
+    let after = done.desk;
+    let answer = done.answer;
+    let row = done.row;
+    Out {
+        row,
+        answer: reply_answer(after, answer),
+    }
+}
+
+pub(crate) fn capture_row(
+    row: [Seat; SEATS],
+    desk: Desk,
+    cells: &mut [u8],
+    marks: &mut [u32],
+    capture: &[u8],
+) -> Captured
+    ensures { λ r. ⌜ CoreCapture row desk (now (cells .entry)) (now (marks .entry)) (now (capture .entry)) r (now (cells .exit)) (now (marks .exit)) ⌝ }
+{
+    let done = take_capture(desk, row, cells, marks, capture);
+    let after = done.desk;
+    let answer = done.answer;
+    let row = done.row;
+    Captured {
+        row,
+        answer: captured_answer(after, answer),
+    }
+}
+
+// ---- the calls on a lent row
+
+#[no_mangle]
+pub extern "C" fn rei2_reset(seats: &mut [Seat], desk: Desk) -> DeskAnswer
+    ensures { λ r. ⌜ ResetLent (now (seats .entry)) desk r (now (seats .exit)) ⌝ }
+{
+    if seats.len() != SEATS {
+        return no_desk(desk);
+    }
+    let row = load(seats);
+    let out = reset_row(row, desk);
+    store(seats, out.row);
+    out.answer
+}
+
+#[no_mangle]
+pub extern "C" fn rei2_open(
+    seats: &mut [Seat],
+    desk: Desk,
+    cells: &[u8],
+    marks: &[u32],
+    frame: &[u8],
+) -> DeskAnswer
+    ensures { λ r. ⌜ OpenLent (now (seats .entry)) desk (now (cells .entry)) (now (marks .entry)) (now (frame .entry)) r (now (seats .exit)) ⌝ }
+{
+    if seats.len() != SEATS {
+        return no_desk(desk);
+    }
+    let row = load(seats);
+    let out = open_row(row, desk, cells, marks, frame);
+    store(seats, out.row);
+    out.answer
+}
+
+#[no_mangle]
+pub extern "C" fn rei2_reply(
+    seats: &mut [Seat],
+    desk: Desk,
+    cells: &mut [u8],
+    marks: &mut [u32],
+    frame: &[u8],
+) -> DeskAnswer
+    ensures { λ r. ⌜ ReplyLent (now (seats .entry)) desk (now (cells .entry)) (now (marks .entry)) (now (frame .entry)) r (now (seats .exit)) (now (cells .exit)) (now (marks .exit)) ⌝ }
+{
+    if seats.len() != SEATS {
+        return no_desk(desk);
+    }
+    let row = load(seats);
+    let out = reply_row(row, desk, cells, marks, frame);
+    store(seats, out.row);
+    out.answer
+}
+
+#[no_mangle]
+pub extern "C" fn rei2_capture(
+    seats: &mut [Seat],
+    desk: Desk,
+    cells: &mut [u8],
+    marks: &mut [u32],
+    capture: &[u8],
+) -> CapturedAnswer
+    ensures { λ r. ⌜ CaptureLent (now (seats .entry)) desk (now (cells .entry)) (now (marks .entry)) (now (capture .entry)) r (now (seats .exit)) (now (cells .exit)) (now (marks .exit)) ⌝ }
+{
+    if seats.len() != SEATS {
+        return no_captured(desk);
+    }
+    let row = load(seats);
+    let out = capture_row(row, desk, cells, marks, capture);
+    store(seats, out.row);
+    out.answer
+}
