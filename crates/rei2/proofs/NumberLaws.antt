@@ -4,13 +4,13 @@ use mathlib.Core.List.{List, []}
 use Prim.Native.Nat.{ℕ}
 use lib.ListN.{length}
 use borrow.Author.Tests.{eq-eqb}
-use Rattle.digits.specs.Told.{Told, gives, refuses}
+use Rattle.digits.specs.Told.{Told, gives}
 use Rattle.frames.specs.Refusals.{readRefused}
 use Rattle.frames.specs.declared.refusals.ReadRefusal.{ReadRefusal}
 use Rattle.frames.specs.declared.refusals.ReadVerdict.the-variants.{Read, Refused}
 use Rattle.frames.specs.declared.reply.ReplyRead.{ReplyRead}
 use Rattle.frames.specs.Kind.{read}
-use Rattle.frames.specs.Reply.{reply, ReadAs}
+use Rattle.frames.specs.Reply.{reply, zeroReply, ReadAs}
 use Rattle.desk.specs.declared.state.Seat.{Seat}
 use Rattle.desk.specs.declared.state.Desk.{Desk}
 use Rattle.desk.specs.declared.capture.CaptureAnswer.{CaptureAnswer}
@@ -21,7 +21,6 @@ use Rattle.desk.specs.Capture.{captureTold, captures, TookCapture}
 use Rattle.rei2.specs.declared.lent.Out.{Out}
 use Rattle.rei2.specs.declared.lent.Captured.{Captured}
 use Rattle.rei2.specs.declared.reply.ReplyAnswer.{ReplyAnswer}
-use Rattle.rei2.specs.Numbers.{numberIn, offsetIn}
 use Rattle.rei2.specs.Lent.{stateIn, deskAnswer, captureAnswer}
 use Rattle.rei2.specs.inside.Core.{outOf}
 use Rattle.rei2.specs.Reply.{shown, replyAnswer}
@@ -32,12 +31,9 @@ module _ (s : List ℕ) (a : ReplyRead) (h : ReadAs s a) where
   pub reply-read : a .verdict ≡ Read → _≡_ {A = ReplyAnswer} (record { refusal = 0; offset = 0; reply = shown (a .reply) }) (replyAnswer (read reply s))
   reply-read e = ap replyAnswer (rw e at (h .told))
 
-  -- the record of zeros stands beside the refusal already
   pub reply-refused : (g : ReadRefusal) → a .verdict ≡ Refused g
-      → _≡_ {A = ReplyAnswer} (record { refusal = readRefused g .number; offset = readRefused g .offset; reply = shown (a .reply) }) (replyAnswer (read reply s))
-  reply-refused g e =
-      let told : refuses (readRefused g) ≡ read reply s = rw e at (h .told) in
-      λ i. record { refusal = numberIn (told i); offset = offsetIn (told i); reply = shown (h .beside i) }
+      → _≡_ {A = ReplyAnswer} (record { refusal = readRefused g .number; offset = readRefused g .offset; reply = shown zeroReply }) (replyAnswer (read reply s))
+  reply-refused g e = ap replyAnswer (rw e at (h .told))
 
 -- ---- the calls by value
 

@@ -12,7 +12,7 @@ use frames::reply::write_reply;
 use frames::timing::Timing;
 ghost use mathlib.Core.Path.{_≡_};
 ghost use Rattle.frames.specs.Kind.{read};
-ghost use Rattle.frames.specs.Reply.{reply};
+ghost use Rattle.frames.specs.Reply.{reply, zeroReply};
 ghost use Rattle.rei2.specs.Reply.{numbersOf, timingOf, isNothing, noDate, leftOver, shown, recordOf, replyAnswer, WroteReplyLent};
 ghost use Rattle.rei2.specs.inside.Left.{roomIn, orLeft};
 
@@ -61,19 +61,18 @@ pub extern "C" fn rei2_read_reply(frame: &[u8]) -> ReplyAnswer
     let read = read_reply(frame);
     let verdict = read.verdict;
     let record = read.reply;
-    let reply = shown(record);
     match verdict {
         ReadVerdict::Read => ReplyAnswer {
             refusal: 0,
             offset: 0,
-            reply,
+            reply: shown(record),
         },
         ReadVerdict::Refused(refusal) => {
             let said = of_reading(refusal);
             ReplyAnswer {
                 refusal: said.number,
                 offset: said.offset,
-                reply,
+                reply: no_reply(),
             }
         }
     }
@@ -111,6 +110,38 @@ fn or_left(left: bool, answer: WrittenAnswer) -> WrittenAnswer
         };
     }
     answer
+}
+
+// What stands beside a refusal. The reader has it too, but a copy would wait for what it stored.
+fn no_reply() -> ReplyRecord
+    ensures { λ r. ⌜ r ≡ shown zeroReply ⌝ }
+{
+    ReplyRecord {
+        head: ReplyHead {
+            program: 0,
+            mode: 0,
+            status: 0,
+            requester: 0,
+            number: 0,
+            bib: 0,
+            group: 0,
+            run: 0,
+            physical: 0,
+            channel: 0,
+            information: 0,
+        },
+        timing: TimingNumbers {
+            kind: RAW,
+            ticks: 0,
+            day: 0,
+            month: 0,
+            year: 0,
+            net: 0,
+        },
+        raw_time: [0; 10],
+        raw_date: [0; 8],
+        spare: [0; 2],
+    }
 }
 
 // ---- the timing, in numbers and back

@@ -48,14 +48,13 @@ pub fn number(word: &str) -> Option<u64> {
     }
 }
 
-/// What stands between marks, each outside of all groups.
-pub fn parts<'a>(tokens: &'a [Token], mark: &str) -> Vec<&'a [Token]> {
+/// The last of these marks that is outside of all groups.
+pub fn last_mark(tokens: &[Token], marks: &[&str]) -> Option<usize> {
     let mut depth = 0;
-    let is_mark = |token: &Token| {
+    tokens.iter().rposition(|token| {
         depth += nesting(&token.text);
-        depth == 0 && token.text == mark
-    };
-    tokens.split(is_mark).collect()
+        depth == 0 && marks.contains(&token.text.as_str())
+    })
 }
 
 /// What stands in the group that the first token opens.

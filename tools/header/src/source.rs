@@ -70,15 +70,25 @@ impl Source {
         }
     }
 
-    /// The value of a sum of products of numbers, constants and sums in brackets.
+    /// The value of products of numbers, constants and what is in brackets, added and taken away.
     pub fn value(&self, tokens: &[Token]) -> Option<u64> {
-        let product = |tokens: &[Token]| -> Option<u64> {
-            lex::parts(tokens, "*").into_iter().map(|factor| self.factor(factor)).product()
-        };
-        lex::parts(tokens, "+").into_iter().map(product).sum()
+        let Some(at) = lex::last_mark(tokens, &["+", "-"]) else { return self.product(tokens) };
+        let (left, right) = (self.value(&tokens[..at])?, self.product(&tokens[at + 1..])?);
+        if tokens[at].text == "+" {
+            left.checked_add(right)
+        } else {
+            left.checked_sub(right)
+        }
     }
 
-    /// The value of a sum in brackets, of a number, or of a constant, which is named or reached by a path.
+    fn product(&self, tokens: &[Token]) -> Option<u64> {
+        match lex::last_mark(tokens, &["*"]) {
+            Some(at) => self.product(&tokens[..at])?.checked_mul(self.factor(&tokens[at + 1..])?),
+            None => self.factor(tokens),
+        }
+    }
+
+    /// The value of what is in brackets, of a number, or of a constant, which is named or reached by a path.
     fn factor(&self, tokens: &[Token]) -> Option<u64> {
         if tokens.first()?.text == "(" {
             let inside = lex::group(tokens);
@@ -89,9 +99,22 @@ impl Source {
         let (crate_name, module) = match path {
             [] if lex::number(name).is_some() => return lex::number(name),
             [] => self.home(name),
-            path => self.place(path),
+            // a `use` may bring the module that the path begins with
+            path => self.place(&[self.used(&path[0]).unwrap_or_default(), path.to_vec()].concat()),
         };
-        Source::read(&self.root, &crate_name, &module).ok()?.constant(name)
+        Source::found(&self.root, &crate_name, &module)?.constant(name)
+    }
+
+    /// Reads a module that is a file, or that stands in another one: `mod NAME { .. }`.
+    fn found(root: &Path, crate_name: &str, module: &str) -> Option<Source> {
+        if let Ok(source) = Source::read(root, crate_name, module) {
+            return Some(source);
+        }
+        let (outer, inner) = module.rsplit_once('/').or((module != "lib").then_some(("lib", module)))?;
+        let source = Source::found(root, crate_name, outer)?;
+        let at = source.tokens.windows(3).position(|w| [&w[0].text, &w[1].text, &w[2].text] == ["mod", inner, "{"])?;
+        let tokens = lex::group(&source.tokens[at + 2..]).to_vec();
+        Some(Source { module: module.to_string(), tokens, ..source })
     }
 
     /// The lengths of the arrays that `let name = [..; length]` makes, none where a length is not read.

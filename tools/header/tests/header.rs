@@ -18,14 +18,14 @@ const FILES: [(&str, &str); 25] = [
     ("crates/desk/specs/Limits.antt", LIMITS),
     ("crates/frames/src/request.rt", "pub const REQUEST_LEAD: u8 = 0x11;\npub const REQUEST_SIZE: usize = 24;\n"),
     ("crates/frames/src/reply.rt", REPLY),
-    ("crates/frames/src/dynamic.rt", "pub const DYNAMIC_LEAD: u8 = 19;\npub const DYNAMIC_SIZE: usize = 46;\n"),
+    ("crates/frames/src/dynamic.rt", DYNAMIC),
     ("crates/frames/specs/Request.antt", REQUEST_KIND),
     ("crates/frames/specs/Reply.antt", REPLY_KIND),
     ("crates/frames/specs/Dynamic.antt", "dynamic = record { lead = 19; size = 46 }\n\nother = record { size = 7 }\n"),
     ("crates/digits/src/refusal.rt", TABLE),
     ("crates/digits/specs/Refusals.antt", REFUSALS),
     ("crates/listing/src/lib.rt", LISTING),
-    ("crates/listing/src/line.rt", "pub const ROW: usize = 53 + DIGITS;\nconst DIGITS: usize = 2;\n"),
+    ("crates/listing/src/line.rt", LINE),
     ("crates/listing/specs/Listing.antt", "abbrev pub mostInput : ℕ\nmostInput = 32768\n"),
     ("crates/listing/specs/Cases.antt", "pub record Worked : Type 0 where\n  pub longest : longestList ≡ 14170\n"),
     ("crates/rei2/specs/Reply.antt", NUMBERS),
@@ -116,6 +116,20 @@ use line::ROW;
 pub const MOST_INPUT: usize = 32768;
 pub const LONGEST_LIST: usize = 62 + CELLS * ROW + 2 * (2 * (1 + 5) + 2);
 "#;
+
+const LINE: &str = "use frames::dynamic::field;
+pub const ROW: usize = 11 + (field::SPARE - field::STATUS - 2) + 1 + DIGITS;
+const DIGITS: usize = 2;
+";
+
+const DYNAMIC: &str = "pub const DYNAMIC_LEAD: u8 = 19;
+pub const DYNAMIC_SIZE: usize = 46;
+
+pub mod field {
+    pub const STATUS: usize = 5;
+    pub const SPARE: usize = STATUS + 43;
+}
+";
 
 const FOUND: &str = "frameAnswer (OnTheWay start) = record { kind = 1; start = start }
 frameAnswer Nothing = record { start = 0; kind = 0 }
@@ -642,6 +656,10 @@ fn a_limit_by_a_formula() {
         lengths("a length that is not read"),
     ];
     let unread: Vec<&str> = unread.iter().map(String::as_str).collect();
+    differs_in("crates/listing/src/line.rt", "field::STATUS", "field::STATE", &unread);
+    differs_in("crates/listing/src/line.rt", "field::STATUS", "other::STATUS", &unread);
+    differs_in("crates/listing/src/line.rt", "field::STATUS - 2", "field::STATUS - 44", &unread);
+    differs_in("crates/frames/src/dynamic.rt", "mod field {", "mod fields {", &unread);
     differs_in("crates/listing/src/lib.rt", "(1 + 5)", "(1 + 5) 2", &unread);
     differs_in("crates/listing/src/lib.rt", "(1 + 5)", "()", &unread);
     differs_in("crates/listing/src/lib.rt", "use line::ROW;", "use lines::ROW;", &unread);
