@@ -1,7 +1,7 @@
 -- What is demanded of a kind of frame, once over every kind with a sound layout. Assumes nothing.
 use Prim.Native.Nat.{ℕ, suc, _+_, _-_, _≤_, _<_}
 use mathlib.Core.List.{List, [], _∷_, _++_}
-use mathlib.Core.Bool.{Bool, true, false, _&&_, and-eq-true-iff}
+use mathlib.Core.Bool.{Bool, true, _&&_, and-eq-true-iff}
 use mathlib.Core.Path.{_≡_, refl, sym, ap, subst, _∙_}
 use native.Mathlib.Omega.{arith}
 use native.Mathlib.Nat.{zero-add}
@@ -24,7 +24,7 @@ use Rattle.frames.specs.Refusals.{readRefused, verdictTold, writeTold}
 use Rattle.frames.specs.Rules.{isAddress}
 use Rattle.frames.specs.Shape.{byte}
 use Rattle.frames.specs.Layout.{Layout, field, wrongUnless, fieldsOf, write}
-use Rattle.frames.specs.Kind.{Kind, leadIs, letterR, CR, headTold, andThen, read, wrongIn, frameOf, writeTried, Wrote}
+use Rattle.frames.specs.Kind.{Kind, leadIs, letterR, CR, headTold, read, wrongIn, frameOf, writeTried, Wrote}
 use Rattle.frames.specs.Faithful.{Faithful}
 use Rattle.frames.proofs.HeadLaws.{tried-gives, then-gives, head-good, write-done}
 use Rattle.frames.proofs.LayoutLaws.{Sound, written-reads, length-write, reads-write, Sees, sees-field, seen-is}

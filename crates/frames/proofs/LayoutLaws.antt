@@ -1,6 +1,6 @@
 -- The fields, once over every sound layout: what is written is read, what is read was written so, and what the code sees is what is read. Assumes nothing.
-use Prim.Native.Nat.{ℕ, zero, suc, _+_, _-_, _^_, _≤_, _<_}
-use mathlib.Core.List.{List, [], _∷_, _++_, append-assoc}
+use Prim.Native.Nat.{ℕ, _+_, _-_, _^_, _≤_, _<_}
+use mathlib.Core.List.{List, _++_, append-assoc}
 use mathlib.Core.Bool.{Bool, true, false, _&&_}
 use mathlib.Core.Path.{_≡_, refl, sym, ap, subst, _∙_}
 use native.Mathlib.Omega.{arith}
@@ -15,17 +15,13 @@ use Rattle.times.specs.Clock.{isTime}
 use Rattle.times.proofs.ClockLaws.{clock-inverse}
 use Rattle.frames.specs.Shape.{Value, is, none, Shape, byte, number, time, run}
 use Rattle.frames.specs.Layout.{Layout, field, suits, end, wrongUnless, taken, fieldsOf, recordWrong, write, within}
-use Rattle.frames.proofs.ShapeLaws.{Inverse, one-inverse, digits-inverse, run-inverse, join}
+use Rattle.frames.proofs.ShapeLaws.{both-hold, Inverse, one-inverse, digits-inverse, run-inverse, join}
 
 -- ---- tests that came out well
 
 pub unless-none : (t : Bool) (at rest : ℕ) → 0 < at → wrongUnless t at rest ≡ 0 → (t ≡ true) × (rest ≡ 0)
 unless-none true at rest h e = (refl, e)
 unless-none false at rest h e = absurd (omega arith)
-
-pub both : (a b : Bool) → T (a && b) → T a × T b
-both true b t = (tt, t)
-both false b t = absurd t
 
 module _ {R A : Type 0} where
   -- a field that was taken
@@ -202,24 +198,24 @@ module _ {R : Type 0} {W : R → Type 0} {at n : ℕ} {P : R → Type 0} {F : Ty
   module _ {part : R → ℕ} {next : ℕ → Layout R} where
     pub byte-sound : {rule : ℕ → Bool} → T (ltb 0 at && leb 1 n) → ((v : ℕ) → rule v ≡ true → Sound W (next v) (λ r. P r × (part r ≡ v)) (F × Unit {0}) (n - 1)) → Sound W (field at byte rule part next) P F n
     byte-sound t rest =
-        let q = both (ltb 0 at) (leb 1 n) t in
+        let q = both-hold (ltb 0 at) (leb 1 n) t in
         field-sound (ltb→lt 0 at (q .0)) (leb→le 1 n (q .1)) byte-inverse (λ r whole. tt) rest
 
     pub number-sound : {rule : ℕ → Bool} (w hi : ℕ) → T (ltb 0 at && leb w n && (leb 1 w && leb w 10) && ltb hi (10 ^ w)) → ((v : ℕ) → rule v ≡ true → v ≤ hi)
         → ((v : ℕ) → rule v ≡ true → Sound W (next v) (λ r. P r × (part r ≡ v)) (F × Unit {0}) (n - w)) → Sound W (field at (number w) rule part next) P F n
     number-sound w hi t below rest =
-        let a = both (ltb 0 at && leb w n && (leb 1 w && leb w 10)) (ltb hi (10 ^ w)) t in
-        let b = both (ltb 0 at && leb w n) (leb 1 w && leb w 10) (a .0) in
-        let c = both (ltb 0 at) (leb w n) (b .0) in
+        let a = both-hold (ltb 0 at && leb w n && (leb 1 w && leb w 10)) (ltb hi (10 ^ w)) t in
+        let b = both-hold (ltb 0 at && leb w n) (leb 1 w && leb w 10) (a .0) in
+        let c = both-hold (ltb 0 at) (leb w n) (b .0) in
         field-sound (ltb→lt 0 at (c .0)) (leb→le w n (c .1)) (digits-inverse w hi (b .1) (a .1) below) (λ r whole. tt) rest
 
     pub time-sound : T (ltb 0 at && leb 10 n) → ((v : ℕ) → isTime v ≡ true → Sound W (next v) (λ r. P r × (part r ≡ v)) (F × Unit {0}) (n - 10)) → Sound W (field at time isTime part next) P F n
     time-sound t rest =
-        let q = both (ltb 0 at) (leb 10 n) t in
+        let q = both-hold (ltb 0 at) (leb 10 n) t in
         field-sound (ltb→lt 0 at (q .0)) (leb→le 10 n (q .1)) (one-inverse clock-inverse) (λ r whole. tt) rest
 
   pub run-sound : {part : R → List ℕ} {next : List ℕ → Layout R} {rule : List ℕ → Bool} (m : ℕ) → T (ltb 0 at && leb m n) → ((r : R) → W r → length (part r) ≡ m)
       → ((v : List ℕ) → rule v ≡ true → Sound W (next v) (λ r. P r × (part r ≡ v)) (F × (length v ≡ m)) (n - m)) → Sound W (field at (run m) rule part next) P F n
   run-sound m t long rest =
-      let q = both (ltb 0 at) (leb m n) t in
+      let q = both-hold (ltb 0 at) (leb m n) t in
       field-sound (ltb→lt 0 at (q .0)) (leb→le m n (q .1)) (run-inverse m) long rest

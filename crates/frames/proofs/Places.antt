@@ -4,10 +4,9 @@ use mathlib.Core.List.{List}
 use mathlib.Core.Bool.{Bool, true, false, not}
 use mathlib.Core.Path.{_≡_, refl, ap}
 use native.Mathlib.Omega.{arith}
-use lib.Dec.{eqb}
 use borrow.Author.Tests.{ne-eqb}
 use Rattle.digits.specs.Refusals.{FIELD, isRefusal}
-use Rattle.digits.specs.Told.{Told, tried, Sure}
+use Rattle.digits.specs.Told.{tried, Sure}
 use Rattle.digits.proofs.Sure.{sure-refuses, sure-gives}
 use Rattle.frames.specs.declared.timing.TimingKind.{TimingKind}
 use Rattle.frames.specs.declared.timing.TimingKind.the-variants.{Clock as clockKind, Net as netKind, Raw as rawKind}

@@ -1,5 +1,5 @@
 -- The static reply: its layout is sound, and what the code's steps come to. Assumes nothing.
-use Prim.Native.Nat.{ℕ, _+_, _≤_, _<_}
+use Prim.Native.Nat.{ℕ, _+_, _≤_}
 use mathlib.Core.List.{List, [], _∷_, _++_, append-assoc}
 use mathlib.Core.Bool.{Bool, true, false, cond}
 use mathlib.Core.Path.{_≡_, refl, sym, ap, _∙_}
@@ -30,7 +30,7 @@ use Rattle.frames.specs.Shape.{number, bytesOf}
 use Rattle.frames.specs.Layout.{wrongUnless, recordWrong, write, within}
 use Rattle.frames.specs.Kind.{letterR, CR, headTold, read, wrongIn, frameOf}
 use Rattle.frames.specs.Faithful.{Faithful}
-use Rattle.frames.specs.Timing.{Times, timingKind, timed}
+use Rattle.frames.specs.Timing.{timingKind, timed}
 use Rattle.frames.specs.Reply.{isLetter, isReplyChannel, leastRun, Tail, fromBib, tailOf, withTail, replyFields, reply, Whole, toldBy, orZero, ReadAs, labelOf, labelled}
 use Rattle.frames.specs.inside.Held.{orNone}
 use Rattle.frames.specs.inside.Timing.{timingWrong, timingText}

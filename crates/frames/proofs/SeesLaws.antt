@@ -1,5 +1,5 @@
 -- What the code sees of a field, by its shape. Assumes nothing.
-use Prim.Native.Nat.{ℕ, _+_, _≤_}
+use Prim.Native.Nat.{ℕ, _+_}
 use mathlib.Core.List.{List}
 use mathlib.Core.Bool.{Bool, true, false}
 use mathlib.Core.Path.{_≡_, refl}
@@ -11,7 +11,7 @@ use Rattle.digits.specs.declared.Number.the-variants.{Is, Wrong}
 use Rattle.digits.specs.Digits.{numberAt}
 use Rattle.times.specs.Clock.{clock, isTime}
 use Rattle.times.specs.Day.{realDay}
-use Rattle.times.proofs.DayLaws.{Bounds, day-bounds}
+use Rattle.times.proofs.DayLaws.{day-bounds}
 use Rattle.frames.specs.Shape.{value, byte, number, time, pair, run, bytesOf}
 use Rattle.frames.specs.Layout.{Layout, field, wrongUnless}
 use Rattle.frames.specs.Timing.{date, isDate, signedDays}

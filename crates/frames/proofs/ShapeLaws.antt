@@ -1,7 +1,7 @@
 -- Shapes: one number, two shapes after each other, and raw bytes are lawful, and what is written is read. Assumes nothing.
-use Prim.Native.Nat.{ℕ, zero, suc, _+_, _-_, _^_, _≤_, _<_}
+use Prim.Native.Nat.{ℕ, zero, suc, _+_, _-_, _^_, _≤_}
 use mathlib.Core.List.{List, [], _∷_, _++_, append-assoc, append-nil}
-use mathlib.Core.Bool.{Bool, true, false, _&&_, and-eq-true-iff}
+use mathlib.Core.Bool.{Bool, true, false, _&&_}
 use mathlib.Core.Path.{_≡_, refl, sym, ap, ap₂, _∙_}
 use native.Mathlib.Omega.{arith}
 use native.Mathlib.Nat.{add-zero, add-suc}
@@ -46,7 +46,8 @@ one-inverse {k} {rule} g = record {
   back = λ v h f. ap value (g .back v h);
 }
 
-both-hold : (a b : Bool) → T (a && b) → T a × T b
+-- both of two tests that came out well
+pub both-hold : (a b : Bool) → T (a && b) → T a × T b
 both-hold true b t = (tt, t)
 both-hold false b t = absurd t
 

@@ -13,8 +13,7 @@ use Rattle.digits.specs.Text.{oneOf}
 use Rattle.digits.specs.Digits.{digits, numberAt}
 use Rattle.digits.proofs.Tests.{and-true}
 use Rattle.digits.proofs.Writing.{sets-append, length-digits}
-use Rattle.times.specs.Clock.{clock, isTime}
-use Rattle.times.specs.Day.{realDay}
+use Rattle.times.specs.Clock.{clock}
 use Rattle.times.specs.Net.{isNet, netSum, netValue, netParts}
 use Rattle.times.proofs.DayLaws.{day-bounds}
 use Rattle.times.proofs.NetLaws.{net-inverse, net-days}
@@ -23,8 +22,8 @@ use Rattle.frames.specs.declared.timing.TimingKind.the-variants.{Clock a
 use Rattle.frames.specs.declared.timing.Timing.{Timing}
 use Rattle.frames.specs.declared.timing.Timing.the-variants.{Clock, Net, Raw}
 use Rattle.frames.specs.Shape.{bytesOf, allFrom}
-use Rattle.frames.specs.Layout.{wrongUnless, recordWrong, write}
-use Rattle.frames.specs.Timing.{Times, isOf, areZero, rawUnused, date, isDate, ticksIn, dateIn, isSign, signOf, netOf, netIn, daysIn, signedDays, areDays, timed}
+use Rattle.frames.specs.Layout.{recordWrong, write}
+use Rattle.frames.specs.Timing.{Times, isOf, areZero, date, isDate, ticksIn, dateIn, isSign, signOf, netOf, netIn, daysIn, signedDays, areDays, timed}
 use Rattle.frames.specs.inside.Held.{orNone}
 use Rattle.frames.specs.inside.Timing.{clockWrong, netWrong, netValueWrong, timingWrong, seenClock, netTiming, seenNet, seenRaw, seenOf, clockText, netText, rawText, timingText}
 use Rattle.frames.proofs.RuleLaws.{or-cases}

@@ -12,7 +12,7 @@ ghost use Rattle.frames.specs.Rules as R;
 ghost use Rattle.frames.specs.Layout.{wrongUnless};
 ghost use Rattle.frames.specs.Refusals.{writeTold};
 ghost use Rattle.frames.specs.Kind.{writeTried};
-ghost use Rattle.frames.specs.inside.Held.{noNumber, orNone};
+ghost use Rattle.frames.specs.inside.Held.{orNone};
 
 // What the code holds where no number stands: no rule takes it.
 pub const NO_NUMBER: u32 = 4_294_967_295;

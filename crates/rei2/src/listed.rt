@@ -2,7 +2,6 @@
 use digits::refusal as table;
 use listing::ListAnswer;
 use listing::list;
-ghost use mathlib.Core.Path.{_≡_};
 ghost use Rattle.rei2.specs.Calls.{ListLent};
 
 // The size of the list, 0 where it was not written.
