@@ -9,69 +9,19 @@ use text::put_one;
 use text::put_text;
 use text::width_of;
 ghost use mathlib.Core.Path.{_≡_};
+ghost use mathlib.Core.List.{_∷_};
+ghost use Prim.Native.Nat.{_≤_, _<_};
 ghost use lib.ListN.{length};
+ghost use lib.Seq.{slice};
 ghost use Rattle.text.specs.Put.{Put};
+ghost use Rattle.text.specs.Lines.{TAB};
 ghost use Rattle.desk.specs.Limits.{cellSize};
 ghost use Rattle.listing.specs.Text.{columns, shown, rowText, endText};
 
-// The bytes of a frame that stand below a column's name, up to the field behind.
-struct Part {
-    from: usize,
-    to: usize,
-}
-
 const COLUMNS: usize = 11;
 
-// A request's number has three digits, so the first two of five are not shown.
-const PARTS: [Part; COLUMNS] = [
-    Part {
-        from: field::REQUESTER,
-        to: field::NUMBER,
-    },
-    Part {
-        from: field::NUMBER + 2,
-        to: field::BIB,
-    },
-    Part {
-        from: field::BIB,
-        to: field::GROUP,
-    },
-    Part {
-        from: field::GROUP,
-        to: field::RUN,
-    },
-    Part {
-        from: field::RUN,
-        to: field::PHYSICAL,
-    },
-    Part {
-        from: field::PHYSICAL,
-        to: field::CHANNEL,
-    },
-    Part {
-        from: field::CHANNEL,
-        to: field::INFORMATION,
-    },
-    Part {
-        from: field::INFORMATION,
-        to: field::TIME,
-    },
-    Part {
-        from: field::TIME,
-        to: field::DATE,
-    },
-    Part {
-        from: field::DATE,
-        to: field::SPARE,
-    },
-    Part {
-        from: field::STATUS,
-        to: field::REQUESTER,
-    },
-];
-
 // The bytes of a row that stand after the seat: columns, each with its tab, and the end of the line. Together the columns show all from
-// the status to the date but the two digits.
+// the status to the date but two digits of the number.
 const AFTER_SEAT: usize = COLUMNS + (field::SPARE - field::STATUS - 2) + 1;
 
 // How many digits the last seat has, and how many a count has at most.
@@ -96,9 +46,12 @@ pub fn put_row(out: &mut [u8], at: usize, seat: usize, frame: &[u8]) -> usize
     if out.len() <= at {
         return place_after(at, width_of(seat as u64) + AFTER_SEAT);
     }
+    // Put together at places that are known, then copied as one run.
+    let mut row = [0u8; AFTER_SEAT];
+    let q = put_columns(&mut row, frame);
+    put_one(&mut row, q, LF);
     let p = put_decimal(out, at, seat as u64);
-    let q = put_columns(out, p, frame);
-    put_one(out, q, LF)
+    put_text(out, p, &row)
 }
 
 pub fn put_end(out: &mut [u8], at: usize, c: Counts) -> usize
@@ -116,21 +69,29 @@ pub fn put_end(out: &mut [u8], at: usize, c: Counts) -> usize
     put_one(out, p, LF)
 }
 
-// A tab in front of each column.
-fn put_columns(out: &mut [u8], at: usize, frame: &[u8]) -> usize
+// Each column up to the field behind. A request's number has three digits, so the first two of five are not shown.
+fn put_columns(out: &mut [u8], frame: &[u8]) -> usize
     requires { ⌜ length (now frame) ≡ cellSize ⌝ }
-    ensures { λ r. ⌜ Put (now (out .entry)) at (shown (now (frame .entry)) columns) r (now (out .exit)) ⌝ }
+    ensures { λ r. ⌜ Put (now (out .entry)) 0 (shown (now (frame .entry)) columns) r (now (out .exit)) ⌝ }
 {
-    let parts = PARTS;
-    let mut p = at;
-    let mut i: usize = 0;
-    while i < COLUMNS {
-        let part = parts[i];
-        let a = part.from;
-        let e = part.to;
-        let q = put_one(out, p, TAB);
-        p = put_text(out, q, &frame[a..e]);
-        i += 1;
-    }
-    p
+    let p = put_column(out, 0, frame, field::REQUESTER, field::NUMBER);
+    let p = put_column(out, p, frame, field::NUMBER + 2, field::BIB);
+    let p = put_column(out, p, frame, field::BIB, field::GROUP);
+    let p = put_column(out, p, frame, field::GROUP, field::RUN);
+    let p = put_column(out, p, frame, field::RUN, field::PHYSICAL);
+    let p = put_column(out, p, frame, field::PHYSICAL, field::CHANNEL);
+    let p = put_column(out, p, frame, field::CHANNEL, field::INFORMATION);
+    let p = put_column(out, p, frame, field::INFORMATION, field::TIME);
+    let p = put_column(out, p, frame, field::TIME, field::DATE);
+    let p = put_column(out, p, frame, field::DATE, field::SPARE);
+    put_column(out, p, frame, field::STATUS, field::REQUESTER)
+}
+
+// With its tab in front.
+fn put_column(out: &mut [u8], at: usize, frame: &[u8], from: usize, to: usize) -> usize
+    requires { ⌜ (from < to) × (to ≤ length (now frame)) ⌝ }
+    ensures { λ r. ⌜ Put (now (out .entry)) at (TAB ∷ slice from to (now (frame .entry))) r (now (out .exit)) ⌝ }
+{
+    let p = put_one(out, at, TAB);
+    put_text(out, p, &frame[from..to])
 }

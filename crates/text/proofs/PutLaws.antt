@@ -1,10 +1,10 @@
 -- Laws of texts put one after the other. Assumes nothing.
 use Prim.Native.Nat.{ℕ, _+_, _≤_}
-use mathlib.Core.List.{List, [], _∷_, _++_, append-assoc}
-use mathlib.Core.Path.{_≡_, refl, sym, ap₂, _∙_}
+use mathlib.Core.List.{List, [], _∷_, _++_, append-nil, append-assoc}
+use mathlib.Core.Path.{_≡_, refl, sym, ap, ap₂, _∙_}
 use native.Mathlib.Omega.{arith}
-use lib.ListN.{length, length-append}
-use lib.Seq.{sets, length-sets}
+use lib.ListN.{length, length-append, drop-of-length-le}
+use lib.Seq.{sets, sets-eq, length-sets}
 use Rattle.digits.proofs.Tests.{by-less}
 use Rattle.digits.proofs.Writing.{sets-append, sets-beyond}
 use Rattle.text.specs.Put.{mostPlace, placeAfter, Put}
@@ -41,3 +41,10 @@ pub put-parted : (out : List ℕ) (at : ℕ) (a : List ℕ) (p : ℕ) (mid : Lis
     → length out ≤ mostPlace → Put out at a p mid → Put mid p (b ∷ []) q mid′ → Put mid′ q c r out′ → Put out at (a ++ (b ∷ c)) r out′
 put-parted out at a p mid b q mid′ c r out′ l x y z =
     rw (← append-assoc a (b ∷ []) c) (put-then out at (a ++ (b ∷ [])) q mid′ c r out′ l (put-then out at a p mid (b ∷ []) q mid′ l x y) z)
+
+-- a text as long as the output takes its place
+pub put-whole : (out text : List ℕ) (end : ℕ) (out′ : List ℕ) → length text ≡ length out → Put out 0 text end out′ → out′ ≡ text
+put-whole out text end out′ l p =
+    let h : 0 + length text ≤ length out = omega arith in
+    let z : length out ≤ 0 + length text = omega arith in
+    p .bytes ∙ sets-eq text out 0 h ∙ ap (λ (r : List ℕ). text ++ r) (drop-of-length-le out z) ∙ append-nil text

@@ -1,85 +1,123 @@
--- `listing::line::put_columns` meets its contract. Assumes nothing.
-use lib.ListN.{length, take}
-use Rattle.listing.specs.Text.{columns, shown}
-use Rattle.text.specs.Put.{Put}
-use Rattle.text.proofs.PutLaws.{put-none}
-use Rattle.listing.proofs.ColumnLaws.{cut-at, columns-more, columns-all}
+-- `listing::line::put_columns` meets its contract: column after column. Assumes nothing.
 use native.Mathlib.Omega.{arith}
-use mathlib.Core.Path.{_≡_, refl, _∙_}
-use Prim.Native.Nat.{_-_, _≤_}
+use Prim.Native.Nat.{_≤_}
+use lib.ListN.{length}
+use Rattle.text.specs.Put.{mostPlace}
+use mathlib.Core.Path.{_∙_}
 use borrow.Author.Needs.{needs}
+use Rattle.text.proofs.PutLaws.{put-none}
+use Rattle.listing.specs.Text.{columns}
+use Rattle.listing.proofs.ColumnLaws.{column-more}
 use Rattle.listing.proofs.line.put_columns.Statement.{statement}
 use Rattle.listing.proofs.line.put_columns.Tie as tie
 
-abbrev Inv-loop : tie.InvT-loop
-Inv-loop out₀ at frame parts p₀ i₀ out p i = (i ≤ 11) × ((length out ≡ length out₀) × Put out₀ at (shown frame (take i columns)) p out)
+put-column-requires : tie.Need-put-column-requires
+put-column-requires c κs = (omega arith, omega (arith, c .before .before .before .pre))
 
-abbrev μ-loop : tie.MeasureT-loop
-μ-loop out₀ at frame parts p₀ i₀ out p i = 11 - i
+add-put-column : tie.Need-add-put-column
+add-put-column c = search needs
 
-loop-holds : tie.Need-loop-holds Inv-loop μ-loop
-loop-holds c = (search needs, (refl, put-none (c .before .before .args .out .now) (c .before .before .args .at) (omega arith)))
+put-column-requires-2 : tie.Need-put-column-requires-2
+put-column-requires-2 c κs = (omega arith, omega (arith, c .before .before .before .before .before .before .before .pre))
 
-mul-part : tie.Need-mul-part Inv-loop μ-loop
-mul-part c = search needs
+put-column-requires-3 : tie.Need-put-column-requires-3
+put-column-requires-3 c κs = (omega arith, omega (arith, c .before .before .before .before .before .before .before .before .before .before .before .pre))
 
-array-copy-out-part : tie.Need-array-copy-out-part Inv-loop μ-loop
-array-copy-out-part c = search needs
+put-column-requires-4 : tie.Need-put-column-requires-4
+put-column-requires-4 c κs = (omega arith, omega (arith, c .before .before .before .before .before .before .before .before .before .before .before .before .before .before .before .pre))
 
-put-one-requires : tie.Need-put-one-requires Inv-loop μ-loop
-put-one-requires c κs = search needs
+put-column-requires-5 : tie.Need-put-column-requires-5
+put-column-requires-5 c κs = (omega arith, omega (arith, c .before .before .before .before .before .before .before .before .before .before .before .before .before .before .before .before .before .before .before .pre))
 
-sub-put-text : tie.Need-sub-put-text Inv-loop μ-loop
-sub-put-text c = let k = cut-at (c .before .before .before .before .before .before .before .loop .i) (search needs) in omega (arith, k .some)
+put-column-requires-6 : tie.Need-put-column-requires-6
+put-column-requires-6 c κs = (omega arith, omega (arith, c .before .before .before .before .before .before .before .before .before .before .before .before .before .before .before .before .before .before .before .before .before .before .before .pre))
 
-part-put-text-start : tie.Need-part-put-text-start Inv-loop μ-loop
-part-put-text-start c = let k = cut-at (c .before .before .before .before .before .before .before .loop .i) (search needs) in omega (arith, k .some)
+put-column-requires-7 : tie.Need-put-column-requires-7
+put-column-requires-7 c κs = (omega arith, omega (arith, c .before .before .before .before .before .before .before .before .before .before .before .before .before .before .before .before .before .before .before .before .before .before .before .before .before .before .before .pre))
 
-part-put-text-end : tie.Need-part-put-text-end Inv-loop μ-loop
-part-put-text-end c = let k = cut-at (c .before .before .before .before .before .before .before .loop .i) (search needs) in omega (arith, k .inside, c .before .before .before .before .before .before .before .before .before .before .pre)
+put-column-requires-8 : tie.Need-put-column-requires-8
+put-column-requires-8 c κs = (omega arith, omega (arith, c .before .before .before .before .before .before .before .before .before .before .before .before .before .before .before .before .before .before .before .before .before .before .before .before .before .before .before .before .before .before .before .pre))
 
-put-text-requires : tie.Need-put-text-requires Inv-loop μ-loop
-put-text-requires c κs = search needs
+put-column-requires-9 : tie.Need-put-column-requires-9
+put-column-requires-9 c κs = (omega arith, omega (arith, c .before .before .before .before .before .before .before .before .before .before .before .before .before .before .before .before .before .before .before .before .before .before .before .before .before .before .before .before .before .before .before .before .before .before .before .pre))
 
-add-i : tie.Need-add-i Inv-loop μ-loop
-add-i c = search needs
+put-column-requires-10 : tie.Need-put-column-requires-10
+put-column-requires-10 c κs = (omega arith, omega (arith, c .before .before .before .before .before .before .before .before .before .before .before .before .before .before .before .before .before .before .before .before .before .before .before .before .before .before .before .before .before .before .before .before .before .before .before .before .before .before .before .pre))
 
-loop-less : tie.Need-loop-less Inv-loop μ-loop
-loop-less c = search needs
+put-column-requires-11 : tie.Need-put-column-requires-11
+put-column-requires-11 c κs = (omega arith, omega (arith, c .before .before .before .before .before .before .before .before .before .before .before .before .before .before .before .before .before .before .before .before .before .before .before .before .before .before .before .before .before .before .before .before .before .before .before .before .before .before .before .before .before .before .before .pre))
 
-loop-again : tie.Need-loop-again Inv-loop μ-loop
-loop-again c =
-    let a = c .before .before .before .before .before .before .before .before .before .before .before .before .before .before .args in
-    let l = c .before .before .before .before .before .before .before .before .before .before .before .loop in (
-      search needs,
-      (
-        c .before .before .put-text .kept .0 ∙ c .before .before .before .before .before .before .before .put-one .kept .0 ∙ l .inv .1 .0,
-        columns-more (a .out .now) (a .at) (a .frame .now) (l .i) (l .p) _ _ _ _ _ (omega arith) (search needs) (l .inv .1 .1) (c .before .before .before .before .before .before .before .put-one .ensures) (c .before .before .put-text .ensures),
-      ),
-    )
+same-length : tie.Need-same-length
+same-length c =
+    let c11 = c .before .before in
+    let c10 = c11 .before .before .before .before in
+    let c9 = c10 .before .before .before .before in
+    let c8 = c9 .before .before .before .before in
+    let c7 = c8 .before .before .before .before in
+    let c6 = c7 .before .before .before .before in
+    let c5 = c6 .before .before .before .before in
+    let c4 = c5 .before .before .before .before in
+    let c3 = c4 .before .before .before .before in
+    let c2 = c3 .before .before .before .before in
+    let c1 = c2 .before .before .before .before in
+    c11 .put-column11 .kept .0
+    ∙ c10 .put-column10 .kept .0
+    ∙ c9 .put-column9 .kept .0
+    ∙ c8 .put-column8 .kept .0
+    ∙ c7 .put-column7 .kept .0
+    ∙ c6 .put-column6 .kept .0
+    ∙ c5 .put-column5 .kept .0
+    ∙ c4 .put-column4 .kept .0
+    ∙ c3 .put-column3 .kept .0
+    ∙ c2 .put-column2 .kept .0
+    ∙ c1 .put-column .kept .0
 
-same-length : tie.Need-same-length Inv-loop μ-loop
-same-length c = search needs
-
-returns : tie.Need-returns Inv-loop μ-loop
-returns c = let a = c .before .before .before .before .args in columns-all (a .out .now) (a .at) (a .frame .now) (c .before .loop .i) (c .before .loop .p) _ (search needs) (c .before .loop .inv .1 .1)
+returns : tie.Need-returns
+unfolding columns
+returns c =
+    let c11 = c .before .before in
+    let c10 = c11 .before .before .before .before in
+    let c9 = c10 .before .before .before .before in
+    let c8 = c9 .before .before .before .before in
+    let c7 = c8 .before .before .before .before in
+    let c6 = c7 .before .before .before .before in
+    let c5 = c6 .before .before .before .before in
+    let c4 = c5 .before .before .before .before in
+    let c3 = c4 .before .before .before .before in
+    let c2 = c3 .before .before .before .before in
+    let c1 = c2 .before .before .before .before in
+    let start = c1 .before .before .before .before in
+    let out = start .args .out .now in
+    let f = start .args .frame .now in
+    let n : length out ≤ mostPlace = omega (arith, start) in
+    column-more out f n 10 _ _ _ _ (column-more out f n 9 _ _ _ _ (column-more out f n 8 _ _ _ _ (column-more out f n 7 _ _ _ _ (column-more out f n 6 _ _ _ _ (column-more out f n 5 _ _ _ _ (column-more out f n 4 _ _ _ _ (column-more out f n 3 _ _ _ _ (column-more out f n 2 _ _ _ _ (column-more out f n 1 _ _ _ _ (column-more out f n 0 _ _ _ _ (put-none out 0 (omega arith))
+    (c1 .put-column .ensures))
+    (c2 .put-column2 .ensures))
+    (c3 .put-column3 .ensures))
+    (c4 .put-column4 .ensures))
+    (c5 .put-column5 .ensures))
+    (c6 .put-column6 .ensures))
+    (c7 .put-column7 .ensures))
+    (c8 .put-column8 .ensures))
+    (c9 .put-column9 .ensures))
+    (c10 .put-column10 .ensures))
+    (c11 .put-column11 .ensures)
 
 pub put-columns-spec : {M : Type 1} → statement M
 put-columns-spec =
     tie.close
     (tie.spec
-    Inv-loop
-    μ-loop
-    loop-holds
-    mul-part
-    array-copy-out-part
-    put-one-requires
-    sub-put-text
-    part-put-text-start
-    part-put-text-end
-    put-text-requires
-    add-i
-    loop-less
-    loop-again
+    put-column-requires
+    add-put-column
+    put-column-requires-2
+    put-column-requires-3
+    put-column-requires-4
+    put-column-requires-5
+    put-column-requires-6
+    put-column-requires-7
+    put-column-requires-8
+    put-column-requires-9
+    put-column-requires-10
+    put-column-requires-11
     same-length
     returns)
