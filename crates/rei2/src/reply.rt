@@ -7,6 +7,7 @@ use frames::refusals::of_reading;
 use frames::reply::REPLY_SIZE;
 use frames::reply::ReplyHead;
 use frames::reply::StaticReply;
+use frames::reply::field;
 use frames::reply::read_reply;
 use frames::reply::write_reply;
 use frames::timing::Timing;
@@ -24,7 +25,7 @@ const CLOCK: u32 = 1;
 const NET: u32 = 2;
 
 // Where a number left over is told: at the CR.
-const LEFT_AT: u32 = 50;
+const LEFT_AT: u32 = field::END as u32;
 
 // A timing in numbers: its code; ticks, day, month and year of a clock; the value of a net one in ticks. What a kind does not use is 0.
 #[repr(C)]
