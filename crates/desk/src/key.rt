@@ -26,7 +26,7 @@ pub fn key_in(label: ReplyLabel) -> Key
     ensures { λ r. ⌜ r ≡ keyIn label ⌝ }
 {
     Key {
-        requester: label.requester as u32,
+        requester: label.requester,
         number: label.number,
     }
 }

@@ -120,10 +120,10 @@ pub struct ReplyRead {
     pub reply: StaticReply,
 }
 
-// What a good reply says of where it belongs.
+// What a good reply says of where it belongs; the requester by its code, as in a key.
 pub struct ReplyLabel {
     pub status: u8,
-    pub requester: u8,
+    pub requester: u32,
     pub number: u32,
 }
 
@@ -234,9 +234,10 @@ fn fields_checked(s: &[u8]) -> ReplyCheck
     let kind = kind_of(h.status, h.information);
     let wrong = head_wrong(h, timing_wrong_at(s, kind));
     if wrong == 0 {
+        let requester = h.requester as u32;
         return ReplyCheck::Good(ReplyLabel {
             status: h.status,
-            requester: h.requester,
+            requester,
             number: h.number,
         });
     }

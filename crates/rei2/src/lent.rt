@@ -194,11 +194,9 @@ pub(crate) fn open_row(
     let done = open(desk, row, cells, marks, frame);
     let after = done.desk;
     let answer = done.answer;
+    let said = open_answer(after, answer);
     let row = done.row;
-    Out {
-        row,
-        answer: open_answer(after, answer),
-    }
+    Out { row, answer: said }
 }
 
 pub(crate) fn reply_row(
@@ -213,11 +211,9 @@ pub(crate) fn reply_row(
     let done = reply(desk, row, cells, marks, frame);
     let after = done.desk;
     let answer = done.answer;
+    let said = reply_answer(after, answer);
     let row = done.row;
-    Out {
-        row,
-        answer: reply_answer(after, answer),
-    }
+    Out { row, answer: said }
 }
 
 pub(crate) fn capture_row(
@@ -232,11 +228,9 @@ pub(crate) fn capture_row(
     let done = take_capture(desk, row, cells, marks, capture);
     let after = done.desk;
     let answer = done.answer;
+    let said = captured_answer(after, answer);
     let row = done.row;
-    Captured {
-        row,
-        answer: captured_answer(after, answer),
-    }
+    Captured { row, answer: said }
 }
 
 // ---- the calls on a lent row

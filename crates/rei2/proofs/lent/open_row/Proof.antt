@@ -11,7 +11,7 @@ open-answer-requires : tie.Need-open-answer-requires
 open-answer-requires c κs = search needs
 
 returns : tie.Need-returns
-returns c = rw (c .open-answer .ensures) (out-is _ _ _ (c .before .before .before .«open» .ensures))
+returns c = rw (c .before .open-answer .ensures) (out-is _ _ _ (c .before .before .before .«open» .ensures))
 
 pub open-row-spec : {M : Type 1} → statement M
 open-row-spec = tie.close (tie.spec open-requires open-answer-requires returns)

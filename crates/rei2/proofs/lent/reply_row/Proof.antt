@@ -17,7 +17,7 @@ same-length-2 : tie.Need-same-length-2
 same-length-2 c = search needs
 
 returns : tie.Need-returns
-returns c = let e = c .before .before .before .before .before .before .before .reply .ensures in (rw (c .reply-answer .ensures) (out-is _ _ _ e), (λ i. e .memory i .cells, λ i. e .memory i .marks))
+returns c = let e = c .before .before .before .before .before .before .before .reply .ensures in (rw (c .before .reply-answer .ensures) (out-is _ _ _ e), (λ i. e .memory i .cells, λ i. e .memory i .marks))
 
 pub reply-row-spec : {M : Type 1} → statement M
 reply-row-spec =
