@@ -17,7 +17,7 @@ use Rattle.digits.proofs.Laws.{read-was-written}
 use Rattle.digits.proofs.Parts.{joined, read-in-parts, written-in-parts}
 use Rattle.digits.proofs.Forms.{number-lawful, number-back, renamed-lawful}
 use Rattle.times.specs.Clock.{aDay, lastTick, isTime, isHour, isSixtieth, hours, minutes, seconds, fraction, ticksOf, clockNumber, clock}
-use Rattle.times.specs.Inside.{partOf, ticksFrom}
+use Rattle.times.specs.inside.Clock.{partOf, ticksFrom}
 
 -- what the ticks of HHMMSSdddd say of it
 record Time (n v : ℕ) : Type 0 where

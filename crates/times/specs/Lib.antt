@@ -3,4 +3,4 @@ pub mod Day
 pub mod Net
 pub mod Running
 pub mod Unique
-pub mod Inside
+pub mod inside

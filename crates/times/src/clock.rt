@@ -9,7 +9,7 @@ ghost use lib.ListN.{length};
 ghost use lib.Seq.{sets};
 ghost use Rattle.digits.specs.Digits.{numberAt};
 ghost use Rattle.times.specs.Clock.{clockNumber, clock};
-ghost use Rattle.times.specs.Inside.{partOf, ticksFrom};
+ghost use Rattle.times.specs.inside.Clock.{partOf, ticksFrom};
 
 // The ticks of a day, and its last one, 235959.9999.
 pub const DAY_TICKS: u64 = 864_000_000;

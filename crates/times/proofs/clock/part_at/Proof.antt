@@ -1,5 +1,5 @@
 -- `times::clock::part_at` meets its contract. Assumes nothing.
-use Rattle.times.specs.Inside.{partOf}
+use Rattle.times.specs.inside.Clock.{partOf}
 use mathlib.Core.Path.{sym, ap, _∙_}
 use borrow.Author.Needs.{needs}
 use Rattle.times.proofs.clock.part_at.Statement.{statement}

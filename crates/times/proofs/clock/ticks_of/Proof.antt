@@ -1,5 +1,5 @@
 -- `times::clock::ticks_of` meets its contract. Assumes nothing.
-use Rattle.times.specs.Inside.{ticksFrom}
+use Rattle.times.specs.inside.Clock.{ticksFrom}
 use borrow.Author.Tests.{le-leb, lt-leb}
 use borrow.Author.Needs.{needs}
 use Rattle.times.proofs.clock.ticks_of.Statement.{statement}

@@ -1,4 +1,4 @@
--- What private steps of the code give. Nothing that is promised leans on this page: a reader of the rules can leave it out.
+-- A time of day in its four parts.
 use Prim.Native.Nat.{ℕ, _+_, _*_}
 use mathlib.Core.Bool.{cond}
 use lib.Dec.{leb}
