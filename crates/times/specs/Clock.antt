@@ -1,5 +1,5 @@
 -- A time of day, HHMMSSdddd, in ticks of a ten-thousandth of a second.
-use Prim.Native.Nat.{ℕ, _+_, _*_, _/_, _%_}
+use Prim.Native.Nat.{ℕ, _+_, _-_, _*_, _/_, _%_}
 use mathlib.Core.Bool.{Bool, cond, _&&_}
 use lib.Dec.{leb}
 use Rattle.digits.specs.declared.Number.{Number}
@@ -12,7 +12,7 @@ aDay = 864000000
 
 -- the last tick of a day, 235959.9999
 abbrev pub lastTick : ℕ
-lastTick = 863999999
+lastTick = aDay - 1
 
 -- the parts of a number whose ten digits are HHMMSSdddd; dddd is 0000 to 9999 in each
 abbrev pub hours : ℕ → ℕ
