@@ -115,6 +115,7 @@ reply-worked = record {
   net-written = refl;
   clock-written = refl;
   raw-written = refl;
+  label = refl;
   zeros = refl;
   net-offsets = refl;
   clock-offsets = refl;

@@ -12,7 +12,7 @@ use Rattle.frames.specs.declared.timing.Timing.{Timing}
 use Rattle.frames.specs.declared.timing.Timing.the-variants.{Clock, Net, Raw}
 use Rattle.frames.specs.declared.reply.StaticReply.{StaticReply}
 use Rattle.frames.specs.Kind.{read, wrongIn, frameOf}
-use Rattle.frames.specs.Reply.{reply, orZero}
+use Rattle.frames.specs.Reply.{reply, orZero, labelled}
 use Rattle.frames.specs.Cases.{Good, FieldAt, damaged, fieldsAt}
 
 -- a good net reply, in which no two parts are alike; its time is 12:34:56.7890
@@ -65,6 +65,8 @@ pub record ReplyWorked : Type 0 where
   pub net-written : frameOf reply (tails 50 (Net (negsuc 2139032109)) (replicate 10 0) (replicate 8 0) (117 ∷ 118 ∷ [])) ≡ good
   pub clock-written : frameOf reply (tails 75 (Clock 452967890 28 11 2031) (replicate 10 0) (replicate 8 0) (117 ∷ 118 ∷ [])) ≡ goodClock
   pub raw-written : frameOf reply (tails 81 Raw aToJ kToR (117 ∷ 118 ∷ [])) ≡ goodRaw
+  -- where it belongs
+  pub label : labelled (read reply good) ≡ gives (record { status = 69; requester = 68; number = 12345 })
   -- beside a refusal stands a record of zeros
   pub zeros : orZero (read reply []) ≡ tells 0 0 0 0 0 0 0 0 0 0 0 Raw (0 ∷ 0 ∷ 0 ∷ 0 ∷ 0 ∷ 0 ∷ 0 ∷ 0 ∷ 0 ∷ 0 ∷ []) (0 ∷ 0 ∷ 0 ∷ 0 ∷ 0 ∷ 0 ∷ 0 ∷ 0 ∷ []) (0 ∷ 0 ∷ [])
   -- each byte of the fields in turn

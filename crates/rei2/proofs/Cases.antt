@@ -124,7 +124,14 @@ frames-read = record { request-read = refl; request-refused = refl; reply-read =
 
 frames-written : FramesWritten
 unfolding oneOf leap monthLength realDay between upTo isRaw isRequester isOutput allFrom recordWrong wrongIn writeTried timingKind timed Q.isInformation Q.isRequestChannel Q.requestFields isStatus P.isLetter P.isReplyChannel P.leastRun P.fromBib P.replyFields timingOf leftOver wrongInC
-frames-written = record { written = refl; no-record = refl; no-room = refl; reply-written = refl; left-over = refl; reply-room = refl }
+frames-written = record {
+  written = λ _ _ w. w .told;
+  no-record = λ _ _ w. w .told;
+  no-room = λ _ _ w. w .told;
+  reply-written = λ _ _ w. w .told;
+  left-over = λ _ _ w. w .told;
+  reply-room = λ _ _ w. w .told;
+}
 
 timing-numbered : TimingNumbered
 unfolding oneOf leap monthLength realDay isNet between upTo isRaw isRequester allFrom recordWrong wrongIn timingKind isSign timed isStatus P.isLetter P.isReplyChannel P.leastRun P.fromBib P.replyFields timingOf leftOver wrongInC
@@ -154,7 +161,13 @@ other-calls = record { running = refl; not-running = refl; list = refl; no-room 
 
 names-written : NamesWritten
 unfolding names nameOf
-names-written = record { written = refl; bytes = refl; no-room = refl }
+names-written = record {
+  spared = λ _ _ w. w .bytes;
+  written = λ _ _ w. w .told;
+  bytes = λ _ _ w. w .bytes;
+  no-room = λ _ _ w. w .told;
+  no-bytes = λ _ _ w. w .bytes;
+}
 
 lends : Lends
 unfolding widthWithin width T.columns longestRow longestEnd

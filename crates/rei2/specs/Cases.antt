@@ -1,13 +1,13 @@
 -- The host's answers, worked out in numbers: each code and each zero where a host sees it.
 use Prim.Native.Nat.{ℕ}
-use mathlib.Core.List.{[], _∷_, _++_}
+use mathlib.Core.List.{List, [], _∷_, _++_}
 use mathlib.Core.Path.{_≡_}
 use lib.IntN.{pos, negsuc}
 use lib.ListN.{replicate}
 use Rattle.digits.specs.Text.{codes}
 use Rattle.times.specs.Running.{runningTime}
 use Rattle.frames.specs.declared.timing.Timing.the-variants.{Clock, Net, Raw}
-use Rattle.frames.specs.Kind.{read, wrongIn, writeTried, outputAfter}
+use Rattle.frames.specs.Kind.{read}
 use Rattle.frames.specs.Request.{request}
 use Rattle.frames.specs.Reply.{reply}
 use Rattle.frames.specs.Dynamic.{dynamic}
@@ -20,13 +20,14 @@ use Rattle.desk.specs.Mix.{run, openings}
 use Rattle.desk.specs.Cases.{asking, replying, bare, asked, sixteen}
 use Rattle.listing.specs.Listing.{listed}
 use Rattle.rei2.specs.declared.lent.DeskAnswer.{DeskAnswer}
+use Rattle.rei2.specs.declared.request.WrittenAnswer.{WrittenAnswer}
 use Rattle.rei2.specs.declared.reply.TimingNumbers.{TimingNumbers}
 use Rattle.rei2.specs.declared.reply.ReplyRecord.{ReplyRecord}
 use Rattle.rei2.specs.Lent.{answerOf, capturedOf}
-use Rattle.rei2.specs.Frames.{requestAnswer, dynamicAnswer, writtenAnswer}
-use Rattle.rei2.specs.Reply.{numbersOf, replyAnswer, wrongInC, triedInC}
+use Rattle.rei2.specs.Frames.{requestAnswer, dynamicAnswer, WroteLent}
+use Rattle.rei2.specs.Reply.{numbersOf, replyAnswer, wrongInC, WroteReplyLent}
 use Rattle.rei2.specs.Calls.{frameAnswer, cellAnswer, runningAnswer, listAnswer}
-use Rattle.rei2.specs.Names.{nameOf, nameTried}
+use Rattle.rei2.specs.Names.{nameOf, NamedLent}
 use Rattle.rei2.specs.Limits.{limits}
 
 -- ---- frames in a capture: a whole one, one that the end cuts, one that a lead byte cuts
@@ -123,13 +124,17 @@ pub record FramesRead : Type 0 where
 
 -- ---- frames written
 
+-- a promise on an answer and an output allows no other answer than this one
+abbrev pub Answers : (WrittenAnswer → List ℕ → Type 0) → WrittenAnswer → Type 0
+Answers Promise a = (b : WrittenAnswer) (out′ : List ℕ) → Promise b out′ → b ≡ a
+
 pub record FramesWritten : Type 0 where
-  pub written : writtenAnswer 24 (writeTried (wrongIn request (F.asked 250)) 24 24) ≡ record { refusal = 0; offset = 0; size = 24 }
-  pub no-record : writtenAnswer 24 (writeTried (wrongIn request (F.asked 251)) 24 24) ≡ record { refusal = 6; offset = 16; size = 0 }
-  pub no-room : writtenAnswer 24 (writeTried (wrongIn request (F.asked 250)) 24 23) ≡ record { refusal = 7; offset = 0; size = 0 }
-  pub reply-written : writtenAnswer 51 (triedInC (told 41 48 (clocked 0)) (replicate 51 0)) ≡ record { refusal = 0; offset = 0; size = 51 }
-  pub left-over : writtenAnswer 51 (triedInC (told 41 48 (clocked 5)) (replicate 51 0)) ≡ record { refusal = 6; offset = 50; size = 0 }
-  pub reply-room : writtenAnswer 51 (triedInC (told 41 48 (clocked 0)) (replicate 50 0)) ≡ record { refusal = 7; offset = 0; size = 0 }
+  pub written : Answers (WroteLent request (F.asked 250) (replicate 24 0)) (record { refusal = 0; offset = 0; size = 24 })
+  pub no-record : Answers (WroteLent request (F.asked 251) (replicate 24 0)) (record { refusal = 6; offset = 16; size = 0 })
+  pub no-room : Answers (WroteLent request (F.asked 250) (replicate 23 0)) (record { refusal = 7; offset = 0; size = 0 })
+  pub reply-written : Answers (WroteReplyLent (told 41 48 (clocked 0)) (replicate 51 0)) (record { refusal = 0; offset = 0; size = 51 })
+  pub left-over : Answers (WroteReplyLent (told 41 48 (clocked 5)) (replicate 51 0)) (record { refusal = 6; offset = 50; size = 0 })
+  pub reply-room : Answers (WroteReplyLent (told 41 48 (clocked 0)) (replicate 50 0)) (record { refusal = 7; offset = 0; size = 0 })
 
 -- ---- a reply's timing in numbers
 
@@ -161,12 +166,17 @@ pub record OtherCalls : Type 0 where
   pub list : listAnswer (listed [] [] [] (replicate 100 0)) ≡ record { refusal = 0; size = 74 }
   pub no-room : listAnswer (listed [] [] [] []) ≡ record { refusal = 7; size = 0 }
 
--- ---- a refusal's name on an output: STRAY, and with one byte less
+-- ---- a refusal's name on an output: STRAY with a byte to spare, with just its room, and with one byte less
+
+abbrev pub Leaves : (WrittenAnswer → List ℕ → Type 0) → List ℕ → Type 0
+Leaves Promise out = (b : WrittenAnswer) (out′ : List ℕ) → Promise b out′ → out′ ≡ out
 
 pub record NamesWritten : Type 0 where
-  pub written : writtenAnswer 5 (nameTried (nameOf 13) (replicate 7 0)) ≡ record { refusal = 0; offset = 0; size = 5 }
-  pub bytes : outputAfter (nameTried (nameOf 13) (replicate 7 1)) (nameOf 13 ++ (0 ∷ [])) 6 (replicate 7 1) ≡ 83 ∷ 84 ∷ 82 ∷ 65 ∷ 89 ∷ 0 ∷ 1 ∷ []
-  pub no-room : writtenAnswer 5 (nameTried (nameOf 13) (replicate 5 0)) ≡ record { refusal = 7; offset = 0; size = 0 }
+  pub spared : Leaves (NamedLent (nameOf 13) (replicate 7 1)) (83 ∷ 84 ∷ 82 ∷ 65 ∷ 89 ∷ 0 ∷ 1 ∷ [])
+  pub written : Answers (NamedLent (nameOf 13) (replicate 6 1)) (record { refusal = 0; offset = 0; size = 5 })
+  pub bytes : Leaves (NamedLent (nameOf 13) (replicate 6 1)) (83 ∷ 84 ∷ 82 ∷ 65 ∷ 89 ∷ 0 ∷ [])
+  pub no-room : Answers (NamedLent (nameOf 13) (replicate 5 1)) (record { refusal = 7; offset = 0; size = 0 })
+  pub no-bytes : Leaves (NamedLent (nameOf 13) (replicate 5 1)) (1 ∷ 1 ∷ 1 ∷ 1 ∷ 1 ∷ [])
 
 -- ---- what a host must lend
 

@@ -88,12 +88,12 @@ wrongInC c = cond (eqb (wrongIn reply (recordOf c)) 0) (cond (leftOver (c .timin
 
 -- what is told of writing it to out
 abbrev pub triedInC : ReplyRecord → List ℕ → Told (Unit {0})
-triedInC c out = writeTried (wrongInC c) 51 (length out)
+triedInC c out = writeTried (wrongInC c) (reply .size) (length out)
 
 -- what is promised of writing c to out: the answer, and every byte of the output
 pub record WroteReplyLent (c : ReplyRecord) (out : List ℕ) (answer : WrittenAnswer) (out′ : List ℕ) : Type 0 where
-  pub told : answer ≡ writtenAnswer 51 (triedInC c out)
-  pub bytes : out′ ≡ outputAfter (triedInC c out) (frameOf reply (recordOf c)) 51 out
+  pub told : answer ≡ writtenAnswer (reply .size) (triedInC c out)
+  pub bytes : out′ ≡ outputAfter (triedInC c out) (frameOf reply (recordOf c)) (reply .size) out
 
 -- ---- nothing is lost between the two
 

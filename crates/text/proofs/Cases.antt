@@ -16,5 +16,6 @@ text-worked = record {
   next-place = refl;
   last-place = refl;
   past-places = refl;
+  ends = refl;
   two-lines = refl;
 }

@@ -1,9 +1,10 @@
--- Numbers and places, spelled.
+-- Numbers, places and the bytes that end columns and lines, spelled.
+use mathlib.Core.List.{[], _∷_}
 use mathlib.Core.Path.{_≡_}
 use Rattle.digits.specs.Text.{codes}
 use Rattle.text.specs.Put.{placeAfter}
 use Rattle.text.specs.Decimal.{decimal}
-use Rattle.text.specs.Lines.{lines}
+use Rattle.text.specs.Lines.{TAB, LF, lines}
 
 pub record TextWorked : Type 0 where
   pub zero : decimal 0 ≡ codes "0"
@@ -15,4 +16,5 @@ pub record TextWorked : Type 0 where
   pub next-place : placeAfter 7 5 ≡ 12
   pub last-place : placeAfter 18446744073709551610 5 ≡ 18446744073709551615
   pub past-places : placeAfter 18446744073709551610 6 ≡ 18446744073709551615
+  pub ends : TAB ∷ LF ∷ [] ≡ codes "\t\n"
   pub two-lines : lines (codes "a\tb\n\nc") ≡ 2

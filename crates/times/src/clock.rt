@@ -14,7 +14,7 @@ ghost use Rattle.times.specs.inside.Clock.{partOf, ticksFrom};
 // The ticks of a day, and its last one, 235959.9999.
 pub const DAY_TICKS: u64 = 864_000_000;
 
-pub const LAST_TICK: u32 = 863_999_999;
+pub const LAST_TICK: u32 = (DAY_TICKS - 1) as u32;
 
 // The ticks of the time at a place; Wrong where ten digits of a time do not stand there. Its parts are read one by one, so that none waits for another.
 pub fn clock_at(s: &[u8], at: usize) -> Number
