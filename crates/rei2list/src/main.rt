@@ -78,11 +78,16 @@ fn print_help() {
     print(b"usage: rei2list < CAPTURE > LIST\n");
     print(b"Lists the static replies in a capture of a REI2 serial line, sorted by request.\n");
     print(b"A capture is the bytes of the line as they came, at most 32,768.\n");
-    print(b"The list has a heading, a row for each reply, and a last line: end, requests opened,\n");
+    print(
+        b"The list has a heading, a row for each reply, and a last line: end, requests opened,\n",
+    );
     print(b"replies collected, dynamic requests, frames refused. Columns are separated by tabs.\n");
     print(b"A list without its end line is not whole; standard error then says why.\n");
 }
 
 fn refuse_words() {
-    io::write_all(STDERR_FILENO, b"rei2list: the only argument is --help; the capture is read from standard input\n");
+    io::write_all(
+        STDERR_FILENO,
+        b"rei2list: the only argument is --help; the capture is read from standard input\n",
+    );
 }
