@@ -1,0 +1,125 @@
+//! The commands of docs/capture.md, on a line of the system in place of the serial one.
+
+use std::fs;
+use std::io::Write;
+use std::path::Path;
+use std::process::Stdio;
+use std::thread;
+use std::time::{Duration, Instant};
+
+use rei2list_tests::{bytes_of, line, of_the_page, rei2list_of, room, root, seen, shell, HEADING};
+
+const SET_UP: &str = "stty -F /dev/ttyUSB0 SPEED raw -echo clocal";
+const RECORD: &str = "cat /dev/ttyUSB0 > race.capture";
+
+fn sample() -> Vec<u8> {
+    bytes_of("samples/example.capture")
+}
+
+fn sample_list() -> String {
+    String::from_utf8(bytes_of("crates/rei2list/stdout")).expect("text")
+}
+
+/// What is recorded of these bytes, after the port was set up with a line of shell. The recording ends when as many bytes have come.
+fn recorded(set_up: &str, port: &str, master: &mut fs::File, bytes: &[u8]) -> Vec<u8> {
+    let done = seen(&mut shell(set_up), Stdio::null());
+    assert!(done.done, "{done:?}");
+    let capture = room("recorded").join("race.capture");
+    let record = of_the_page(RECORD, &[("/dev/ttyUSB0", port), ("race.capture", capture.to_str().expect("a name"))]);
+    let mut recording = shell(&format!("exec {record}")).spawn().expect("a recording");
+    master.write_all(bytes).expect("the bytes are sent");
+    let began = Instant::now();
+    while size(&capture) < bytes.len() as u64 && began.elapsed() < Duration::from_secs(20) {
+        thread::sleep(Duration::from_millis(20));
+    }
+    recording.kill().expect("the recording ends");
+    recording.wait().expect("the recording ends");
+    fs::read(&capture).expect("a capture")
+}
+
+fn size(path: &Path) -> u64 {
+    fs::metadata(path).map_or(0, |data| data.len())
+}
+
+/// Both recordings in one test, since they share the port.
+#[test]
+fn a_raw_line_is_recorded_as_it_is_and_cr_as_lf_cuts_every_frame() {
+    let (mut master, port) = line();
+    let port = port.to_str().expect("a name");
+    // As long as the port is open here, its settings stay.
+    let _open = fs::File::options().read(true).write(true).open(port).expect("the port");
+
+    let raw = of_the_page(SET_UP, &[("/dev/ttyUSB0", port), ("SPEED", "9600")]);
+    let good = recorded(&raw, port, &mut master, &sample());
+    assert_eq!(good, sample());
+    assert_eq!(rei2list_of("raw", &good).out, sample_list());
+
+    let changed = recorded(&format!("{raw} icrnl"), port, &mut master, &sample());
+    assert_eq!(changed, sample().iter().map(|&byte| if byte == 13 { 10 } else { byte }).collect::<Vec<_>>());
+    let list = rei2list_of("changed", &changed);
+    assert_eq!(list.out, format!("{HEADING}end\t0\t0\t0\t6\n"));
+    assert_eq!(list.err, "");
+}
+
+#[test]
+fn requests_in_front_are_in_the_capture() {
+    let room = room("front");
+    let ask = of_the_page(r"printf '\021R 100700000P000002000S\r' > requests.capture", &[]);
+    let join = of_the_page("cat requests.capture race.capture > whole.capture", &[]);
+    // The sample without its two requests.
+    fs::write(room.join("race.capture"), &sample()[48..]).expect("a capture");
+    let done = seen(shell(&format!("{ask} && {join}")).current_dir(&room), Stdio::null());
+    assert!(done.done, "{done:?}");
+    let list = rei2list_of("front-list", &fs::read(room.join("whole.capture")).expect("a capture"));
+    let rows: Vec<_> = sample_list().lines().skip(1).take(2).map(String::from).collect();
+    // One request, its two replies, and two replies to the other request, which is not there.
+    assert_eq!(list.out, format!("{HEADING}{}\nend\t1\t2\t0\t2\n", rows.join("\n")));
+}
+
+/// A long capture: two requests, and so many replies to them by turns, each with a line feed after it, as the stopwatch sends them.
+fn long_capture(replies: usize) -> Vec<u8> {
+    let mut capture = sample()[..48].to_vec();
+    for bib in 0..replies {
+        let key = if bib % 2 == 0 { "100007" } else { "A00012" };
+        let fields = format!("{key}{bib:05}000002000000P000000000000000000  ");
+        capture.extend(format!("\x12R SOR{fields}\r\n").bytes());
+    }
+    capture
+}
+
+fn bibs(list: &str, seat: &str) -> Vec<usize> {
+    let rows = list.lines().map(|line| line.split('\t').collect::<Vec<_>>());
+    rows.filter(|row| row[0] == seat).map(|row| row[3].parse().expect("a bib")).collect()
+}
+
+#[test]
+fn the_pieces_of_a_long_capture_have_all_its_replies() {
+    let replies = 700;
+    let room = room("long");
+    fs::write(room.join("race.capture"), long_capture(replies)).expect("a capture");
+    let list = root().canonicalize().expect("the root").join("list");
+    let lines = [
+        of_the_page(
+            r#"LC_ALL=C awk 'BEGIN { RS = ORS = "\r" } /^\n?\021R [^\021\022\023]*$/' race.capture > requests.capture"#,
+            &[],
+        ),
+        of_the_page(r#"split -t "$(printf '\r')" -l 200 race.capture piece."#, &[]),
+        of_the_page(
+            r#"for piece in piece.??; do cat requests.capture "$piece" | ./list > "$piece.tsv"; done"#,
+            &[("./list", list.to_str().expect("a name"))],
+        ),
+    ];
+    let done = seen(shell(&format!("set -e\n{}", lines.join("\n"))).current_dir(&room), Stdio::null());
+    assert!(done.done, "{done:?}");
+    assert_eq!(fs::read(room.join("requests.capture")).expect("requests"), &sample()[..48]);
+
+    let pieces = ["aa", "ab", "ac", "ad"].map(|piece| room.join(format!("piece.{piece}.tsv")));
+    let lists = pieces.map(|piece| fs::read_to_string(piece).expect("a list"));
+    // Of 702 frames the first piece has both requests a second time; the last has 102.
+    let ends = lists.each_ref().map(|list| list.lines().last().expect("an end line").to_string());
+    assert_eq!(ends, ["end\t2\t198\t0\t2", "end\t2\t200\t0\t0", "end\t2\t200\t0\t0", "end\t2\t102\t0\t0"]);
+    for (seat, first) in [("0", 0), ("1", 1)] {
+        let all: Vec<_> = lists.iter().flat_map(|list| bibs(list, seat)).collect();
+        assert_eq!(all, (first..replies).step_by(2).collect::<Vec<_>>());
+    }
+}
