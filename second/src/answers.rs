@@ -21,14 +21,15 @@ use crate::times::{self, Net, Running};
 /// What every byte of an output holds before a frame is written to it.
 const UNTOUCHED: u8 = 0xee;
 
-/// The answer where nothing was refused.
+/// The answer when nothing was refused.
 const DONE: &str = "0 0";
 
-/// The answer where something cannot be read.
+/// The answer when something cannot be read.
 const WRONG: &str = "wrong";
 
-/// The answers to a whole file, or a complaint that names the first line that is not a case. In
-/// that case there are no answers at all, so half a file of them is never taken for a whole one.
+/// The answers to a whole file. If a line is not a case, the result is a complaint that names the
+/// first such line, and there are no answers at all. This way part of a file's answers is never
+/// taken for all of them.
 pub fn file(input: &[u8]) -> Result<String, String> {
     let mut text = String::new();
     for answer_line in by_case(input)?.iter().flatten() {
@@ -38,7 +39,7 @@ pub fn file(input: &[u8]) -> Result<String, String> {
     Ok(text)
 }
 
-/// The same, for each case the lines that answer it, without their LF.
+/// The same answers by case: for each case the lines that answer it, without their LF.
 pub fn by_case(input: &[u8]) -> Result<Vec<Vec<String>>, String> {
     let mut session = Session::default();
     let lines = input.split_inclusive(|&code| code == b'\n');
@@ -62,7 +63,7 @@ fn case_of_line(line: &[u8]) -> Result<&str, NotACase> {
     std::str::from_utf8(case).map_err(|_| NotACase("the line is not text"))
 }
 
-/// What lasts from line to line: the desk of the scripts, at first with nothing lent to it.
+/// What lasts from line to line: the desk of the scripts. At first nothing is lent to it.
 #[derive(Default)]
 struct Session {
     desk: Desk,
@@ -79,7 +80,7 @@ impl Session {
     }
 }
 
-/// The lines that answer a case that stands by itself.
+/// The lines that answer a case that does not depend on the cases before it.
 fn answer_by_itself(words: &[&str]) -> Result<Vec<String>, NotACase> {
     match words {
         ["number", place, width, text] => number(place, width, text).map(one_line),
@@ -209,8 +210,9 @@ fn damage<Record: Kind>(frame: &str) -> Result<Vec<String>, NotACase> {
     Ok(lines)
 }
 
-/// Number and offset of a damage answer: the refusal's, or `0.0` where an accepted frame written
-/// again to as many bytes gives its own bytes, and `0.1` where it does not.
+/// Number and offset of a damage answer. If the frame is refused, they are those of the refusal. An
+/// accepted frame is written again to as many bytes: `0.0` if that returns its own bytes, `0.1` if
+/// not.
 fn read_and_write_again<Record: Kind>(frame: &[u8]) -> (u8, usize) {
     match Record::read(frame) {
         Err(refusal) => (refusal.number(), refusal.offset()),
@@ -222,8 +224,8 @@ fn read_and_write_again<Record: Kind>(frame: &[u8]) -> (u8, usize) {
     }
 }
 
-/// The line of one place: each of the 256 values put there, the unchanged one too, and neighbours
-/// with the same answer counted together.
+/// The line of one place. Each of the 256 values is put there, including the unchanged one.
+/// Neighbouring values with the same answer are counted together.
 fn damage_line(frame: &[u8], place: usize, outcome: fn(&[u8]) -> (u8, usize)) -> String {
     let mut damaged = frame.to_vec();
     let mut runs: Vec<(usize, (u8, usize))> = Vec::new();
@@ -393,7 +395,7 @@ mod tests {
         let script = format!("open {FIRST}\nread-request 11\nused\nlend 0 0\nused\n");
         let answers = "0 0 0 1 0 seat 0 49 7 0 0\n2 0\n1\n0\n0\n";
         assert_eq!(file(script.as_bytes()).as_deref(), Ok(answers));
-        // And no longer than the file.
+        // The desk does not last beyond the end of the file.
         check("used", "0");
     }
 
@@ -404,7 +406,7 @@ mod tests {
         let lines: Vec<&str> = answers.lines().collect();
         assert_eq!(lines.len(), 51);
         assert_eq!(lines[5], "5 69*5.5 1*0.0 12*5.5 1*0.0 7*5.5 1*0.0 165*5.5");
-        // Days of minus zero are turned away.
+        // Minus zero days are refused.
         assert_eq!(lines[40], "40 43*5.40 1*0.0 212*5.40");
         assert_eq!(lines[49], "49 32*5.48 95*0.0 129*5.48");
     }

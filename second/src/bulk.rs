@@ -1,5 +1,5 @@
-//! The comparison in bulk: pieces of cases and captures, each from a seed of its own, are put to the
-//! proved programs and answered here, and the answers are compared.
+//! The comparison in bulk. Cases and captures are made in pieces, each piece from a seed. The
+//! proved programs answer each piece, it is answered here too, and the answers are compared.
 
 mod compare;
 mod options;
@@ -13,12 +13,12 @@ use program::Programs;
 use report::Report;
 use std::process::ExitCode;
 
-/// The exit status where answers differed, and where nothing differed but not all was asked.
+/// The exit status if answers differed, and if nothing differed but the run was stopped early.
 const DIFFERENT: u8 = 1;
 const STOPPED: u8 = 3;
 
-/// Puts piece after piece to the programs. Differences and the summary are printed, and progress is
-/// told on standard error.
+/// Gives one piece after the other to the programs. Differences and the summary go to standard
+/// output, progress goes to standard error.
 pub fn run(words: &[&str]) -> Result<ExitCode, String> {
     let options = Options::parse(words)?;
     let programs = Programs::new(&options.run, &options.room)?;

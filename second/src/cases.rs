@@ -1,5 +1,6 @@
-//! Makes the two files of cases, the single cases and the scripts. Each subject adds its own; a file
-//! is the same for the same seed. The captures to be listed stand apart, each by itself.
+//! Makes the two files of cases: the single cases and the scripts. Each subject adds its own cases.
+//! The same seed always makes the same file. The captures to be listed are made separately, each as
+//! one item.
 
 pub mod bulk;
 pub mod captures;
@@ -22,7 +23,7 @@ pub struct Cases {
 }
 
 impl Cases {
-    /// Adds one case, given without its LF, unless the file asks it already.
+    /// Adds one case, given without its LF, unless the file has it already.
     fn add(&mut self, case: String) {
         if !self.asked.contains(&case) {
             self.text.push_str(&case);
@@ -31,15 +32,15 @@ impl Cases {
         }
     }
 
-    /// Adds a line of a script, also one that is there already: it works on what the lines before
-    /// it have left.
+    /// Adds a line of a script, even if the same line is there already. Its answer depends on the
+    /// lines before it.
     fn add_to_script(&mut self, line: &str) {
         self.text.push_str(line);
         self.text.push('\n');
     }
 }
 
-/// The file of the cases that are answered each by itself, whatever stands before it.
+/// The file of single cases. The answer to each does not depend on the others.
 pub fn single_cases(seed: u64) -> String {
     let mut cases = Cases::default();
     digits::add_all(&mut cases, seed);
@@ -51,7 +52,7 @@ pub fn single_cases(seed: u64) -> String {
     cases.text
 }
 
-/// The file of the scripts, which work on one desk from its first line to its last.
+/// The file of scripts. All of them work on one desk, from the first line to the last.
 pub fn scripts(seed: u64) -> String {
     let mut cases = Cases::default();
     desk::add_all(&mut cases, seed);
@@ -125,7 +126,7 @@ pub mod tests {
         }
     }
 
-    /// But for the mixes, which take their time. A test of their own asks each of their words.
+    /// The mixes are left out, because they take long. Another test asks each of their words.
     #[test]
     fn every_line_of_a_script_is_a_case() {
         let scripts = scripts(1);
@@ -134,7 +135,7 @@ pub mod tests {
         assert!(answers.is_ok(), "{answers:?}");
     }
 
-    /// Each file has all words of its own, and none of the other's.
+    /// Each file has all of its own words and none of the other file's.
     #[test]
     fn each_file_has_its_own_words() {
         let (singles, scripted) = (SINGLE_WORDS.into(), BTreeSet::from(SCRIPT_WORDS));

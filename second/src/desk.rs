@@ -17,18 +17,19 @@ pub const CELL: usize = Reply::LENGTH;
 /// A desk has no more cells than this, however many are lent.
 pub const MOST_CELLS: usize = 256;
 
-/// The record of a seat. All four are plain numbers, so one that makes no desk can be held too.
+/// The record of a seat. All four parts are plain numbers, so a seat that makes no desk can be held
+/// too.
 #[derive(Clone, Copy, Debug, Default, PartialEq, Eq)]
 pub struct Seat {
     pub requester: u32,
     pub number: u32,
     /// How many records it holds.
     pub held: u32,
-    /// 1 once it had its E or Z, 0 before.
+    /// 1 after its E or Z, 0 before.
     pub ended: u32,
 }
 
-/// What a reply is matched on, and nothing else.
+/// What a reply is matched by. Nothing else is compared.
 #[derive(Clone, Copy, Debug, PartialEq, Eq)]
 struct Key {
     requester: u32,
@@ -44,7 +45,7 @@ impl Seat {
     }
 }
 
-/// A request's 007 and a reply's 00007 are one number; what a reply has above 00999 no request has.
+/// A request's 007 and a reply's 00007 are the same number. No request has a number above 999.
 impl Key {
     fn of_request(request: &Request) -> Self {
         Key {
@@ -61,13 +62,13 @@ impl Key {
     }
 }
 
-/// The state (bits and count) together with all that is lent: seats, cells and marks. The row of
-/// seats has sixteen by its type; whether the rest makes a desk, the clauses tell.
+/// The state (bits and count) together with all that is lent: seats, cells and marks. The type
+/// fixes the row at sixteen seats. The clauses say whether the rest makes a desk.
 #[derive(Clone, Debug, Default, PartialEq, Eq)]
 pub struct Desk {
-    /// Bit i is set where seat i is in use.
+    /// Bit i is set if seat i is in use.
     pub bits: u64,
-    /// How many cells are taken, from the first on.
+    /// How many cells are taken, counted from the first.
     pub count: u32,
     pub seats: [Seat; SEATS],
     pub cells: Vec<u8>,
@@ -75,7 +76,7 @@ pub struct Desk {
 }
 
 impl Desk {
-    /// An empty desk that has this lent to it.
+    /// An empty desk with these cells and marks lent to it.
     pub fn with(cells: Vec<u8>, marks: Vec<u32>) -> Self {
         Desk {
             cells,
@@ -84,7 +85,7 @@ impl Desk {
         }
     }
 
-    /// Cells without the bytes of a last one that is not whole.
+    /// The number of whole cells. Bytes after the last whole cell do not count.
     fn whole_cells(&self) -> usize {
         self.cells.len() / CELL
     }
@@ -93,7 +94,7 @@ impl Desk {
         MOST_CELLS.min(self.whole_cells()).min(self.marks.len())
     }
 
-    /// Opens a request and gives its seat.
+    /// Opens a request and returns its seat.
     pub fn open(&mut self, frame: &[u8]) -> Result<usize, Refusal> {
         self.must_be_a_desk()?;
         let request = Request::read(frame)?;
@@ -109,7 +110,7 @@ impl Desk {
         Ok(seat)
     }
 
-    /// Takes a reply and gives the seat it goes to.
+    /// Takes a reply and returns the seat that it goes to.
     pub fn reply(&mut self, frame: &[u8]) -> Result<usize, Refusal> {
         self.must_be_a_desk()?;
         let reply = Reply::read(frame)?;
@@ -130,21 +131,21 @@ impl Desk {
         Ok(seat)
     }
 
-    /// Sets seats, bits and count to zero, whatever they were, and leaves cells and marks. With a
-    /// row of sixteen it is never refused.
+    /// Sets seats, bits and count to zero, whatever they were. Cells and marks stay. With a row of
+    /// sixteen seats it is never refused.
     pub fn reset(&mut self) {
         self.bits = 0;
         self.count = 0;
         self.seats = [Seat::default(); SEATS];
     }
 
-    /// The ones of the whole number, those above the seats too; it takes no desk to count them.
+    /// The number of ones in `bits`, including bits above the seats. The state need not be a desk.
     pub fn seats_in_use(&self) -> u32 {
         self.bits.count_ones()
     }
 
-    /// The first cell, from this place on, whose mark is `seat`. It is below the count and below the
-    /// capacity; that apart it takes no desk, and the seat may be any number.
+    /// The first cell, from this place on, whose mark is `seat`. The cell is below the count and
+    /// below the capacity. The state need not be a desk, and `seat` may be any number.
     pub fn next_held(&self, seat: u32, place: usize) -> Option<usize> {
         let end = self.below_the_count().min(self.capacity());
         (place..end).find(|&cell| self.marks[cell] == seat)
@@ -158,7 +159,7 @@ impl Desk {
         }
     }
 
-    /// The count as a limit of places.
+    /// The count as a limit for places.
     fn below_the_count(&self) -> usize {
         usize::try_from(self.count).unwrap_or(usize::MAX)
     }

@@ -1,10 +1,11 @@
 //! Numbers as ASCII digits with leading zeros.
 
-/// The widest number there is. Ten digits stay far below what a `u64` holds.
+/// The most digits that a number has. Ten digits fit easily in a `u64`.
 pub const WIDEST: usize = 10;
 
-/// The number of `width` digits that begins at `place`, or nothing if the text ends before or any
-/// of these bytes is no digit. There are no signs and no blanks: "every field is filled".
+/// The number of `width` digits that begins at `place`. Nothing if the text ends too early or if
+/// one of these bytes is not a digit. Signs and blanks are not allowed, because every field is
+/// filled.
 pub fn read(text: &[u8], place: usize, width: usize) -> Option<u64> {
     let end = place.checked_add(width)?;
     let field = text.get(place..end)?;
@@ -17,7 +18,7 @@ pub fn read(text: &[u8], place: usize, width: usize) -> Option<u64> {
     Some(value)
 }
 
-/// `value` as exactly `width` digits. The caller sees to it that it has no more.
+/// `value` as exactly `width` digits. The caller makes sure that it has no more digits.
 pub fn write(value: u64, width: usize) -> Vec<u8> {
     let text = format!("{value:0width$}").into_bytes();
     debug_assert_eq!(text.len(), width, "{value} has more than {width} digits");

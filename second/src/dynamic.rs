@@ -34,8 +34,8 @@ mod width {
 
 pub const ORDERS: &[u8; 6] = b"ABabTt";
 
-/// A dynamic request. The sign (0 plus, 1 minus) is a part of its own, so minus zero keeps it.
-/// Wide numbers let a record that is not well formed be held too.
+/// A dynamic request. The sign (0 plus, 1 minus) is a separate part, so minus zero keeps its sign.
+/// The numbers are wide, so that a record that is not well formed can be held too.
 #[derive(Clone, Debug, PartialEq, Eq)]
 pub struct Dynamic {
     pub requester: u8,
@@ -129,7 +129,7 @@ fn is_order(code: u8) -> bool {
     ORDERS.contains(&code)
 }
 
-/// One more than the bibs of the two static kinds.
+/// The highest bib is one more than in the two static kinds.
 fn is_bib(value: u64) -> bool {
     value <= 60_000
 }
@@ -155,7 +155,7 @@ fn is_days(value: u64) -> bool {
     value <= 9
 }
 
-/// Orders A and B want a period.
+/// Orders A and B require a period.
 fn is_period(value: u64, order: u8) -> bool {
     matches!(value, 1..=99_999) || (value == 0 && !matches!(order, b'A' | b'B'))
 }

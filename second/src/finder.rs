@@ -6,32 +6,32 @@ use crate::reply::Reply;
 use crate::request::Request;
 use std::iter;
 
-/// How a frame came to its end.
+/// How a frame ends.
 #[derive(Clone, Copy, Debug, PartialEq, Eq)]
 pub enum Ending {
-    /// Its CR came, and is its last byte.
+    /// Its CR came. The CR is its last byte.
     Whole,
-    /// A lead byte or the end of the capture came first. That lead byte is not part of it.
+    /// A lead byte or the end of the capture came first. That lead byte is not part of the frame.
     Cut,
 }
 
-/// A frame in a capture: its bytes stand from `start` up to, not including, `end`.
+/// A frame in a capture. Its bytes are from `start` up to, but not including, `end`.
 #[derive(Clone, Copy, Debug, PartialEq, Eq)]
 pub struct Found {
     pub ending: Ending,
     pub start: usize,
     pub end: usize,
-    /// Where the search goes on, outside any frame.
+    /// Where the search continues, outside any frame.
     pub next: usize,
 }
 
-/// The three bytes that begin a frame, whether they come outside one or inside.
+/// The three bytes that begin a frame, both outside and inside another frame.
 pub fn is_lead(code: u8) -> bool {
     [Request::LEAD, Reply::LEAD, Dynamic::LEAD].contains(&code)
 }
 
-/// The first frame for a search that stands at `place` outside any frame. All bytes before its lead
-/// byte are skipped, a CR among them too. Past the end of the capture there is nothing.
+/// The first frame for a search that begins at `place` outside any frame. All bytes before its lead
+/// byte are skipped, including any CR. Past the end of the capture there is nothing.
 pub fn first_from(capture: &[u8], place: usize) -> Option<Found> {
     let start = first_place(capture, place, is_lead)?;
     let stop = first_place(capture, start + 1, |code| code == CR || is_lead(code));
@@ -42,8 +42,9 @@ pub fn first_from(capture: &[u8], place: usize) -> Option<Found> {
     })
 }
 
-/// A whole frame is left behind with its CR. A cut one is left at what cut it, which the search
-/// then takes as the beginning of the next frame, or as the end.
+/// The search continues at the frame's end. After a whole frame that is the place after its CR.
+/// After a cut frame it is the lead byte that cut it, which begins the next frame, or the end of
+/// the capture.
 fn found(ending: Ending, start: usize, end: usize) -> Found {
     Found {
         ending,
@@ -53,7 +54,7 @@ fn found(ending: Ending, start: usize, end: usize) -> Found {
     }
 }
 
-/// The first place, from this one on, that holds a wanted byte.
+/// The first place, from this one on, with a wanted byte.
 fn first_place(capture: &[u8], from: usize, wanted: fn(u8) -> bool) -> Option<usize> {
     let rest = capture.get(from..)?;
     let skipped = rest.iter().position(|&code| wanted(code))?;
@@ -139,8 +140,9 @@ mod tests {
         check(capture, &[(Whole, 0, 24), (Whole, 24, 48), (Whole, 48, 99)]);
     }
 
-    /// Told from the bytes alone: every lead byte begins one frame, a frame holds no other lead
-    /// byte and a CR only as its last byte, and what is not in a frame holds no lead byte.
+    /// Checked on the bytes alone. Every lead byte begins one frame, and frames begin nowhere else.
+    /// A frame has a CR only as its last byte, and then it is whole. What cuts a frame is a lead
+    /// byte or the end.
     #[test]
     fn frames_found_are_the_lead_bytes() {
         let mut random = Random::new(1, "finder");

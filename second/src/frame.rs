@@ -1,5 +1,5 @@
-//! What all kinds of frame have in common: the bytes around the fields, how a field is read, and the
-//! order in which a frame is read and a record written.
+//! What all kinds of frame have in common: the bytes around the fields, how a field is read, and
+//! the order in which a frame is read and a record is written.
 
 use crate::digits;
 use crate::refusal::Refusal;
@@ -11,19 +11,19 @@ pub const CR: u8 = 0x0d;
 const ADDRESS: &[u8] = b"R ";
 const ADDRESS_OFFSET: usize = 1;
 
-/// One kind of frame, by the record that holds what it says.
+/// One kind of frame, implemented by the record that holds its contents.
 pub trait Kind: Sized {
     const LEAD: u8;
     const LENGTH: usize;
 
-    /// The fields of a frame that has nothing wrong around them. They are read in rising offset
-    /// order, so the refusal names the first wrong one.
+    /// Reads the fields of a frame that has nothing wrong around them. They are read by rising
+    /// offset, so the refusal names the first wrong one.
     fn read_fields(frame: &[u8]) -> Result<Self, Refusal>;
 
     /// The offset of the first field that keeps the record from being well formed.
     fn first_wrong_field(&self) -> Option<usize>;
 
-    /// What stands between the address and the CR of a well formed record's frame.
+    /// The bytes between the address and the CR in the frame of a well formed record.
     fn fields(&self) -> Vec<u8>;
 
     fn read(frame: &[u8]) -> Result<Self, Refusal> {
@@ -32,7 +32,7 @@ pub trait Kind: Sized {
     }
 
     /// Writes the frame to the first bytes of `output` and changes no other byte. RECORD is tried
-    /// before ROOM, and a refusal leaves the output as it was.
+    /// before ROOM. If the write is refused, the output stays as it was.
     fn write(&self, output: &mut [u8]) -> Result<(), Refusal> {
         if let Some(offset) = self.first_wrong_field() {
             return Err(Refusal::Record(offset));
@@ -44,7 +44,7 @@ pub trait Kind: Sized {
     }
 }
 
-/// Refusals 1 to 4, tried in that order, so a frame with several faults gets the lowest number.
+/// Refusals 1 to 4, tried in that order. A frame with several faults gets the lowest number.
 fn check_surround(frame: &[u8], lead: u8, length: usize) -> Result<(), Refusal> {
     if frame.first() != Some(&lead) {
         return Err(Refusal::Kind);
@@ -61,7 +61,7 @@ fn check_surround(frame: &[u8], lead: u8, length: usize) -> Result<(), Refusal> 
     Ok(())
 }
 
-/// The letter at `offset`, if it is a good one.
+/// The letter at `offset`, if it is good.
 pub fn letter(frame: &[u8], offset: usize, good: fn(u8) -> bool) -> Result<u8, Refusal> {
     match frame.get(offset) {
         Some(&code) if good(code) => Ok(code),
@@ -69,8 +69,8 @@ pub fn letter(frame: &[u8], offset: usize, good: fn(u8) -> bool) -> Result<u8, R
     }
 }
 
-/// The number at `offset`, if all its digits are digits and its value is a good one. Whichever of
-/// its bytes is wrong, the field is named by the offset where it begins.
+/// The number at `offset`, if all its bytes are digits and its value is good. Whichever byte is
+/// wrong, the refusal has the offset at which the field begins.
 pub fn number(
     frame: &[u8],
     offset: usize,
@@ -87,7 +87,7 @@ pub fn time(frame: &[u8], offset: usize) -> Result<i128, Refusal> {
     times::read_clock(frame, offset).ok_or(Refusal::Field(offset))
 }
 
-/// The `WIDTH` raw bytes at `offset`, which are one field.
+/// The `WIDTH` raw bytes at `offset`. They are one field.
 pub fn raw<const WIDTH: usize>(frame: &[u8], offset: usize) -> Result<[u8; WIDTH], Refusal> {
     frame
         .get(offset..offset + WIDTH)
@@ -96,13 +96,13 @@ pub fn raw<const WIDTH: usize>(frame: &[u8], offset: usize) -> Result<[u8; WIDTH
         .ok_or(Refusal::Field(offset))
 }
 
-/// The offset of the first field that is not good. The fields come by rising offset.
+/// The offset of the first field that is not good. The fields are given by rising offset.
 pub fn first_wrong(fields: &[(usize, bool)]) -> Option<usize> {
     let wrong = fields.iter().find(|&&(_, good)| !good);
     wrong.map(|&(offset, _)| offset)
 }
 
-/// Three ranges, not one: between `9` and `A`, and between `Z` and `a`, stand bytes that are no
+/// Three ranges, not one: the bytes between `9` and `A`, and between `Z` and `a`, are not
 /// requesters.
 pub fn is_requester(code: u8) -> bool {
     matches!(code, b'0'..=b'9' | b'A'..=b'Z' | b'a'..=b'z')
@@ -112,7 +112,7 @@ pub fn is_output(code: u8) -> bool {
     matches!(code, b'S' | b'A' | b'B' | b'T')
 }
 
-/// The blank and all that prints, and so neither CR nor any lead byte.
+/// The blank and all printing characters. Neither CR nor a lead byte is among them.
 pub fn is_raw(code: u8) -> bool {
     matches!(code, 0x20..=0x7e)
 }

@@ -17,7 +17,7 @@ use std::ops::Range;
 /// The longest capture that has a list.
 pub const MOST_BYTES: usize = 32_768;
 
-/// What is printed of a capture that is longer.
+/// What is printed for a longer capture.
 const TOO_LONG: &[u8] = b"input too long\n";
 
 const HEADING: &[u8] =
@@ -29,8 +29,8 @@ const END: &[u8] = b"end";
 /// How many digits a request's number has.
 const DIGITS_OF_NUMBER: usize = 3;
 
-/// What a row shows of a reply's bytes after its number, in the order of the heading. Each field
-/// ends where the next one of the frame begins.
+/// Which bytes of a reply a row shows after its number, in the order of the heading. Each field
+/// ends where the next field of the frame begins.
 const COLUMNS: [Range<usize>; 9] = [
     at::BIB..at::GROUP,
     at::GROUP..at::RUN,
@@ -43,7 +43,7 @@ const COLUMNS: [Range<usize>; 9] = [
     at::STATUS..at::REQUESTER,
 ];
 
-/// All that is printed of a capture.
+/// All that is printed for a capture.
 pub fn list(capture: &[u8]) -> Vec<u8> {
     if capture.len() > MOST_BYTES {
         return TOO_LONG.to_vec();
@@ -52,7 +52,7 @@ pub fn list(capture: &[u8]) -> Vec<u8> {
     [HEADING.to_vec(), rows(&played.desk), played.end_line()].concat()
 }
 
-/// What came of a frame. Each is a count of its own in the last line.
+/// What became of a frame. The last line has one count for each of these.
 #[derive(Clone, Copy, Debug, PartialEq, Eq)]
 pub enum Fate {
     Opened,
@@ -61,7 +61,7 @@ pub enum Fate {
     Refused,
 }
 
-/// A capture after its last frame: the desk, and what came of each frame, in order.
+/// A capture after its last frame: the desk, and what became of each frame, in order.
 struct Played {
     desk: Desk,
     fates: Vec<Fate>,
@@ -89,12 +89,12 @@ impl Played {
     }
 }
 
-/// The program's desk before the first frame: nothing opened, and all that is lent is zero.
+/// The program's desk before the first frame. Nothing is opened, and all that is lent is zero.
 pub fn empty_desk() -> Desk {
     Desk::with(vec![0; MOST_CELLS * CELL], vec![0; MOST_CELLS])
 }
 
-/// A cut frame goes nowhere. A whole one goes to the call for its kind.
+/// A cut frame is refused. A whole frame is given to the call for its kind.
 fn fate(desk: &mut Desk, capture: &[u8], found: Found) -> Fate {
     match found.ending {
         Ending::Cut => Fate::Refused,
@@ -102,7 +102,7 @@ fn fate(desk: &mut Desk, capture: &[u8], found: Found) -> Fate {
     }
 }
 
-/// Hands a whole frame to the call that its lead byte asks for.
+/// Gives a whole frame to the call for its lead byte.
 pub fn serve(desk: &mut Desk, frame: &[u8]) -> Result<Fate, Refusal> {
     match frame.first().copied() {
         Some(Request::LEAD) => desk.open(frame).map(|_| Fate::Opened),
@@ -112,7 +112,7 @@ pub fn serve(desk: &mut Desk, frame: &[u8]) -> Result<Fate, Refusal> {
     }
 }
 
-/// The rows of all seats, those of the lowest seat first. A seat without records has none.
+/// The rows of all seats, from the lowest seat up. A seat without records has no rows.
 fn rows(desk: &Desk) -> Vec<u8> {
     let mut rows = Vec::new();
     for seat in 0..SEATS {
@@ -123,7 +123,7 @@ fn rows(desk: &Desk) -> Vec<u8> {
     rows
 }
 
-/// The cells of a seat, in the order their replies came in.
+/// The cells of a seat, in the order in which their replies came.
 fn records_at(desk: &Desk, seat: usize) -> impl Iterator<Item = &[u8]> {
     let mark = u32::try_from(seat).expect("a seat is below sixteen");
     let next = move |place| desk.next_held(mark, place);
@@ -131,8 +131,7 @@ fn records_at(desk: &Desk, seat: usize) -> impl Iterator<Item = &[u8]> {
     cells.map(|cell| &desk.cells[cell * CELL..][..CELL])
 }
 
-/// The number has the digits that the request was opened with; everything behind it is cut out of
-/// the reply.
+/// The number has three digits, as in the request. All fields after it are copied from the reply.
 fn row(desk: &Desk, seat: usize, reply: &[u8]) -> Vec<u8> {
     let number = desk.seats[seat].number.into();
     let mut fields = vec![

@@ -1,7 +1,8 @@
-//! The independent second reader of REI2 frames.
+//! An independent implementation of the rules in Rust. It reads REI2 frames, makes cases, answers
+//! them, and compares its answers with those of the proved programs.
 //!
-//! Every rule here is written from the words of document 01, every spelling from `docs/CASES.md`.
-//! It shares no code with the product it is compared with.
+//! Every rule here is written from document 01, and every spelling from `docs/CASES.md`. No code is
+//! shared with the product that it is compared with.
 
 #![forbid(unsafe_code)]
 
@@ -33,7 +34,8 @@ const USAGE: &str = "usage: second cases SEED | second scripts SEED | second ans
                      second captures SEED DIR | second list < CAPTURE | second lists FILE.. | \
                      second bulk RUN ROOM [OPTION..]";
 
-/// The exit status of every complaint: wrong usage, a line that is no case, input or output that fails.
+/// The exit status of every complaint: wrong usage, a line that is not a case, or input or output
+/// that fails.
 const COMPLAINT: u8 = 2;
 
 fn main() -> ExitCode {
@@ -57,7 +59,7 @@ fn main() -> ExitCode {
     }
 }
 
-/// Does what the words ask for and gives what is to be printed.
+/// Does what the words ask for and returns what is to be printed.
 fn run(words: &[&str]) -> Result<Vec<u8>, String> {
     match words {
         ["cases", seed] => make_cases(seed),
@@ -82,8 +84,8 @@ fn answer_standard_input() -> Result<Vec<u8>, String> {
     Ok(answers::file(&standard_input()?)?.into_bytes())
 }
 
-/// Writes each capture to a file of its own and gives the names of the files, one a line. The
-/// directory is there before, and what else is in it stays.
+/// Writes each capture to a separate file and returns the names of the files, one per line. The
+/// directory must exist. Other files in it stay.
 fn make_captures(seed: &str, directory: &Path) -> Result<Vec<u8>, String> {
     let mut names = String::new();
     for (index, capture) in cases::captures::all(parse_seed(seed)?).iter().enumerate() {
@@ -100,8 +102,8 @@ fn list_standard_input() -> Result<Vec<u8>, String> {
     Ok(listing::list(&standard_input()?))
 }
 
-/// The lists of all these files, or a complaint about the first that cannot be read. In that case
-/// nothing is printed.
+/// The lists of all these files. If a file cannot be read, the result is a complaint about the
+/// first such file, and nothing is printed.
 fn list_files(files: &[&str]) -> Result<Vec<u8>, String> {
     let mut lists = Vec::new();
     for file in files {

@@ -1,4 +1,4 @@
-//! A small seeded generator (xorshift64*), so that one seed gives the same cases for ever.
+//! A small seeded generator (xorshift64*). The same seed always makes the same cases.
 
 const FNV_BASIS: u64 = 0xcbf2_9ce4_8422_2325;
 const FNV_PRIME: u64 = 0x0000_0100_0000_01b3;
@@ -9,8 +9,8 @@ pub struct Random {
 }
 
 impl Random {
-    /// Every subject draws from a stream of its own, so cases added for one leave those of the
-    /// others as they were.
+    /// Every subject has its own stream. If cases are added for one subject, those of the others
+    /// stay as they were.
     pub fn new(seed: u64, subject: &str) -> Self {
         let hash = seed
             .to_le_bytes()
@@ -19,7 +19,7 @@ impl Random {
             .fold(FNV_BASIS, |hash, byte| {
                 (hash ^ u64::from(byte)).wrapping_mul(FNV_PRIME)
             });
-        // Zero is the one state that xorshift never leaves.
+        // Zero is the only state that xorshift never leaves.
         Random { state: hash.max(1) }
     }
 
@@ -30,17 +30,17 @@ impl Random {
         self.state.wrapping_mul(STAR)
     }
 
-    /// A number from 0 up to, not including, `limit`.
+    /// A number from 0 up to, but not including, `limit`.
     pub fn below(&mut self, limit: u64) -> u64 {
         ((u128::from(self.draw()) * u128::from(limit)) >> 64) as u64
     }
 
-    /// True once in `times` draws.
+    /// True once in `times` draws, on average.
     pub fn once_in(&mut self, times: u64) -> bool {
         self.below(times) == 0
     }
 
-    /// A place in something of this length, which is not empty.
+    /// A place in something of this length, which must not be empty.
     pub fn place(&mut self, length: usize) -> usize {
         self.below(length as u64) as usize
     }

@@ -12,7 +12,7 @@ pub trait Spelled: Sized {
     /// Takes the record's parts in the order they are spelled.
     fn take(words: &mut Words) -> Result<Self, NotACase>;
 
-    /// The record that all of these words together spell.
+    /// The record that these words spell. All of them must be used.
     fn parse(words: &[&str]) -> Result<Self, NotACase> {
         let mut words = Words(words);
         let record = Self::take(&mut words)?;
@@ -23,7 +23,7 @@ pub trait Spelled: Sized {
     }
 }
 
-/// The words of a record that are not yet taken.
+/// The words of a record that have not been taken yet.
 pub struct Words<'a>(&'a [&'a str]);
 
 impl<'a> Words<'a> {
@@ -64,7 +64,7 @@ impl<'a> Words<'a> {
     }
 }
 
-/// BYTES of which there must be as many as the array holds.
+/// BYTES, exactly as many as the array holds.
 pub fn parse_array<const LENGTH: usize>(word: &str) -> Result<[u8; LENGTH], NotACase> {
     parse_bytes(word)?
         .try_into()

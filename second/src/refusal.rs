@@ -1,8 +1,8 @@
 //! The refusals of document 01 and their numbers.
 
-/// Why a frame was not read, a record not written or a call of the desk not done. `Field` and
-/// `Record` carry the offset of the first wrong field. TIME has no place here: it is the only
-/// refusal of the one call that gives it.
+/// Why a frame was not read, a record not written, or a call of the desk not done. `Field` and
+/// `Record` carry the offset of the first wrong field. TIME is not among them: only the running
+/// time returns it, and it has no other refusal.
 #[derive(Clone, Copy, Debug, PartialEq, Eq)]
 pub enum Refusal {
     Kind,
@@ -43,7 +43,7 @@ impl Refusal {
         }
     }
 
-    /// The offset that goes with the number; only 5 and 6 have one, the others give zero.
+    /// The offset that belongs to the number. Only 5 and 6 have one, the others return zero.
     pub fn offset(self) -> usize {
         match self {
             Refusal::Field(offset) | Refusal::Record(offset) => offset,

@@ -1,4 +1,5 @@
-//! The static reply: 51 bytes, lead byte DC2, the code section 4.1.3 of source document 000 prints.
+//! The static reply: 51 bytes. Its lead byte is DC2, as printed in section 4.1.3 of source document
+//! 000.
 
 use crate::digits;
 use crate::frame::{self, all_raw, is_raw, is_requester, Kind};
@@ -24,7 +25,7 @@ pub mod at {
     pub const CR: usize = 50;
 }
 
-/// How many digits each number has, the numbers within a date too.
+/// How many digits each number has, including the numbers in a date.
 mod width {
     pub const NUMBER: usize = 5;
     pub const BIB: usize = 5;
@@ -41,7 +42,7 @@ mod width {
 /// The 33 information letters: a request's 41 without `L t * l b c d q`.
 pub const INFORMATION: &[u8; 33] = b"0123456789AQPaSsTKRGHhIiJjpkugWwX";
 
-/// The letters whose time and date are a clock's, and those of a net time. The other 25 are raw.
+/// The letters with a clock time and date, and those with a net time. The other 25 are raw.
 pub const CLOCK_LETTERS: &[u8; 5] = b"0KSsa";
 pub const NET_LETTERS: &[u8; 3] = b"123";
 
@@ -53,7 +54,8 @@ pub const NOT_AVAILABLE: u8 = b'Z';
 /// A whole reply held as a value.
 pub type Value = [u8; Reply::LENGTH];
 
-/// What time and date say. Raw ones say nothing here; their bytes stand beside, in the record.
+/// What time and date mean. If they are raw, nothing is stored here: their bytes are in other parts
+/// of the record.
 #[derive(Clone, Copy, Debug, PartialEq, Eq)]
 pub enum Timing {
     Clock {
@@ -89,8 +91,8 @@ impl TimingKind {
     }
 }
 
-/// A static reply. Wide numbers let a record that is not well formed be held too. The raw parts
-/// hold zero bytes where the timing is not raw.
+/// A static reply. The numbers are wide, so that a record that is not well formed can be held too.
+/// The raw parts are zero bytes if the timing is not raw.
 #[derive(Clone, Debug, PartialEq, Eq)]
 pub struct Reply {
     pub program: u8,
@@ -184,24 +186,24 @@ impl Kind for Reply {
 }
 
 impl Reply {
-    /// A value has a reply's length, so it is read as any frame and never meets LENGTH.
+    /// Reads a value as any frame is read. It has a reply's length, so LENGTH cannot occur.
     pub fn read_value(value: Value) -> Result<Self, Refusal> {
         Self::read(&value)
     }
 
-    /// The value, all zero bytes where the record is refused. It has a reply's room, so it never
-    /// meets ROOM.
+    /// The frame as a value. If the record is refused, all its bytes are zero. The value has enough
+    /// room, so ROOM cannot occur.
     pub fn write_value(&self) -> (Result<(), Refusal>, Value) {
         let mut value = [0; Reply::LENGTH];
         let outcome = self.write(&mut value);
         (outcome, value)
     }
 
-    /// False too if the timing is of another kind than status and letter ask for.
+    /// Also false if the timing is of another kind than status and letter require.
     fn time_is_good(&self) -> bool {
         match (self.timing_kind(), self.timing) {
             (TimingKind::Clock, Timing::Clock { ticks, .. }) => times::is_time(ticks),
-            // A net value has one time for all its days; whether it has any, the date tells.
+            // The time within a day is always good. The date says whether the days fit.
             (TimingKind::Net, Timing::Net(_)) => true,
             (TimingKind::Raw, Timing::Raw) => all_raw(&self.raw_time),
             _ => false,
@@ -226,7 +228,7 @@ impl Reply {
         TimingKind::asked_for(self.status, self.information)
     }
 
-    /// Time and date of a well formed record.
+    /// The time and date bytes of a well formed record.
     fn timing_text(&self) -> Vec<u8> {
         const WELL_FORMED: &str = "the record is well formed";
         match self.timing {
@@ -257,8 +259,8 @@ impl Reply {
     }
 }
 
-/// The timing and the two raw parts beside it. The time is read before the date, so a wrong time is
-/// what the refusal names.
+/// The timing and the two raw parts. The time is read before the date, so if both are wrong, the
+/// refusal names the time.
 fn read_timing(frame: &[u8], kind: TimingKind) -> Result<(Timing, [u8; 10], [u8; 8]), Refusal> {
     match kind {
         TimingKind::Clock => {
@@ -295,7 +297,8 @@ fn read_date(frame: &[u8]) -> Option<(u64, u64, u64)> {
     times::is_real_day(day, month, year).then_some((day, month, year))
 }
 
-/// A sign, always there, and seven digits of days; with the time they are one value.
+/// A sign, which is always there, and seven digits of days. Together with the time they are one
+/// value.
 fn read_net(frame: &[u8], time: i128) -> Option<i128> {
     let minus = match frame.get(at::DATE)? {
         b'+' => false,
@@ -322,7 +325,7 @@ fn is_group(value: u64) -> bool {
     value <= 199
 }
 
-/// There is no run 000, but for a reply that is not available.
+/// Run 000 exists only in a reply that is not available.
 fn is_run(value: u64, status: u8) -> bool {
     matches!(value, 1..=250) || (value == 0 && status == NOT_AVAILABLE)
 }
@@ -331,7 +334,7 @@ fn is_physical(value: u64) -> bool {
     value <= 999
 }
 
-/// A reply's channels: 245 and 250 are no request's, 251 is a request's and not one of these.
+/// A reply's channels. Unlike a request's they include 245 and 250, but not 251.
 fn is_channel(value: u64) -> bool {
     matches!(value, 0..=240 | 245 | 248 | 249 | 250 | 255)
 }
@@ -349,7 +352,7 @@ mod tests {
     const FIRST: &Value = b"\x12R SOR10000700015000002000000P000000000000000000  \r";
     const SECOND: &Value = b"\x12R SOEA000120004100000101525510001125400+0000000  \r";
 
-    /// A reply of clock time, at upper limits.
+    /// A clock reply at the upper limits.
     const CLOCK: &Value = b"\x12R GmRz9999959999199250999255K235959999929022024~ \r";
 
     fn with(reply: &Value, offset: usize, text: &[u8]) -> Vec<u8> {

@@ -31,8 +31,8 @@ pub const INFORMATION: &[u8; 41] = b"0123456789AQPaSsTKLtR*GHhIiJjpkugWwXlbcdq";
 /// The information letter of a request that no answer is due to.
 pub const NO_ANSWER_DUE: u8 = b'q';
 
-/// A static request. The numbers are held wider than any field, so a record that is not well
-/// formed can be held too and is found out by its value.
+/// A static request. The numbers are wider than their fields, so that a record that is not well
+/// formed can be held too. Its wrong values are found when it is written.
 #[derive(Clone, Debug, PartialEq, Eq)]
 pub struct Request {
     pub requester: u8,
@@ -100,7 +100,7 @@ pub fn is_number(value: u64) -> bool {
     value <= 999
 }
 
-/// A static request's bib ends at 59999; 60000 is for the dynamic request alone.
+/// A static request's bib is at most 59999. Only the dynamic request has 60000.
 fn is_bib(value: u64) -> bool {
     value <= 59_999
 }
@@ -109,7 +109,7 @@ fn is_information(code: u8) -> bool {
     INFORMATION.contains(&code)
 }
 
-/// A request's channels; 250 is one of a reply's and not one of these.
+/// A request's channels. 250 is not among them, although a reply can have it.
 fn is_channel(value: u64) -> bool {
     matches!(value, 0..=240 | 248 | 249 | 251 | 255)
 }

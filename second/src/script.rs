@@ -1,5 +1,5 @@
-//! What the lines of a script do to a desk from outside: they lend it memory, and set any part of
-//! it to anything.
+//! What the lines of a script do to a desk from outside: they lend it memory, and they set any part
+//! of it to any value.
 
 use crate::desk::{Desk, Seat, SEATS};
 use crate::spelling::{bytes_text, parse_bits, parse_bytes, parse_number, parse_place, NotACase};
@@ -12,12 +12,12 @@ const LENT_MARK: u32 = 0xeeee_eeee;
 pub const MOST_LENT_BYTES: usize = 15_400;
 pub const MOST_LENT_MARKS: usize = 310;
 
-/// An empty desk with so many bytes and marks lent to it.
+/// An empty desk with this many bytes and marks lent to it.
 pub fn lend(bytes: usize, marks: usize) -> Desk {
     Desk::with(vec![LENT_BYTE; bytes], vec![LENT_MARK; marks])
 }
 
-/// One part of a desk set to something.
+/// A change of one part of a desk.
 #[derive(Clone, Debug, PartialEq, Eq)]
 pub enum Change {
     Bits(u64),
@@ -26,12 +26,12 @@ pub enum Change {
     Seat(usize, Seat),
     /// The mark at this place.
     Mark(usize, u32),
-    /// The bytes from this place on, counted in bytes and not in cells.
+    /// The bytes from this place on. The place counts bytes, not cells.
     Cell(usize, Vec<u8>),
 }
 
 impl Change {
-    /// The change that a line of these words makes, if it is such a line.
+    /// The change that a line of these words makes, or nothing if it is not such a line.
     pub fn parse(words: &[&str]) -> Option<Result<Change, NotACase>> {
         Some(match words {
             ["bits", bits] => parse_bits(bits).map(Change::Bits),
@@ -54,7 +54,7 @@ impl Change {
         }
     }
 
-    /// Makes the change, if the part is there to be set.
+    /// Makes the change. It is an error if the part is not there.
     pub fn make(&self, desk: &mut Desk) -> Result<(), NotACase> {
         match self {
             Change::Bits(bits) => desk.bits = *bits,

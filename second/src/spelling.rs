@@ -3,13 +3,13 @@
 /// The most bytes a BYTES argument has.
 pub const MOST_BYTES: usize = 100;
 
-/// The most bytes of a capture, which is what the finder's cases ask about.
+/// The most bytes in a case of the finder.
 pub const MOST_BYTES_OF_CAPTURE: usize = 400;
 
-/// How no bytes at all are spelled.
+/// How an empty BYTES is spelled.
 const NO_BYTES: &str = "-";
 
-/// The arguments called TICKS, VALUE and BITS are below this in size.
+/// The arguments called TICKS, VALUE and BITS are below this in absolute value.
 const WIDE_LIMIT: u128 = 1 << 63;
 
 /// Every other number is below this.
@@ -31,7 +31,7 @@ pub fn parse_bytes(word: &str) -> Result<Vec<u8>, NotACase> {
     parse_bytes_up_to(MOST_BYTES, word)
 }
 
-/// BYTES of a case of the finder.
+/// BYTES in a case of the finder.
 pub fn parse_capture(word: &str) -> Result<Vec<u8>, NotACase> {
     parse_bytes_up_to(MOST_BYTES_OF_CAPTURE, word)
 }
@@ -80,12 +80,12 @@ pub fn parse_bits(word: &str) -> Result<u64, NotACase> {
     u64::try_from(value).map_err(|_| NotACase("a number is too large"))
 }
 
-/// PLACE: a plain argument that counts bytes, cells or marks.
+/// PLACE: a plain argument that is a place among bytes, cells or marks.
 pub fn parse_place(word: &str) -> Result<usize, NotACase> {
     usize::try_from(parse_number(word)?).map_err(|_| NotACase("a place is too large"))
 }
 
-/// VALUE: as TICKS, with a minus in front or without.
+/// VALUE: like TICKS, with or without a minus in front.
 pub fn parse_value(word: &str) -> Result<i128, NotACase> {
     match word.strip_prefix('-') {
         Some(size) => Ok(-parse_ticks(size)?),

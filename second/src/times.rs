@@ -1,5 +1,5 @@
-//! Clock times, real days, net values and running time. All times are in ticks, ten-thousandths of
-//! a second, and all sums are done in `i128` so that none can wrap.
+//! Clock times, real days, net values and running time. All times are in ticks, which are
+//! ten-thousandths of a second. All sums are done in `i128`, so none can wrap.
 
 use crate::digits;
 
@@ -33,7 +33,7 @@ pub fn read_clock(text: &[u8], place: usize) -> Option<i128> {
     Some(hours * TICKS_OF_HOUR + minutes * TICKS_OF_MINUTE + seconds * TICKS_OF_SECOND + ticks)
 }
 
-/// A time of day as HHMMSSdddd, or nothing if `ticks` is no time of day.
+/// A time of day as HHMMSSdddd, or nothing if `ticks` is not a time of day.
 pub fn clock_text(ticks: i128) -> Option<Vec<u8>> {
     if !is_time(ticks) {
         return None;
@@ -61,13 +61,12 @@ fn days_of_month(month: u64, year: u64) -> Option<u64> {
     }
 }
 
-/// The full Gregorian rule. Within 2000 to 2099 every fourth year would do, but "a real day" is the
-/// calendar's word.
+/// The full Gregorian rule. From 2000 to 2099 the simple rule of every fourth year would be enough.
 fn is_leap_year(year: u64) -> bool {
     year.is_multiple_of(4) && (!year.is_multiple_of(100) || year.is_multiple_of(400))
 }
 
-/// What a net reply shows: days with a sign of their own, and a time that is always forward.
+/// What a net reply shows: signed days, and a time that is never negative.
 #[derive(Clone, Copy, Debug, PartialEq, Eq)]
 pub struct Net {
     pub minus: bool,
@@ -75,8 +74,8 @@ pub struct Net {
     pub time: i128,
 }
 
-/// Signed days x 864,000,000 + time. The minus covers the days alone; minus with no days is turned
-/// away, as are days and times that the digits of a reply cannot show.
+/// Signed days x 864,000,000 + time. The minus applies only to the days. Minus with no days is
+/// refused, and so are days and times that the digits of a reply cannot show.
 pub fn net_value(net: Net) -> Option<i128> {
     let showable = (0..=MOST_NET_DAYS).contains(&net.days) && is_time(net.time);
     let minus_zero = net.minus && net.days == 0;
@@ -87,8 +86,8 @@ pub fn net_value(net: Net) -> Option<i128> {
     Some(days * TICKS_OF_DAY + net.time)
 }
 
-/// The one net reply that has this value, if there is one: the time is forward, so the days are the
-/// value divided and rounded down.
+/// The only net reply that has this value, if there is one. Its time is never negative, so the days
+/// are the value divided and rounded down.
 pub fn net_parts(value: i128) -> Option<Net> {
     let days = value.div_euclid(TICKS_OF_DAY);
     let net = Net {
@@ -99,7 +98,7 @@ pub fn net_parts(value: i128) -> Option<Net> {
     (net.days <= MOST_NET_DAYS).then_some(net)
 }
 
-/// What the running time is worked out from, as numbers, any of which may be out of range.
+/// The numbers that the running time is worked out from. Any of them may be out of range.
 #[derive(Clone, Copy, Debug)]
 pub struct Running {
     pub bib: i128,
@@ -110,8 +109,8 @@ pub struct Running {
     pub time: i128,
 }
 
-/// Tnow - Tev - Taux, or nothing (refusal TIME) where one of them is out of range. The bib matters
-/// only by being 0, and then any Tev but 0 is out of range; Taux counts with bib 0 too.
+/// Tnow - Tev - Taux, or nothing (refusal TIME) if one of them is out of range. The bib matters
+/// only if it is 0: then any Tev except 0 is out of range. Taux counts with bib 0 too.
 pub fn running_time(running: Running) -> Option<i128> {
     let Running {
         bib, now, event, ..
@@ -123,7 +122,7 @@ pub fn running_time(running: Running) -> Option<i128> {
     Some(now - event - auxiliary_time(running)?)
 }
 
-/// Taux. Its sign stands before days and time together, unlike the sign of a net reply.
+/// Taux. Its sign applies to days and time together, unlike the sign of a net reply.
 fn auxiliary_time(running: Running) -> Option<i128> {
     let Running {
         sign, days, time, ..

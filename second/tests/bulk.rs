@@ -1,5 +1,5 @@
-//! The comparison in bulk against answerers that are right and wrong. They stand in for the proved
-//! programs and answer with the second reader itself, most of them with a line altered.
+//! The comparison in bulk against answerers, some right and some wrong. They take the place of the
+//! proved programs and answer with `second` itself, most of them with a line changed.
 
 use std::collections::BTreeSet;
 use std::env;
@@ -9,10 +9,10 @@ use std::process::{self, Command, Output};
 
 const SECOND: &str = env!("CARGO_BIN_EXE_second");
 
-/// What the driver starts in place of the proved programs.
+/// What is started in place of the proved programs.
 const ANSWERER: &str = concat!(env!("CARGO_MANIFEST_DIR"), "/tests/answerer");
 
-/// A directory of its own, removed in the end.
+/// A directory for one test. It is removed at the end.
 struct Room(PathBuf);
 
 impl Room {
@@ -54,7 +54,7 @@ impl Room {
 
 impl Drop for Room {
     fn drop(&mut self) {
-        // What is left of it does no harm.
+        // If something is left of the directory, it does no harm.
         let _ = fs::remove_dir_all(&self.0);
     }
 }
@@ -87,7 +87,7 @@ const RIGHT: Programs = Programs {
     lists: "exec $SECOND lists \"$@\"",
 };
 
-/// Programs that are not to be asked at all.
+/// Programs that must not be asked. They fail if they are.
 const NONE: Programs = Programs {
     cases: "exit 1",
     scripts: "exit 1",
@@ -184,7 +184,7 @@ fn each_program_is_asked_its_own() {
     assert_eq!(room.lines("lists"), ["0", "1", "2", "3", "4"]);
 }
 
-/// Two of the programs are right, and one is wrong about the first thing it is asked.
+/// Two of the programs are right. The third is wrong about the first thing it is asked.
 #[test]
 fn one_wrong_program_of_three() {
     const WRONG: &str = "$SECOND answers | sed '1s/.*/wrong/'";
@@ -208,7 +208,7 @@ fn one_wrong_program_of_three() {
     }
 }
 
-/// The fifth answer is another one.
+/// The fifth answer is changed.
 #[test]
 fn one_wrong_answer_about_a_frame() {
     let room = Room::new("frame");
@@ -225,7 +225,7 @@ fn one_wrong_answer_about_a_frame() {
     assert!(printed(&output).ends_with("\ndifferences: 1\n"));
 }
 
-/// The third line of the second script is answered otherwise, and so is the line after it.
+/// The third line of the second script is answered wrongly, and so is the line after it.
 #[test]
 fn one_wrong_script() {
     let room = Room::new("script");
@@ -248,7 +248,7 @@ fn one_wrong_script() {
     assert!(printed(&output).ends_with("\ndifferences: 1\n"));
 }
 
-/// The last line of the third list counts otherwise.
+/// The last line of the third list has wrong counts.
 #[test]
 fn one_wrong_list() {
     let room = Room::new("list");
@@ -273,7 +273,7 @@ fn one_wrong_list() {
     );
 }
 
-/// Two answers and no more, and a status that tells of it.
+/// Two answers and no more, and an exit status that reports the failure.
 const EARLY: &str = "cat >$ROOM/read; $SECOND answers <$ROOM/read >$ROOM/right; \
                      head -n 2 $ROOM/right; exit 7";
 const EARLY_END: &str = "program ended with exit status: 7\n";
@@ -321,7 +321,8 @@ fn a_program_that_says_too_much() {
     }
 }
 
-/// A program that would never end. The file that it makes ends it, and what was done is told.
+/// A program that would run for ten minutes. It makes the file that stops the run, and what was
+/// done until then is reported.
 const STOPPED: &str = "touch $ROOM/stop; exec sleep 600";
 
 #[test]

@@ -3,7 +3,7 @@
 use crate::finder::{self, Ending, Found};
 use crate::spelling::{parse_capture, parse_place, NotACase};
 
-/// What ends the list of frames, and the answer where there is none.
+/// What ends the list of frames, and the answer when no frame is found.
 const NOTHING: &str = "nothing";
 
 pub fn find(capture: &str) -> Result<String, NotACase> {

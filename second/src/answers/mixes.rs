@@ -1,5 +1,5 @@
-//! Plays every mix of two answers, with a stray and a damaged frame before each reply, and boils
-//! down what the desk did to one number.
+//! Plays every mix of two answers, with a stray and a damaged frame before each reply. What the
+//! desk did is reduced to one number, the digest.
 
 use crate::desk::{Desk, Seat};
 use crate::refusal::Refusal;
@@ -25,7 +25,7 @@ const STRAY_REQUESTER: u8 = b'a';
 struct Side {
     request: &'static [u8],
     requester: u8,
-    /// The bib of its first reply. Those that follow fall by one.
+    /// The bib of its first reply. Each further reply has a bib that is lower by one.
     bib: usize,
 }
 
@@ -41,7 +41,7 @@ const B: Side = Side {
 };
 
 impl Side {
-    /// The reply of this number, counted from 0, with the word's letter as its status.
+    /// Reply `number` of this side, counted from 0, with the word's letter as its status.
     fn reply(&self, number: usize, letter: u8) -> Vec<u8> {
         let mut frame = b"\x12R SO".to_vec();
         frame.extend([letter, self.requester]);
@@ -72,7 +72,8 @@ pub fn parse_word(word: &str) -> Result<Vec<u8>, NotACase> {
     }
 }
 
-/// The desk each mix begins with, and the one that is there when all have been played.
+/// The desk that each mix begins with. It is also the desk that is left when all mixes have been
+/// played.
 pub fn lend() -> Desk {
     script::lend(LENT_BYTES, LENT_MARKS)
 }
@@ -88,7 +89,8 @@ pub fn play(first: &[u8], second: &[u8]) -> (usize, u64) {
     (played, digest.0)
 }
 
-/// Every way to deal the replies of both words into one row that keeps the order of each.
+/// Every order in which the replies of both words can come, such that the order within each word is
+/// kept.
 fn mixes(first: &[u8], second: &[u8]) -> impl Iterator<Item = Vec<Vec<u8>>> {
     let (first, second) = (A.replies(first), B.replies(second));
     let second_letters = second.len();
@@ -98,7 +100,8 @@ fn mixes(first: &[u8], second: &[u8]) -> impl Iterator<Item = Vec<Vec<u8>>> {
         .map(move |number| deal(&first, &second, number))
 }
 
-/// The mix of this number: place i is the second word's where bit i is set.
+/// The mix with this number. Reply i is the second word's if bit i is set, otherwise the first
+/// word's.
 fn deal(first: &[Vec<u8>], second: &[Vec<u8>], number: u32) -> Vec<Vec<u8>> {
     let (mut first, mut second) = (first.iter(), second.iter());
     let mut replies = Vec::new();
@@ -141,7 +144,7 @@ fn with_byte(frame: &[u8], place: usize, code: u8) -> Vec<u8> {
     frame
 }
 
-/// One number that stands for all numbers it has taken in, in their order.
+/// One number that depends on all numbers it has taken in and on their order.
 #[derive(Debug, PartialEq, Eq)]
 struct Digest(u64);
 
@@ -295,10 +298,10 @@ mod tests {
         assert_eq!(play(b"", b"E"), (1, digest_of(&numbers)));
     }
 
-    /// What a seat says to each of its replies, and the records it has in the end.
+    /// The outcome of each of a seat's replies, and the records that the seat holds at the end.
     type Service = (Vec<Result<usize, Refusal>>, Vec<Vec<u8>>);
 
-    /// Both requests opened and then these frames: how each side was served.
+    /// Opens both requests and then takes these frames. Returns how each side was served.
     fn served(frames: &[Vec<u8>]) -> [Service; 2] {
         let mut desk = lend();
         for side in [A, B] {
@@ -319,7 +322,7 @@ mod tests {
         })
     }
 
-    /// Whatever comes between, a request is served as if its own replies were all there is.
+    /// Whatever frames come in between, a request is served as if only its own replies had come.
     #[test]
     fn a_mix_serves_each_request_as_its_replies_alone() {
         let words: [&[u8]; 8] = [b"", b"RE", b"RRR", b"RRE", b"Z", b"RZE", b"ZR", b"ERZ"];

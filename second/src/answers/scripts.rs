@@ -7,11 +7,11 @@ use crate::script::{self, seat_text, Change, MOST_LENT_BYTES, MOST_LENT_MARKS};
 use crate::spelling::{bytes_text, parse_bytes, parse_number, parse_place, NotACase};
 use std::ops::Range;
 
-/// The answer of a line that sets a part of the desk, and that of a look that finds no cell.
+/// The answer to a line that sets a part of the desk, and the answer to a look that finds no cell.
 const SET: &str = "set";
 const NONE: &str = "none";
 
-/// The answer to a line of a script, if it is one.
+/// The answer to a line of a script, or nothing if the words are no such line.
 pub fn answer(desk: &mut Desk, words: &[&str]) -> Option<Result<String, NotACase>> {
     Some(match words {
         ["lend", bytes, marks] => lend(desk, bytes, marks),
@@ -54,7 +54,7 @@ fn play_mixes(desk: &mut Desk, first: &str, second: &str) -> Result<String, NotA
     Ok(format!("{played} {digest}"))
 }
 
-/// The outcome of a call, and all that differs from before it.
+/// The outcome of a call, and everything that differs from before the call.
 fn call(desk: &mut Desk, work: impl FnOnce(&mut Desk) -> Result<usize, Refusal>) -> String {
     let before = desk.clone();
     let (outcome, seat) = match work(desk) {
@@ -66,7 +66,7 @@ fn call(desk: &mut Desk, work: impl FnOnce(&mut Desk) -> Result<usize, Refusal>)
     parts.join(" ")
 }
 
-/// Seats, cells and marks that differ, in this order.
+/// The seats, cells and marks that differ, in this order.
 fn changed_parts(before: &Desk, after: &Desk) -> Vec<String> {
     let mut parts: Vec<String> = (0..SEATS)
         .filter(|&place| before.seats[place] != after.seats[place])
@@ -83,7 +83,7 @@ fn changed_parts(before: &Desk, after: &Desk) -> Vec<String> {
     parts
 }
 
-/// From the first place that differs to the last.
+/// The range from the first place that differs to the last.
 fn differing<T: PartialEq>(before: &[T], after: &[T]) -> Option<Range<usize>> {
     let differs = |&place: &usize| before[place] != after[place];
     let first = (0..before.len()).find(differs)?;

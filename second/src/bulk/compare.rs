@@ -1,16 +1,16 @@
-//! The program's answers held against those of the second reader.
+//! Compares the program's answers with those of `second`.
 
 use std::process::ExitStatus;
 
-/// The last line of a list begins so, and this is the whole list of a capture that is too long.
+/// How the last line of a list begins, and the whole list of a capture that is too long.
 const END: &[u8] = b"end\t";
 const TOO_LONG: &[u8] = b"input too long\n";
 
-/// What is asked line by line. Lines of a group are asked one after the other and make sense only
-/// so: a difference at one of them shows the group from its beginning.
+/// What is asked, line by line. The lines of a group depend on each other, so a difference at one
+/// of them is shown with the group's lines from its first line on.
 pub struct Asked {
     lines: Vec<String>,
-    /// For each line the place where its group begins.
+    /// For each line, the place where its group begins.
     begins: Vec<usize>,
 }
 
@@ -32,12 +32,12 @@ impl Asked {
         self.lines.iter()
     }
 
-    /// All of it as a program reads it.
+    /// All lines, as a program reads them.
     pub fn text(&self) -> String {
         self.lines.iter().flat_map(|line| [line, "\n"]).collect()
     }
 
-    /// The line at this place and those of its group before it, as they are printed.
+    /// The line at this place and the lines of its group before it, as they are printed.
     fn shown(&self, place: usize) -> String {
         let lines = &self.lines[self.begins[place]..=place];
         lines
@@ -47,13 +47,13 @@ impl Asked {
     }
 }
 
-/// The lines of an output, each with its LF; the last one may have none.
+/// The lines of an output, each with its LF. The last one may have no LF.
 pub fn lines(output: &[u8]) -> Vec<&[u8]> {
     output.split_inclusive(|&code| code == b'\n').collect()
 }
 
-/// For each answer of ours as many lines as it has, as far as there are lines; and what is left, if
-/// anything is.
+/// Cuts the program's lines into answers: each answer gets as many lines as ours has, as far as
+/// there are lines. If lines are left, they follow as one more entry.
 pub fn cut_by_count<'a>(lines: &'a [&'a [u8]], own: &[Vec<String>]) -> Vec<&'a [&'a [u8]]> {
     let mut rest = lines;
     let mut given = Vec::new();
@@ -68,15 +68,16 @@ pub fn cut_by_count<'a>(lines: &'a [&'a [u8]], own: &[Vec<String>]) -> Vec<&'a [
     given
 }
 
-/// One list after the other. What follows the last one that ends is one more.
+/// Cuts the output into lists, one after the other. Lines after the last complete list form one
+/// more entry.
 pub fn cut_by_end<'a>(lines: &'a [&'a [u8]]) -> Vec<&'a [&'a [u8]]> {
     lines
         .split_inclusive(|line| line.starts_with(END) || *line == TOO_LONG)
         .collect()
 }
 
-/// The differences, each as it is printed. Of each group the first line counts that is answered
-/// otherwise; and where the program has no answers any more, that counts once.
+/// The differences, as they are printed. In each group only the first line that is answered
+/// differently counts. If the program's answers stop early, that counts once.
 pub fn differences(asked: &Asked, own: &[Vec<String>], given: &[&[&[u8]]]) -> Vec<String> {
     let mut differences = Vec::new();
     let mut reported = None;
@@ -100,7 +101,7 @@ pub fn differences(asked: &Asked, own: &[Vec<String>], given: &[&[&[u8]]]) -> Ve
     differences
 }
 
-/// The lines that are not the same at one place of both answers.
+/// The lines at which the two answers differ.
 fn differing(given: &[&[u8]], own: &[String]) -> String {
     let mut text = String::new();
     for place in 0..given.len().max(own.len()) {
@@ -118,7 +119,7 @@ fn differing(given: &[&[u8]], own: &[String]) -> String {
     text
 }
 
-/// A line of the program's, tabs among its bytes too.
+/// A line of the program, as it is printed. It may contain tabs.
 fn shown(line: &[u8]) -> String {
     match line.strip_suffix(b"\n") {
         Some(text) => String::from_utf8_lossy(text).into_owned(),
@@ -126,7 +127,7 @@ fn shown(line: &[u8]) -> String {
     }
 }
 
-/// How the program ended, if not well.
+/// How the program ended, if it failed.
 pub fn bad_end(status: &ExitStatus) -> Option<String> {
     (!status.success()).then(|| format!("program ended with {status}\n"))
 }
@@ -174,7 +175,7 @@ mod tests {
             compared(&asked, &own, b"1\nx\n3\n4\n"),
             ["asked   b\nprogram x\nsecond  2\n"]
         );
-        // Of an answer of several lines those that differ.
+        // Of an answer with several lines, only the lines that differ are shown.
         assert_eq!(
             compared(&asked, &own, b"1\n2\n3\n5\n"),
             ["asked   c\nprogram 5\nsecond  4\n"]
@@ -204,7 +205,7 @@ mod tests {
             compared(&asked, &own, b"1\n"),
             ["asked   b\nprogram (nothing)\nsecond  2\n"]
         );
-        // A last line without LF is another one.
+        // A last line without LF counts as different.
         assert_eq!(
             compared(&asked, &own, b"1\n2\n3"),
             ["asked   c\nprogram 3 (without LF)\nsecond  3\n"]

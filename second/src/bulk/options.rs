@@ -1,4 +1,4 @@
-//! What the words after `bulk` ask for, and the pieces it is cut into.
+//! What the words after `bulk` ask for, and the pieces that the work is cut into.
 
 use super::piece::{Piece, Subject};
 use std::path::PathBuf;
@@ -6,11 +6,11 @@ use std::path::PathBuf;
 pub const USAGE: &str = "second bulk RUN ROOM [--short] [--seed SEED] [--frames N] [--scripts N] \
                          [--captures N]";
 
-/// How much is asked where nothing is said, and where `--short` is.
+/// How much is asked by default, and with `--short`.
 const FULL: [u64; 3] = [20_000_000, 100_000, 100_000];
 const SHORT: [u64; 3] = [200_000, 1_000, 1_000];
 
-/// The seed of the first pieces where none is said.
+/// The seed of the first pieces if none is given.
 const SEED: u64 = 1;
 
 const SUBJECTS: [Subject; 3] = [Subject::Frames, Subject::Scripts, Subject::Captures];
@@ -22,7 +22,7 @@ const PIECES: [u64; 3] = [200_000, 1_000, 1_000];
 pub struct Options {
     /// The command that starts a proved program by its name.
     pub run: PathBuf,
-    /// A directory that captures are written to, and in which a file `stop` ends the run.
+    /// A directory that captures are written to. A file `stop` in it ends the run.
     pub room: PathBuf,
     pub seed: u64,
     /// How many frames, scripts and captures.
@@ -44,7 +44,8 @@ impl Options {
         Ok(options)
     }
 
-    /// Takes one option after the other; of two that say the same thing the last one counts.
+    /// Takes one option after the other. A later option overrides an earlier one that sets the same
+    /// thing.
     fn take(&mut self, words: &[&str]) -> Result<(), String> {
         let rest = match words {
             [] => return Ok(()),
@@ -68,8 +69,8 @@ impl Options {
         self.take(rest)
     }
 
-    /// Round after round with a seed of its own, each with a piece of every subject of which more is
-    /// wanted. The last piece of a subject has what is left.
+    /// The pieces, in rounds. Each round has a seed of its own and one piece of every subject that
+    /// is not yet complete. The last piece of a subject has what is left.
     pub fn pieces(&self) -> impl Iterator<Item = Piece> + '_ {
         let rounds = (0..SUBJECTS.len()).map(|place| self.amounts[place].div_ceil(PIECES[place]));
         let rounds = rounds.max().unwrap_or(0);

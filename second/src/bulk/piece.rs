@@ -1,4 +1,4 @@
-//! One piece: made, put to the program that it is for, answered here, and compared.
+//! One piece: it is made, given to its program, answered here, and compared.
 
 use super::compare::{self, Asked};
 use super::program::{Answered, Programs};
@@ -43,15 +43,15 @@ pub struct Piece {
     pub size: u64,
 }
 
-/// What came of a piece.
+/// The result of a piece.
 pub struct Outcome {
-    /// Each as it is printed.
+    /// Each difference as it is printed.
     pub differences: Vec<String>,
     pub tally: Tally,
 }
 
 impl Piece {
-    /// What came of it, or nothing where it was stopped.
+    /// Compares the piece. Returns nothing if the run was stopped.
     pub fn compare(&self, programs: &Programs) -> Result<Option<Outcome>, String> {
         match self.subject {
             Subject::Frames => {
@@ -69,7 +69,8 @@ impl Piece {
         }
     }
 
-    /// Each group of lines is asked as one, and reported as one.
+    /// Compares groups of lines. The lines of a group belong together, and at most one difference
+    /// is reported for each group.
     fn compare_cases(
         &self,
         programs: &Programs,
@@ -78,7 +79,7 @@ impl Piece {
         let asked = Asked::of_groups(groups);
         let input = asked.text();
         let running = programs.start_reading(self.subject.program(), &input)?;
-        // While the program is at work.
+        // We answer the cases while the program is at work.
         let own = answers::by_case(input.as_bytes())?;
         let mut tally = Tally::default();
         for (case, answer) in asked.lines().zip(&own) {

@@ -1,5 +1,5 @@
-//! The proved programs: started, and waited for. They read from files and write to files, so that
-//! none waits for another to read what it has written.
+//! Starts the proved programs and waits for them. They read from files and write to files, so
+//! neither side has to wait for the other to read its output.
 
 use std::fs::{self, File};
 use std::io::ErrorKind;
@@ -8,11 +8,11 @@ use std::process::{Child, Command, ExitStatus, Stdio};
 use std::thread;
 use std::time::Duration;
 
-/// How long the program is left at work before it is looked at again.
+/// How long to wait before looking again whether the program has ended.
 const PATIENCE: Duration = Duration::from_millis(20);
 
-/// What the room has in it: a file whose being there ends the run, the directory of the captures,
-/// and what a program reads and writes.
+/// The names in the room: a file that ends the run if it exists, the directory of the captures, and
+/// what a program reads and writes.
 const STOP: &str = "stop";
 const CAPTURES: &str = "captures";
 const ASKED: &str = "asked";
@@ -31,7 +31,7 @@ pub struct Answered {
 }
 
 impl Programs {
-    /// `run NAME` starts the program of that name; the room is a directory that is there.
+    /// `run NAME` starts the program of that name. The room is a directory that exists.
     pub fn new(run: &Path, room: &Path) -> Result<Self, String> {
         let programs = Programs {
             run: path::absolute(run).map_err(complaint(run))?,
@@ -46,12 +46,12 @@ impl Programs {
         }
     }
 
-    /// Someone wants the run to end.
+    /// True if the run is to end.
     fn are_to_stop(&self) -> bool {
         self.room.join(STOP).exists()
     }
 
-    /// Has the program of this name answer all this, which it reads as its standard input.
+    /// Starts the program of this name. It reads `input` as its standard input.
     pub fn start_reading(&self, name: &str, input: &str) -> Result<Running<'_>, String> {
         let path = self.room.join(ASKED);
         fs::write(&path, input).map_err(complaint(&path))?;
@@ -61,7 +61,7 @@ impl Programs {
         self.start(command)
     }
 
-    /// Has the program of this name list all these captures, which it reads as files.
+    /// Starts the program of this name to list these captures. It reads them as files.
     pub fn start_listing(&self, name: &str, captures: &[Vec<u8>]) -> Result<Running<'_>, String> {
         let directory = self.room.join(CAPTURES);
         let mut command = Command::new(&self.run);
@@ -87,7 +87,7 @@ impl Programs {
     }
 }
 
-/// What is said where something cannot be done with this file.
+/// The complaint when something cannot be done with this file.
 fn complaint(path: &Path) -> impl Fn(std::io::Error) -> String + '_ {
     move |error| format!("{}: {error}", path.display())
 }
@@ -99,7 +99,8 @@ pub struct Running<'a> {
 }
 
 impl Running<'_> {
-    /// All that it has written when it has ended, or nothing where the run is to stop.
+    /// Waits until the program has ended and returns what it has written. Returns nothing if the
+    /// run is to stop.
     pub fn finish(mut self) -> Result<Option<Answered>, String> {
         let run = &self.programs.run;
         loop {
@@ -116,9 +117,9 @@ impl Running<'_> {
         }
     }
 
-    /// Ends this one program, whose answers nobody wants any more.
+    /// Ends this one program. Its answers are no longer needed.
     fn end(&mut self) {
-        // It may have ended by itself.
+        // The program may have ended already.
         let _ = self.child.kill();
         let _ = self.child.wait();
     }

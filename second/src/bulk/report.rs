@@ -1,10 +1,10 @@
-//! What has been compared so far, told in a line after each piece and in full at the end.
+//! What has been compared so far, reported in one line after each piece and in full at the end.
 
 use super::piece::{Outcome, Piece, Subject};
 use super::tally::{Outcomes, Tally};
 use std::time::Instant;
 
-/// The refusals by their numbers, from 1 on.
+/// The names of the refusals, by number, from 1 on.
 const NAMES: [&str; 16] = [
     "KIND",
     "LENGTH",
@@ -33,7 +33,7 @@ pub struct Report {
     captures: u64,
     tally: Tally,
     differences: u64,
-    /// The seed of the piece that was left.
+    /// The seed of the piece that was not finished.
     stopped: Option<u64>,
 }
 
@@ -64,7 +64,7 @@ impl Report {
         self.differences += outcome.differences.len() as u64;
     }
 
-    /// The run ends before all is asked, with this piece not done.
+    /// Notes that the run was stopped and that this piece was not finished.
     pub fn stop(&mut self, piece: &Piece) {
         self.stopped = Some(piece.seed);
     }
@@ -77,7 +77,7 @@ impl Report {
         self.differences
     }
 
-    /// As many as there are answers about, and not as many as were to be asked.
+    /// The number of frames that have been answered. It may be less than what was to be asked.
     fn frames(&self) -> u64 {
         self.tally.frames.iter().sum()
     }
@@ -130,8 +130,8 @@ impl Report {
         lines.map(|line| line + "\n").concat()
     }
 
-    /// Which seeds these were, and which one is next: where the run was stopped, the one that was not
-    /// done to its end.
+    /// Which seeds were used, and which seed is next. If the run was stopped, the next seed is that
+    /// of the piece that was not finished.
     fn seeds_text(&self) -> String {
         let next = self
             .stopped
@@ -146,7 +146,7 @@ impl Report {
     }
 }
 
-/// How many there were, how many were done, and how many refused by each number that came.
+/// How many there were, how many were done, and how many got each refusal that occurred.
 fn outcomes_text(outcomes: &Outcomes, done: &str) -> String {
     let sum: u64 = outcomes.iter().sum();
     let [accepted, refused @ ..] = outcomes;

@@ -1,18 +1,18 @@
-//! How many frames, records, calls and captures there were, and what came of them by the second
-//! reader's answers.
+//! How many frames, records, calls and captures there were, and their outcomes by the answers of
+//! `second`.
 
-/// Done, and the refusals by their numbers.
+/// One count for done and one for each refusal number.
 const OUTCOMES: usize = 17;
 
 pub type Outcomes = [u64; OUTCOMES];
 
 #[derive(Clone, Debug, Default, PartialEq, Eq)]
 pub struct Tally {
-    /// Frames that a reader was asked about.
+    /// Frames that were given to a reader.
     pub frames: Outcomes,
     /// Records that were to be written.
     pub records: Outcomes,
-    /// Openings and replies of scripts.
+    /// Openings and replies in scripts.
     pub calls: Outcomes,
     /// The frames found in captures: opened, collected, dynamic and refused.
     pub fates: [u64; 4],
@@ -37,7 +37,7 @@ impl Tally {
         }
     }
 
-    /// `PLACE COUNT*NUMBER.OFFSET COUNT*NUMBER.OFFSET ..`
+    /// Takes one line of a damage answer: `PLACE COUNT*NUMBER.OFFSET COUNT*NUMBER.OFFSET ..`
     fn take_damage(&mut self, line: &str) {
         for run in line.split(' ').skip(1) {
             if let Some((frames, outcome)) = run.split_once('*') {
@@ -47,7 +47,7 @@ impl Tally {
         }
     }
 
-    /// The list of one capture.
+    /// Takes the list of one capture.
     pub fn take_list(&mut self, list: &[String]) {
         let counts = list.last().and_then(|line| line.strip_prefix("end\t"));
         match counts {
@@ -119,7 +119,7 @@ mod tests {
         let request = "11522031303037303030303050303030303032303030530d";
         let tally = tally(&format!("damage-request {request}\n"));
         assert_eq!(tally.frames.iter().sum::<u64>(), 256 * 24);
-        // One good lead byte, and 255 others.
+        // One value of the lead byte is good, and 255 are not.
         assert_eq!(tally.frames[1], 255);
         assert_eq!(tally.frames[2], 0);
         assert_eq!((tally.frames[3], tally.frames[4]), (255, 2 * 255));

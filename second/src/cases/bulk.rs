@@ -1,5 +1,5 @@
-//! Frames in bulk: for each seed a piece of cases that ask about so many frames. The scripts and the
-//! captures in bulk stand beside those of the files.
+//! Frames in bulk: for each seed a piece of cases that ask about a given number of frames. The
+//! scripts and captures in bulk are in `desk::bulk` and `captures::bulk`.
 
 mod bounds;
 mod damages;
@@ -12,22 +12,23 @@ use crate::random::Random;
 /// How many values a damage case puts at each place.
 const VALUES: u64 = 256;
 
-/// Damage cases ask about one frame in so many of a piece. There is a write for so many frames.
+/// Damage cases ask about at most one in `DAMAGES_ONE_IN` frames of a piece. There is one write for
+/// every `WRITES_ONE_IN` frames.
 const DAMAGES_ONE_IN: u64 = 2;
 const WRITES_ONE_IN: u64 = 50;
 
-/// What frames and records of one kind are made with.
+/// How frames and records of one kind are made.
 struct Maker {
-    /// What the words of its cases end with.
+    /// How the words of its cases end.
     word: &'static str,
     numbers: &'static [Number],
     /// The offsets of the fields that are one letter each.
     letters: &'static [usize],
     /// A good frame.
     good: fn(&mut Random) -> Vec<u8>,
-    /// A frame that nothing or some things have befallen.
+    /// A frame with no, one or several random changes.
     befallen: fn(&mut Random) -> Vec<u8>,
-    /// Puts times and dates, and what goes with them, at their bounds.
+    /// Puts times and dates, and the fields that belong to them, at their bounds.
     put_times: fn(&mut [u8], &mut Random),
     write: fn(&mut Random) -> String,
 }
@@ -78,7 +79,7 @@ const DYNAMIC: Maker = Maker {
     write: dynamic::random_write,
 };
 
-/// The cases of one piece, which ask about just so many frames; and some writes.
+/// The cases of one piece. They ask about exactly this many frames. Some writes are added.
 pub fn piece(seed: u64, frames: u64) -> Vec<String> {
     let mut random = Random::new(seed, "bulk frames");
     let mut cases = damages::cases(&mut random, frames / DAMAGES_ONE_IN);
@@ -160,8 +161,8 @@ mod tests {
         assert_eq!(words, expected);
     }
 
-    /// A good share of the plain reads is accepted, and every refusal of a reader and of a writer
-    /// comes often.
+    /// A good share of the plain reads is accepted. Every refusal of a reader or a writer occurs
+    /// often.
     #[test]
     fn every_refusal_comes() {
         let mut tally = Tally::default();

@@ -1,4 +1,4 @@
-//! The captures that are listed. Those that every seed has come first, then the random ones.
+//! The captures that are listed. First come those that every seed has, then the random ones.
 
 pub mod bulk;
 mod counts;
@@ -19,7 +19,7 @@ use crate::random::Random;
 
 pub type Capture = Vec<u8>;
 
-/// Frames in the order they are heard.
+/// Frames in the order in which they are heard.
 type Frames = Vec<Vec<u8>>;
 
 /// The captures of one seed. The first is document 01's example.
@@ -43,11 +43,12 @@ fn of_every_seed() -> Vec<Capture> {
     .concat()
 }
 
-/// Two requests that have nothing in common, in many of the captures.
+/// The keys of two requests that many of the captures use. They have nothing in common.
 const ONE: Key = (b'1', 7);
 const OTHER: Key = (b'A', 12);
 
-/// A row of keys, all different. Neighbours share their number, every fourth its requester.
+/// A row of keys, all different. Groups of four share a number, and every fourth key has the same
+/// requester.
 fn key(place: usize) -> Key {
     (b"1Aaz"[place % 4], 7 * (place / 4) as u32)
 }
@@ -60,8 +61,8 @@ fn requests(keys: &[Key]) -> Frames {
     keys.iter().map(|&key| request(key)).collect()
 }
 
-/// A reply to this key for each letter of the word. Their bibs fall, so that rows sorted by bib
-/// would stand in another order.
+/// A reply to this key for each letter of the word. Their bibs decrease, so sorting rows by bib
+/// would change their order.
 fn replies(key: Key, word: &str) -> Frames {
     word.bytes()
         .enumerate()

@@ -1,5 +1,5 @@
-//! Scripts of a desk. The first of them begins before anything is lent; each of the others begins
-//! by lending.
+//! Scripts of a desk. The first of them begins before anything is lent. Each of the others begins
+//! with `lend`, or with `mixes`, which lends too.
 
 pub mod bulk;
 mod clauses;

@@ -5,12 +5,13 @@ use crate::digits::WIDEST;
 use crate::random::Random;
 use crate::spelling::bytes_text;
 
-/// What stands before and after a number in the middle of a text. They are digits, so a reader that
-/// begins or ends one place off shows it.
+/// What is before and after a number in the middle of a text. They are digits, so a reader that
+/// begins or ends at the wrong place returns a wrong answer.
 const BEFORE: &[u8] = b"98765";
 const AFTER: &[u8] = b"4321";
 
-/// The bytes on both sides of the digits, blanks, signs, and bytes that are digits but for a bit.
+/// The bytes next to the digits, blanks, signs, bytes that differ from a digit in one bit, and two
+/// others.
 const NO_DIGITS: [u8; 9] = [0x2f, 0x3a, b' ', b'+', b'-', 0x00, 0x10, 0xb0, 0xff];
 
 pub fn add_all(cases: &mut Cases, seed: u64) {
@@ -53,7 +54,7 @@ fn add_faults(cases: &mut Cases, width: usize) {
     add_at_both_places(cases, &vec![b' '; width]);
 }
 
-/// Texts that end before the number does, and places at, beyond and far beyond the end.
+/// Texts that end before the number does, and places at the end, after it and far after it.
 fn add_short_texts(cases: &mut Cases, width: usize) {
     let digits = &b"1234567890"[..width];
     let text = [BEFORE, digits].concat();

@@ -15,18 +15,18 @@ use crate::times::TICKS_OF_DAY;
 
 const LENGTH: usize = Dynamic::LENGTH;
 
-/// Two requests that differ in every field. The order of the first wants a period; the second is
-/// minus.
+/// Two requests that differ in every field. The order of the first requires a period. The sign of
+/// the second is minus.
 pub const PLUS: &[u8; LENGTH] = b"\x13R 1A000150010020004125500301234567898200100S\r";
 pub const MINUS: &[u8; LENGTH] = b"\x13R zt600002402506000025000012359599999999999T\r";
 
-/// Minus zero: neither days nor time, and yet a sign.
+/// Minus zero: no days, no time, and a minus sign.
 pub const MINUS_ZERO: &[u8; LENGTH] = b"\x13R Ma000000000000000100000010000000000000000B\r";
 
 /// No room, one byte too little, just enough, and more.
 const ROOMS: [usize; 4] = [0, LENGTH - 1, LENGTH, 60];
 
-/// Both sides of every limit, by rising offset.
+/// Numbers on both sides of every limit, by rising offset.
 pub const NUMBERS: [Number; 9] = [
     (at::BIB, 5, BIBS),
     (at::CHANNEL, 3, CHANNELS),
@@ -110,7 +110,7 @@ fn add_fields(cases: &mut Cases) {
     for code in REQUESTER_EDGES.into_iter().chain(NOT_PRINTABLE) {
         add_read(cases, &replaced(PLUS, at::REQUESTER, &[code]));
     }
-    // All bytes there are at these two places are what the damaged requests ask.
+    // The damage cases ask about every byte at these two places.
     for code in *b"ABabTt@CSU`csu 0Zz\x00\x80\xc1" {
         add_read(cases, &replaced(PLUS, at::ORDER, &[code]));
     }
@@ -135,7 +135,7 @@ fn add_random_frames(cases: &mut Cases, random: &mut Random) {
     }
 }
 
-/// A good frame that nothing or some things have befallen.
+/// A good frame with no, one or several random changes.
 pub fn random_frame(random: &mut Random) -> Vec<u8> {
     let mut frame = frame_of(&random_record(random));
     for _ in 0..number_of_faults(random) {
@@ -178,7 +178,7 @@ fn random_channel(random: &mut Random) -> u64 {
     }
 }
 
-/// The frame of a good record, spelled out here and not by the writer under comparison.
+/// The frame of a good record. It is built here, without the writer that is compared.
 pub fn frame_of(record: &Dynamic) -> Vec<u8> {
     let mut frame = b"\x13R ".to_vec();
     frame.extend([record.requester, record.order]);
@@ -215,7 +215,7 @@ fn add_writes(cases: &mut Cases) {
     }
 }
 
-/// Letters in a record of short numbers, to keep the file short.
+/// Every letter in a record of short numbers, which keeps the file short.
 fn add_letters_to_write(cases: &mut Cases) {
     let base = Dynamic {
         time: 0,
@@ -281,7 +281,7 @@ fn set_number(record: &mut Dynamic, offset: usize, value: u64) {
     }
 }
 
-/// A field's offset, and something that makes the part wrong that belongs there.
+/// A field's offset, and a function that makes that field's part of the record wrong.
 type Spoil = (usize, fn(&mut Dynamic));
 
 /// By rising offset.
@@ -307,7 +307,7 @@ fn add_several_wrong_to_write(cases: &mut Cases) {
         for (_, spoil) in spoils {
             spoil(&mut record);
         }
-        // Two wrong fields to enough room, more to none.
+        // Two wrong fields go to enough room, all other lists to no room.
         let room = if spoils.len() == 2 { LENGTH } else { 0 };
         add_write(cases, room, &record);
     }
@@ -319,7 +319,7 @@ fn add_random_writes(cases: &mut Cases, random: &mut Random) {
     }
 }
 
-/// A record that nothing or some parts are spoiled of, to a room that may be too small.
+/// A record with no, one or several wrong parts, written to a room that may be too small.
 pub fn random_write(random: &mut Random) -> String {
     let mut record = random_record(random);
     for _ in 0..number_of_faults(random) {

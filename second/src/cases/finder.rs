@@ -12,7 +12,7 @@ const FRAMES: [&[u8]; 3] = [REQUEST, REPLY, DYNAMIC];
 
 const LEADS: [u8; 3] = [0x11, 0x12, 0x13];
 
-/// Captures with everything in them that can befall a frame. They are short, for they are asked
+/// Captures with every kind of fault that a frame can have. They are short, because they are asked
 /// about at each of their places.
 const MIXED: [&[u8]; 7] = [
     b"",
@@ -44,7 +44,7 @@ fn add_from(cases: &mut Cases, place: usize, capture: &[u8]) {
     cases.add(format!("find-from {place} {}", bytes_text(capture)));
 }
 
-/// The capture cut, a search from each of its places, and some from past its end.
+/// The capture cut into frames, a search from each of its places, and some from past its end.
 fn add_at_every_place(cases: &mut Cases, capture: &[u8]) {
     add_find(cases, capture);
     for place in 0..=capture.len() + 1 {
@@ -53,7 +53,8 @@ fn add_at_every_place(cases: &mut Cases, capture: &[u8]) {
     add_from(cases, u32::MAX as usize, capture);
 }
 
-/// All captures of up to three bytes, of the four bytes that have a meaning and one that has none.
+/// All captures of up to three bytes, made of the four bytes that have a meaning and one that has
+/// none.
 fn add_short_captures(cases: &mut Cases) {
     const CODES: [u8; 5] = [0x11, 0x12, 0x13, b'\r', b'a'];
     let mut captures = vec![Vec::new()];
@@ -85,8 +86,8 @@ fn add_every_byte(cases: &mut Cases) {
     }
 }
 
-/// What may stand between two frames, and after a lead byte; with the second frame whole, and cut by
-/// the end.
+/// What may be between two frames and after a lead byte. The second frame is whole, or cut by the
+/// end.
 fn add_fillings(cases: &mut Cases) {
     let fillings: [&[u8]; 10] = [
         b"",
@@ -112,7 +113,7 @@ fn add_fillings(cases: &mut Cases) {
     }
 }
 
-/// Frames of every two kinds side by side, as they are and with LF between and after them.
+/// Frames of every two kinds side by side, directly and with LF between and after them.
 fn add_neighbours(cases: &mut Cases) {
     for first in FRAMES {
         for second in FRAMES {
@@ -124,7 +125,8 @@ fn add_neighbours(cases: &mut Cases) {
     add_find(cases, &[REPLY, REQUEST, REPLY, DYNAMIC, REPLY].concat());
 }
 
-/// Each frame cut at every length: by the end, by a frame of another kind, and by one of its own.
+/// Each frame cut at every length: by the end, by a frame of another kind, and at some lengths by
+/// one of its own kind.
 fn add_cut_frames(cases: &mut Cases) {
     for (frame, (other, own)) in FRAMES.into_iter().zip([
         (b"\x12x\r", b"\x11x\r"),
@@ -140,7 +142,7 @@ fn add_cut_frames(cases: &mut Cases) {
                 add_find(cases, &[begun, frame].concat());
             }
         }
-        // What is left after the lead byte is no frame, wherever it begins.
+        // What is left after the lead byte is not a frame, wherever it begins.
         add_find(cases, &frame[1..]);
         add_find(cases, &[&frame[1..], frame].concat());
     }
@@ -162,7 +164,8 @@ fn add_places(cases: &mut Cases) {
     }
 }
 
-/// Frames far longer than any kind's, whole and cut, up to the longest capture there is.
+/// Frames far longer than any kind, whole and cut, up to the longest capture that a case can ask
+/// about.
 fn add_long_frames(cases: &mut Cases) {
     for length in [201, 256, 257, MOST_BYTES_OF_CAPTURE] {
         let mut capture = vec![b'x'; length];
@@ -186,7 +189,8 @@ fn add_long_frames(cases: &mut Cases) {
     add_find(cases, &[b'\r'; MOST_BYTES_OF_CAPTURE]);
 }
 
-/// Bytes of captures that have many frames, with ever fewer leads and CRs.
+/// Bytes for captures that have many frames. From one row to the next, lead bytes and CRs become
+/// rarer.
 const ALPHABETS: [&[u8]; 4] = [
     b"\x11\x12\x13\r",
     b"\x11\x12\x13\r\ra\n",
@@ -218,7 +222,7 @@ fn add_random_captures(cases: &mut Cases, random: &mut Random) {
     }
 }
 
-/// A good frame, and now and then only its beginning, or with any byte changed.
+/// A good frame; half the time only its beginning, or with one byte changed.
 fn random_frame(random: &mut Random) -> Vec<u8> {
     let mut frame = random.pick(&FRAMES).to_vec();
     let place = random.place(frame.len());

@@ -7,7 +7,7 @@ use crate::random::Random;
 pub const REQUESTERS: &[u8; 62] = b"0123456789ABCDEFGHIJKLMNOPQRSTUVWXYZabcdefghijklmnopqrstuvwxyz";
 pub const OUTPUTS: &[u8; 4] = b"SABT";
 
-/// Each end of the three ranges of requesters, from both sides.
+/// The bytes on both sides of each end of the three requester ranges.
 pub const REQUESTER_EDGES: [u8; 12] = [
     0x2f, 0x30, 0x39, 0x3a, 0x40, 0x41, 0x5a, 0x5b, 0x60, 0x61, 0x7a, 0x7b,
 ];
@@ -15,7 +15,7 @@ pub const REQUESTER_EDGES: [u8; 12] = [
 /// Bytes that do not print.
 pub const NOT_PRINTABLE: [u8; 7] = [0x00, 0x0d, 0x1f, 0x7f, 0x80, 0xb0, 0xff];
 
-/// Times at both sides of every limit, and some that are no times.
+/// Times on both sides of every limit, and some texts that are not times.
 pub const TIMES: [&[u8]; 16] = [
     b"0000000000",
     b"0000000001",
@@ -35,10 +35,10 @@ pub const TIMES: [&[u8]; 16] = [
     b"000000000 ",
 ];
 
-/// The largest number a case can ask for.
+/// The largest number that a case can have.
 pub const LARGEST: u64 = (1 << 32) - 1;
 
-/// A number's offset, its width and values at both sides of every limit.
+/// A number's offset, its width, and values on both sides of every limit.
 pub type Number = (usize, usize, &'static [u64]);
 
 /// A field's offset, and a text that is wrong there.
@@ -47,9 +47,9 @@ pub type WrongField = (usize, &'static [u8]);
 /// Something wrong with a frame.
 #[derive(Clone, Copy)]
 pub enum Fault {
-    /// These bytes stand at this place.
+    /// The frame has these bytes at this place.
     Put(usize, &'static [u8]),
-    /// The last byte stands there twice.
+    /// The frame has its last byte twice.
     OneByteMore,
 }
 
@@ -62,7 +62,8 @@ impl Fault {
     }
 }
 
-/// One fault of every sort: those around the fields, with another kind's lead byte, and these.
+/// One fault of each sort: those around the fields, including another kind's lead byte, and the
+/// wrong fields given.
 pub fn faults_of<Record: Kind>(other_lead: &'static [u8], fields: &[WrongField]) -> Vec<Fault> {
     let around = [
         Fault::Put(0, other_lead),
@@ -85,14 +86,15 @@ pub fn with_faults(frame: &[u8], faults: &[Fault]) -> Vec<u8> {
     frame
 }
 
-/// Every two neighbours of a list, and all of it from each one on: enough to show which goes first.
+/// Every two neighbours of a list, and every end part of it. This is enough to show which one comes
+/// first.
 pub fn neighbours_and_tails<T>(list: &[T]) -> impl Iterator<Item = &[T]> {
     let tails = (0..list.len()).map(|low| &list[low..]);
     list.windows(2).chain(tails)
 }
 
-/// The frame at each of these lengths in two ways: cut, or followed by zeros; and that with CR as
-/// its last byte.
+/// The frame at each of these lengths, cut or filled up with zeros; and the same with CR as its
+/// last byte.
 pub fn at_lengths(frame: &[u8], lengths: &[usize]) -> Vec<Vec<u8>> {
     let mut frames = Vec::new();
     for &length in lengths {
@@ -106,7 +108,7 @@ pub fn at_lengths(frame: &[u8], lengths: &[usize]) -> Vec<Vec<u8>> {
     frames
 }
 
-/// The frame with each of these lead bytes, and with other bytes at places 1 and 2 and as the last.
+/// The frame with each of these lead bytes, and with other bytes at places 1 and 2 and at its end.
 pub fn with_surround_faults(frame: &[u8], leads: &[u8]) -> Vec<Vec<u8>> {
     let last = frame.len() - 1;
     let places: [(usize, &[u8]); 4] = [
@@ -120,7 +122,7 @@ pub fn with_surround_faults(frame: &[u8], leads: &[u8]) -> Vec<Vec<u8>> {
         frames.extend(codes.iter().map(|&code| replaced(frame, place, &[code])));
     }
     frames.push(replaced(frame, 1, b" R"));
-    // The CR one place early is not the last byte.
+    // A CR one place too early is not the last byte.
     let mut early = frame.to_vec();
     early.swap(last - 1, last);
     frames.push(early);
@@ -147,7 +149,8 @@ pub fn with_blank_numbers(frame: &[u8], numbers: &[Number]) -> Vec<Vec<u8>> {
         .collect()
 }
 
-/// A byte lost, a byte too many, another byte, or another number, which may be a good one.
+/// A random change: a byte lost, a byte too many, another byte, or another number. The frame may
+/// still be good.
 pub fn befall_at_random(frame: &mut Vec<u8>, numbers: &[Number], random: &mut Random) {
     let place = random.place(frame.len());
     match random.below(8) {
@@ -166,7 +169,7 @@ pub fn befall_at_random(frame: &mut Vec<u8>, numbers: &[Number], random: &mut Ra
     }
 }
 
-/// Puts these bytes at this place, if the frame still reaches so far.
+/// Puts these bytes at this place, if the frame is long enough.
 pub fn put(frame: &mut [u8], place: usize, text: &[u8]) {
     if let Some(field) = frame.get_mut(place..place + text.len()) {
         field.copy_from_slice(text);
@@ -179,12 +182,12 @@ pub fn any_number(random: &mut Random) -> u64 {
     random.below(limit)
 }
 
-/// How many faults a random case gets: none for half of them.
+/// How many faults a random case gets. Half of them get none.
 pub fn number_of_faults(random: &mut Random) -> usize {
     random.pick(&[0, 0, 0, 1, 1, 2])
 }
 
-/// A good time as HHMMSSdddd, spelled out here and not by the writer under comparison.
+/// A good time as HHMMSSdddd. It is built here, without the writer that is compared.
 pub fn time_text(ticks: i128) -> String {
     let hours = ticks / 36_000_000;
     let minutes = ticks / 600_000 % 60;

@@ -15,8 +15,8 @@ use crate::times::{MOST_NET_DAYS, TICKS_OF_DAY};
 
 const LENGTH: usize = Reply::LENGTH;
 
-/// A reply of each kind. Those of net and of raw time are document 01's examples; the two others
-/// differ from them and from each other in every field.
+/// A reply of each kind. `NET` and `RAW` are document 01's examples. `CLOCK` and `ABSENT` differ
+/// from them and from each other in every field, except that `CLOCK` and `RAW` both have status R.
 const CLOCK: &[u8; LENGTH] = b"\x12R GmRz9876559999199250547240K235959999929022024xy\r";
 const NET: &[u8; LENGTH] = b"\x12R SOEA000120004100000101525510001125400+0000000  \r";
 const RAW: &[u8; LENGTH] = b"\x12R SOR10000700015000002000000P000000000000000000  \r";
@@ -24,7 +24,8 @@ const ABSENT: &[u8; LENGTH] = b"\x12R ~ Za5432130000100000999249s--:--.----no da
 
 const STATUSES: &[u8; 3] = b"REZ";
 
-/// Both sides of every limit, by rising offset. Run 000 is asked with each status, apart from these.
+/// Numbers on both sides of every limit, by rising offset. Run 000 is asked separately, with each
+/// status.
 pub const NUMBERS: [Number; 6] = [
     (
         at::NUMBER,
@@ -53,7 +54,8 @@ pub fn add_all(cases: &mut Cases, seed: u64) {
     writes::add_all(cases, seed);
 }
 
-/// A good record: a third each of clock letters, net letters and all letters.
+/// A good record: one third with clock letters, one third with net letters, one third with any
+/// letter.
 pub fn random_record(random: &mut Random) -> Reply {
     let status = random.pick(STATUSES);
     let information = match random.below(3) {
@@ -121,7 +123,7 @@ fn random_net(random: &mut Random) -> Timing {
     Timing::Net(signed_days * TICKS_OF_DAY + random_time(random))
 }
 
-/// The frame of a good record, spelled out here and not by the writer under comparison.
+/// The frame of a good record. It is built here, without the writer that is compared.
 pub fn frame_of(record: &Reply) -> Vec<u8> {
     let mut frame = b"\x12R ".to_vec();
     frame.extend([record.program, record.mode, record.status, record.requester]);

@@ -21,7 +21,7 @@ const UPPER: &[u8; LENGTH] = b"\x11R z99959999q240250199T\r";
 
 const LAST: usize = LENGTH - 1;
 
-/// Both sides of every limit of the numbers, in the order of their offsets.
+/// Values on both sides of every limit of the numbers, in the order of their offsets.
 const NUMBER_EDGES: &[u64] = &[0, 1, 99, 100, 255, 256, 998, 999];
 const BIB_EDGES: &[u64] = &[
     0, 1, 255, 256, 9_999, 10_000, 59_998, 59_999, 60_000, 60_001, 65_535, 65_536, 99_999,
@@ -33,7 +33,8 @@ const CHANNEL_EDGES: &[u64] = &[
 const RUN_EDGES: &[u64] = &[0, 1, 2, 249, 250, 251, 252, 255, 256, 506, 998, 999];
 const GROUP_EDGES: &[u64] = &[0, 1, 2, 198, 199, 200, 201, 255, 256, 455, 998, 999];
 
-/// Numbers that no field has digits for. Some are good values again if cut to 8 or 16 bits.
+/// Numbers that are too large for three digits. All but the first are too large for a bib too. Some
+/// are good values again if cut to 8 or 16 bits.
 const FAR_BEYOND: [u64; 8] = [
     1_000,
     60_000,
@@ -97,8 +98,8 @@ fn add_good_frames(cases: &mut Cases) {
     add_read(cases, b"\x11R a50030000L251125100B\r");
 }
 
-/// Every length from 0 to 30 in three ways: the frame cut, or followed by zeros; with CR as its
-/// last byte; with another last byte.
+/// Every length from 0 to 30 in three ways: the frame cut or filled up with zeros; the same with CR
+/// as its last byte; the same with another last byte.
 fn add_lengths(cases: &mut Cases) {
     for length in 0..=30 {
         let mut frame = SECOND.to_vec();
@@ -110,7 +111,7 @@ fn add_lengths(cases: &mut Cases) {
             }
         }
     }
-    // As long as the two other kinds, with this lead byte and with others.
+    // As long as the two other kinds, and longer, with each of the three lead bytes.
     for length in [46, 51, 100] {
         for lead in [0x11, 0x12, 0x13] {
             let mut frame = replaced(SECOND, 0, &[lead]);
@@ -137,12 +138,13 @@ fn add_surround_faults(cases: &mut Cases) {
     for last in *b"\x0c\x0e\x0a\x00 S0\x11\x8d\xff" {
         add_read(cases, &replaced(FIRST, LAST, &[last]));
     }
-    // The CR one place early is not the last byte, but stands in the output's place.
+    // A CR one place too early is in the output's place: once before another last byte, once before
+    // a CR.
     add_read(cases, &replaced(FIRST, LAST - 1, b"\rS"));
     add_read(cases, &replaced(FIRST, LAST - 1, b"\r\r"));
 }
 
-/// Every two faults together, and all from each one on, to show which refusal goes first.
+/// Every two faults together, and every end part of the list, to show which refusal comes first.
 fn add_several_faults(cases: &mut Cases) {
     let faults = faults_of::<Request>(b"\x13", &WRONG_FIELDS);
     for (low, &first) in faults.iter().enumerate() {
@@ -162,8 +164,8 @@ fn add_number_edges(cases: &mut Cases) {
     }
 }
 
-/// Every byte of every number in turn no digit: the neighbours of the digits, blanks, signs and
-/// bytes above 7Fh; then whole fields blank, and a wrong digit beside a value out of range.
+/// In each number every byte in turn is not a digit: the neighbours of the digits, blanks, signs
+/// and bytes above 7Fh. Then whole fields of blanks or nines, and nines that end with a blank.
 fn add_digit_faults(cases: &mut Cases) {
     for (offset, width, _) in NUMBERS {
         for place in offset..offset + width {
@@ -201,7 +203,7 @@ fn add_random_frames(cases: &mut Cases, random: &mut Random) {
     }
 }
 
-/// A good frame that nothing, one thing or two have befallen.
+/// A good frame with up to two random changes.
 pub fn random_frame(random: &mut Random) -> Vec<u8> {
     let mut frame = frame_of(&random_record(random));
     for _ in 0..random.below(3) {
@@ -226,8 +228,8 @@ pub fn random_record(random: &mut Random) -> Request {
     }
 }
 
-/// The frame of a record whose fields all have few enough digits, spelled out here and not by the
-/// writer under comparison.
+/// The frame of a record whose numbers fit their fields. It is built here, without the writer that
+/// is compared.
 pub fn frame_of(record: &Request) -> Vec<u8> {
     let mut frame = b"\x11R ".to_vec();
     frame.push(record.requester);
@@ -321,7 +323,7 @@ fn add_writes(cases: &mut Cases) {
     }
 }
 
-/// Every code of every letter to just enough room, and those at the edges to all rooms.
+/// Every code of every letter to just enough room, and the codes at the edges to all rooms.
 fn add_wrong_letters_to_write(cases: &mut Cases) {
     let edges: [(usize, &[u8]); 3] = [
         (at::REQUESTER, &REQUESTER_EDGES),
@@ -352,7 +354,7 @@ fn add_wrong_numbers_to_write(cases: &mut Cases) {
     }
 }
 
-/// Every two fields wrong together, and all from each one on.
+/// Every two fields wrong together, and every end part of the list.
 fn add_several_wrong_to_write(cases: &mut Cases) {
     let offsets = WRONG_FIELDS.map(|(offset, _)| offset);
     for (low, &first) in offsets.iter().enumerate() {
@@ -383,7 +385,7 @@ fn add_random_writes(cases: &mut Cases, random: &mut Random) {
     }
 }
 
-/// A record that nothing, one part or two are spoiled of, to a room that may be too small.
+/// A record with up to two wrong parts, written to a room that may be too small.
 pub fn random_write(random: &mut Random) -> String {
     let mut record = random_record(random);
     for _ in 0..random.below(3) {

@@ -5,7 +5,7 @@ use crate::random::Random;
 use crate::spelling::bytes_text;
 use crate::times::{MOST_NET_DAYS, TICKS_OF_DAY};
 
-/// The largest plain argument and the largest size of a VALUE.
+/// The largest plain argument and the largest absolute value of a VALUE.
 const LARGEST: i128 = (1 << 32) - 1;
 const LARGEST_VALUE: i128 = (1 << 63) - 1;
 
@@ -314,7 +314,7 @@ fn add_running(cases: &mut Cases) {
         }
     }
     for running in [
-        // The two extreme results, and the same with a bib of 0 as far as it may.
+        // The two extreme results, and the same with a bib of 0 as far as Tev allows.
         [1, 0, LAST_TICK, 0, 9, LAST_TICK],
         [1, LAST_TICK, 0, 1, 9, LAST_TICK],
         [0, 0, 0, 0, 9, LAST_TICK],
@@ -331,7 +331,7 @@ fn add_running(cases: &mut Cases) {
         [0, 0, LAST_TICK, 0, 0, 0],
         [0, 0, 0, 0, 1, 0],
         [0, 0, 0, 1, 0, 1],
-        // Several out of range at once.
+        // Several values out of range at once.
         [0, TICKS_OF_DAY, 1, 2, 10, TICKS_OF_DAY],
         [LARGEST; 6],
     ] {

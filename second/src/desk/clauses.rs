@@ -1,5 +1,6 @@
-//! What makes a desk: one function for each clause, in document 01's order. That there are sixteen
-//! seats is what the type of the row says. Every function takes any state and any memory.
+//! What makes a desk: one function for each clause, in the order of document 01. The clause of the
+//! sixteen seats is missing, because the type of the row fixes it. Every function takes any state
+//! and any memory.
 
 use super::{Desk, Key, Seat, CELL};
 use crate::frame::{is_requester, Kind};
@@ -36,7 +37,8 @@ fn is_a_requests(key: Key) -> bool {
 }
 
 fn no_two_used_seats_share_a_key(desk: &Desk) -> bool {
-    // A seat that is not the first one with its key shares it with that one.
+    // Each used seat must be the first one with its key. If it is not, it shares the key with the
+    // first one.
     desk.used_seats()
         .all(|(place, seat)| desk.seat_with(seat.key()) == Some(place))
 }
@@ -113,7 +115,7 @@ fn records_below_the_count(desk: &Desk) -> impl Iterator<Item = (&u32, &[u8])> {
     marks_below_the_count(desk).zip(desk.cells.chunks_exact(CELL))
 }
 
-/// The status byte of each of the seat's records, in their order.
+/// The status byte of each of the seat's records, in order.
 fn statuses_at(desk: &Desk, seat: usize) -> Vec<u8> {
     records_below_the_count(desk)
         .filter(|&(&mark, _)| names(mark, seat))
@@ -127,7 +129,7 @@ mod tests {
     use crate::desk::tests::{desk_of, reply, request};
     use crate::desk::{MOST_CELLS, SEATS};
 
-    /// The places of the clauses in their list.
+    /// The places of the clauses in `CLAUSES`.
     const BITS: usize = 0;
     const KEYS: usize = 1;
     const SHARED_KEYS: usize = 2;
@@ -162,7 +164,7 @@ mod tests {
         desk.cells[first..first + text.len()].copy_from_slice(text);
     }
 
-    /// Exactly these clauses no longer hold once the desk is spoiled.
+    /// Checks that exactly these clauses no longer hold once the desk is spoiled.
     fn check(expected: &[usize], spoil: impl FnOnce(&mut Desk)) {
         let mut desk = mixed();
         assert!(make_a_desk(&desk));
@@ -232,7 +234,7 @@ mod tests {
 
     #[test]
     fn counts() {
-        // A sixth mark that could be good, but no whole cell to it.
+        // A sixth mark that could be good, but its cell is not lent whole.
         check(&[COUNT], |desk| {
             desk.cells.truncate(5 * CELL + 50);
             desk.marks[5] = 1;

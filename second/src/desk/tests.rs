@@ -30,12 +30,12 @@ fn reply_with_bib(status: u8, requester: u8, number: u32, bib: u32) -> Vec<u8> {
     frame
 }
 
-/// An empty desk of so many cells.
+/// An empty desk with this many cells.
 pub fn desk_of(cells: usize) -> Desk {
     Desk::with(vec![0xee; cells * CELL], vec![0xeeee_eeee; cells])
 }
 
-/// A desk of these keys, in this order.
+/// A desk on which these keys have been opened, in this order.
 fn opened(cells: usize, keys: &[(u8, u32)]) -> Desk {
     let mut desk = desk_of(cells);
     for (seat, &(requester, number)) in keys.iter().enumerate() {
@@ -56,7 +56,7 @@ fn check_refused(desk: &Desk, refusal: Refusal, call: impl FnOnce(&mut Desk) -> 
 
 type Outcome = Result<usize, Refusal>;
 
-/// The seat's records, in their order.
+/// The seat's records, in order.
 fn records_at(desk: &Desk, seat: u32) -> Vec<&[u8]> {
     let mut records = Vec::new();
     let mut place = 0;
@@ -130,7 +130,7 @@ fn sixteen_seats_and_no_seventeenth() {
     let desk = opened(1, &sixteen_keys());
     assert_eq!(desk.bits, 0xffff);
     check_refused(&desk, Refusal::NoSeat, |desk| desk.open(&request(b'z', 7)));
-    // A key in use is told first, and no answer due before that.
+    // IN USE comes before NO SEAT, and NO ANSWER DUE comes before IN USE.
     check_refused(&desk, Refusal::InUse, |desk| desk.open(&request(b'P', 7)));
     check_refused(&desk, Refusal::NoAnswerDue, |desk| {
         desk.open(&request_for(b'P', 7, b'q'))
@@ -248,7 +248,7 @@ fn on_a_full_desk_the_other_refusals_go_first() {
     ] {
         check_refused(&desk, refusal, |desk| desk.reply(&frame));
     }
-    // No cell is needed to open.
+    // Opening needs no cell.
     assert_eq!(desk.open(&request(b'z', 8)), Ok(3));
 }
 
@@ -348,7 +348,7 @@ fn the_next_held_cell_is_below_the_count_and_the_capacity() {
     assert_eq!(desk.next_held(0, 0), None);
     desk.count = u32::MAX;
     assert_eq!(desk.next_held(7, 1), Some(2));
-    // There are three whole cells, and for the rest marks alone.
+    // There are three whole cells. Past them there are only marks.
     assert_eq!(desk.next_held(7, 3), None);
     assert_eq!(desk.next_held(7, usize::MAX), None);
     desk.marks.truncate(2);

@@ -24,7 +24,7 @@ fn request(requester: u8) -> Vec<u8> {
     frame
 }
 
-/// A reply to that request, told by its bib.
+/// A reply to the request of this requester. Its bib tells it apart from others.
 fn reply(requester: u8, bib: usize) -> Vec<u8> {
     let mut frame = FIRST.to_vec();
     frame[at::REQUESTER] = requester;
@@ -137,7 +137,8 @@ fn the_number_has_three_digits() {
     }
 }
 
-/// By seat first, and at a seat as they came in: not sorted by bib, nor by requester.
+/// Rows are ordered by seat, and within a seat as they came. They are not sorted by bib or by
+/// requester.
 #[test]
 fn rows_are_by_seat_and_in_order() {
     let mut capture = [request(b'z'), request(b'A'), request(b'1')].concat();
@@ -191,7 +192,7 @@ fn seventeen_requests() {
     assert!(list.ends_with("end\t16\t16\t0\t2\n"));
 }
 
-/// The desk tells the first two counts too: nothing leaves it.
+/// The desk has the first two counts too, because nothing leaves it.
 #[test]
 fn the_desk_has_what_was_opened_and_collected() {
     let frames = [REQUEST, FIRST, REQUEST, SECOND, OTHER_REQUEST, SECOND];

@@ -1,4 +1,4 @@
-//! Frames with fields at both sides of their bounds.
+//! Frames with fields on both sides of their bounds.
 
 use super::Maker;
 use crate::cases::frames::{put, REQUESTER_EDGES, TIMES};
@@ -6,7 +6,8 @@ use crate::random::Random;
 use crate::reply::{CLOCK_LETTERS, NET_LETTERS};
 use crate::{dynamic, reply};
 
-/// Parts of a time at their bounds, and some that are beyond at one place at least.
+/// Parts of a time at their bounds. The values of `BEYOND` are too large for the hours, and some
+/// also for the minutes and seconds.
 const HOURS: [u64; 8] = [0, 1, 9, 10, 19, 20, 22, 23];
 const SIXTIETHS: [u64; 8] = [0, 1, 9, 10, 49, 50, 58, 59];
 const FRACTIONS: [u64; 6] = [0, 1, 999, 1_000, 9_998, 9_999];
@@ -19,7 +20,7 @@ const YEARS: [u64; 12] = [
 ];
 const NET_DAYS: [u64; 7] = [0, 0, 1, 2, 999_999, 1_000_000, 9_999_999];
 
-/// A good frame, some fields of which are put at their bounds.
+/// A good frame in which some fields are put at their bounds.
 pub fn frame(maker: &Maker, random: &mut Random) -> Vec<u8> {
     let mut frame = (maker.good)(random);
     for _ in 0..random.pick(&[1, 1, 1, 2, 3, 6]) {
@@ -38,7 +39,8 @@ fn put_number(frame: &mut [u8], maker: &Maker, random: &mut Random) {
     put(frame, offset, format!("{value:0width$}").as_bytes());
 }
 
-/// A letter becomes one of its neighbours, or an end of the requesters.
+/// A letter becomes one of its neighbours, the byte that differs from it in bit 20h, or a byte at
+/// an edge of the requester ranges.
 fn put_letter(frame: &mut [u8], maker: &Maker, random: &mut Random) {
     let letter = &mut frame[random.pick(maker.letters)];
     *letter = match random.below(4) {
@@ -49,7 +51,8 @@ fn put_letter(frame: &mut [u8], maker: &Maker, random: &mut Random) {
     };
 }
 
-/// HHMMSSdddd at its bounds; once in three times one part is beyond, or the text is any of the list.
+/// HHMMSSdddd at its bounds. Once in three times one part is taken from `BEYOND`, or the text is
+/// one of `TIMES`.
 fn time(random: &mut Random) -> Vec<u8> {
     let mut parts = [
         random.pick(&HOURS),
@@ -66,7 +69,7 @@ fn time(random: &mut Random) -> Vec<u8> {
     format!("{hours:02}{minutes:02}{seconds:02}{fraction:04}").into_bytes()
 }
 
-/// DDMMYYYY, about as often a real day as not.
+/// DDMMYYYY, a real day about half the time.
 fn date(random: &mut Random) -> Vec<u8> {
     let year = match random.below(3) {
         0 => random.pick(&YEARS),
@@ -81,14 +84,15 @@ fn net_date(random: &mut Random) -> Vec<u8> {
     format!("{sign}{:07}", random.pick(&NET_DAYS)).into_bytes()
 }
 
-/// A request has no times; its channels have more bounds than numbers have edges.
+/// A request has no times. Instead its channel becomes a number from 236 to 259, where most of its
+/// limits are.
 pub fn put_times_of_request(frame: &mut [u8], random: &mut Random) {
     let channel = format!("{:03}", 236 + random.below(24));
     put(frame, crate::request::at::CHANNEL, channel.as_bytes());
 }
 
-/// A time and a date of one kind under a letter of that kind, under any status; now and then the
-/// letter is left. Run 000 goes with a status.
+/// A time and a date, with a letter of the same kind; once in five times the letter is not changed.
+/// Once in six times a status with run 000 or 001 instead.
 pub fn put_times_of_reply(frame: &mut [u8], random: &mut Random) {
     use reply::at;
     if random.once_in(6) {
@@ -107,7 +111,7 @@ pub fn put_times_of_reply(frame: &mut [u8], random: &mut Random) {
     put(frame, at::DATE, &date);
 }
 
-/// A time, or a period of nothing with any order.
+/// A time, or any order with a period of 00000 or 00001.
 pub fn put_times_of_dynamic(frame: &mut [u8], random: &mut Random) {
     use dynamic::at;
     if random.once_in(3) {
@@ -137,7 +141,7 @@ mod tests {
         }
     }
 
-    /// How often each field is the first wrong one, and under 0 how often a frame is good.
+    /// How often each field is the first wrong one. Under 0: how often a frame is good.
     fn offsets<Record: Kind>(maker: &Maker) -> BTreeMap<usize, usize> {
         let mut random = Random::new(1, "test");
         let mut offsets = BTreeMap::new();
@@ -161,7 +165,8 @@ mod tests {
         }
     }
 
-    /// But for a request's and a reply's number, every value of which is good.
+    /// Fields that are always or nearly always good are not checked, such as the number of a
+    /// request or a reply.
     #[test]
     fn every_bound_is_met_from_both_sides() {
         check(

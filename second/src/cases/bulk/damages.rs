@@ -1,11 +1,11 @@
-//! Damage cases: frames of which each byte is changed to each value.
+//! Damage cases: in a frame, each byte is changed to each value.
 
 use super::{bounds, frames_asked, Maker, MAKERS};
 use crate::random::Random;
 use crate::spelling::bytes_text;
 
-/// Damage cases that ask about as many frames as this at the most, and nearly as many. The kinds take
-/// turns.
+/// Damage cases that together ask about at most this many frames, and nearly as many. The kinds
+/// take turns.
 pub fn cases(random: &mut Random, most: u64) -> Vec<String> {
     let mut asked = 0;
     let makers = MAKERS.into_iter().cycle();
@@ -26,8 +26,8 @@ fn case(maker: &Maker, random: &mut Random) -> String {
     )
 }
 
-/// As a rule a good frame, or one with fields at their bounds; and once in eight times one that has
-/// a wrong byte before it is damaged.
+/// Usually a good frame or one with fields at their bounds. Once in eight times a byte of the frame
+/// is changed before it is damaged.
 fn frame(maker: &Maker, random: &mut Random) -> Vec<u8> {
     match random.below(8) {
         0 => {
@@ -40,7 +40,8 @@ fn frame(maker: &Maker, random: &mut Random) -> Vec<u8> {
     }
 }
 
-/// Another byte at some place: any one, a neighbour, one bit away, a digit, or one from elsewhere.
+/// Changes the byte at some place: to any byte, to a neighbour, by one bit, to a digit, or by
+/// swapping it with another byte of the frame.
 pub fn change_byte(frame: &mut [u8], random: &mut Random) {
     let place = random.place(frame.len());
     match random.below(6) {

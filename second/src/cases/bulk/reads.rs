@@ -1,4 +1,4 @@
-//! Plain reads, each of a frame of its own.
+//! Plain reads. Each asks about one frame.
 
 use super::damages::change_byte;
 use super::{bounds, Maker, MAKERS};
@@ -31,7 +31,7 @@ fn frame(maker: &Maker, random: &mut Random) -> Vec<u8> {
     }
 }
 
-/// One byte to three are others.
+/// A good frame in which one to three bytes are changed.
 fn slightly_damaged(maker: &Maker, random: &mut Random) -> Vec<u8> {
     let mut frame = (maker.good)(random);
     for _ in 0..1 + random.below(3) {
@@ -40,7 +40,7 @@ fn slightly_damaged(maker: &Maker, random: &mut Random) -> Vec<u8> {
     frame
 }
 
-/// A frame cut, or followed by any bytes; its last byte may be a CR.
+/// A frame that is too short or is followed by random bytes. Its last byte may be a CR.
 fn of_any_length(maker: &Maker, random: &mut Random) -> Vec<u8> {
     let mut frame = (maker.good)(random);
     let length = match random.below(3) {
@@ -55,7 +55,7 @@ fn of_any_length(maker: &Maker, random: &mut Random) -> Vec<u8> {
     frame
 }
 
-/// Any bytes, half of them as many as a frame of this kind has. Most begin as its frames do.
+/// Random bytes, half the time as many as a frame of this kind has. Most begin as its frames do.
 fn of_any_bytes(maker: &Maker, random: &mut Random) -> Vec<u8> {
     let good = (maker.good)(random);
     let length = match random.below(2) {
@@ -69,7 +69,7 @@ fn of_any_bytes(maker: &Maker, random: &mut Random) -> Vec<u8> {
     frame
 }
 
-/// A frame of this or another kind, half of them with a lead byte of this or another kind.
+/// A frame of any kind. Half the time its lead byte is replaced by a byte from 10h to 14h.
 fn of_any_kind(random: &mut Random) -> Vec<u8> {
     let mut frame = (random.pick(&MAKERS).good)(random);
     if random.once_in(2) {
@@ -78,7 +78,7 @@ fn of_any_kind(random: &mut Random) -> Vec<u8> {
     frame
 }
 
-/// For two of three frames that have a last byte.
+/// Puts a CR in the last byte, if there is one, two times in three.
 fn end_with_cr(frame: &mut [u8], random: &mut Random) {
     if let Some(last) = frame.last_mut() {
         if !random.once_in(3) {

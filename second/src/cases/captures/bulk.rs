@@ -1,4 +1,4 @@
-//! Captures in bulk: for each seed a piece of so many captures.
+//! Captures in bulk: for each seed a piece with a given number of captures.
 
 use super::{key, keys, requests, Capture, Frames};
 use crate::cases::desk::frames::{random_reply, request, E, R, Z};
@@ -7,10 +7,11 @@ use crate::desk::SEATS;
 use crate::listing::MOST_BYTES;
 use crate::random::Random;
 
-/// The longest capture there is; it is too long by far.
+/// The longest capture of all. It is much too long to have a list.
 const LONGEST: usize = 70_000;
 
-/// Bytes of captures that have many frames, with ever fewer leads and CRs.
+/// Bytes for captures that have many frames. From one row to the next, lead bytes and CRs become
+/// rarer.
 const ALPHABETS: [&[u8]; 4] = [
     b"\x11\x12\x13\r",
     b"\x11\x12\x13\r\ra\n",
@@ -38,13 +39,13 @@ fn capture(random: &mut Random) -> Capture {
     }
 }
 
-/// Frames of all kinds, good and not, cut and with noise between them, up to this length.
+/// Frames of all kinds up to this length: good, wrong and cut, with noise between them.
 fn mixed(random: &mut Random, most: usize) -> Capture {
     let length = random.place(most + 1);
     super::random::capture(random, length)
 }
 
-/// Just as long as a list may be made of, or some bytes more or less.
+/// Exactly as long as the longest capture that has a list, or up to three bytes shorter or longer.
 fn about_the_longest(random: &mut Random) -> Capture {
     let length = MOST_BYTES - 3 + random.place(7);
     super::random::capture(random, length)
@@ -70,8 +71,8 @@ fn of_any_bytes(random: &mut Random) -> Capture {
     random.bytes(length)
 }
 
-/// Good requests and the replies to them, with dynamic requests between. The replies of each come
-/// as they come: an R as a rule, and an end once in so many times.
+/// Good requests and replies to them, with dynamic requests between. Most replies are an R; an E or
+/// a Z comes once in `end_once_in` times.
 fn conversation(random: &mut Random, frames: usize, end_once_in: u64) -> Frames {
     let number_of_keys = 1 + random.place(SEATS + 2);
     let mut heard = requests(&keys(number_of_keys));
@@ -90,13 +91,13 @@ fn conversation(random: &mut Random, frames: usize, end_once_in: u64) -> Frames 
     heard
 }
 
-/// About as many replies as there are cells.
+/// A conversation with about as many replies as there are cells.
 fn full(random: &mut Random) -> Capture {
     let frames = 250 + random.place(80);
     conversation(random, frames, 200).concat()
 }
 
-/// A good conversation over a bad line.
+/// A good conversation with transmission errors.
 fn worn(random: &mut Random) -> Capture {
     let frames = random.place(40);
     let mut capture = conversation(random, frames, 8).concat();
@@ -106,7 +107,7 @@ fn worn(random: &mut Random) -> Capture {
     capture
 }
 
-/// Bytes changed, lost, heard twice or put in between.
+/// Changes, removes, repeats or inserts bytes.
 fn wear(capture: &mut Capture, random: &mut Random) {
     let place = random.place(capture.len().max(1));
     let Some(byte) = capture.get_mut(place) else {
@@ -168,7 +169,8 @@ mod tests {
         assert_eq!(within(LONGEST + 1, usize::MAX), 0);
     }
 
-    /// But for KIND and END, which no whole frame can meet that goes to the call of its lead byte.
+    /// Every refusal that a whole frame can get from the call of its lead byte. KIND and END cannot
+    /// occur there.
     #[test]
     fn every_refusal_of_a_whole_frame_comes() {
         let captures = piece(1, 400);

@@ -1,4 +1,4 @@
-//! Counts at which a digit is added, or just before it.
+//! Counts that have just gained a digit, or are about to.
 
 use super::Capture;
 use crate::cases::dynamic::{MINUS, PLUS};
@@ -9,7 +9,7 @@ pub fn captures() -> Vec<Capture> {
     [&both[..], &refused].concat()
 }
 
-/// So many lead bytes and nothing else, all of them cut.
+/// This many lead bytes and nothing else. All of these frames are cut.
 pub fn leads(count: usize) -> Capture {
     let leads = [0x13, 0x12, 0x11, 0x11];
     leads.into_iter().cycle().take(count).collect()

@@ -1,4 +1,4 @@
-//! Frames that do not come to their CR, or come to one too early.
+//! Frames that do not reach their CR, or that have a CR too early.
 
 use super::{Capture, ONE, OTHER};
 use crate::cases::desk::frames::{reply, request, E, R};
@@ -20,7 +20,7 @@ pub fn captures() -> Vec<Capture> {
     ]
 }
 
-/// The beginnings of a frame, each cut by the whole frame.
+/// Every beginning of a frame, each cut by the whole frame after it.
 fn cut_at_every_length(frame: &[u8]) -> Capture {
     let mut capture = [request(ONE), reply(R, ONE)].concat();
     for length in 1..frame.len() {
@@ -30,13 +30,13 @@ fn cut_at_every_length(frame: &[u8]) -> Capture {
     capture
 }
 
-/// The last frame would be taken if it were whole.
+/// The last frame is cut by the end. It would be taken if it were whole.
 fn cut_by_the_end(length: usize) -> Capture {
     let last = reply(E, ONE);
     [&request(ONE)[..], &reply(R, ONE), &last[..length]].concat()
 }
 
-/// Every two lead bytes before a good frame of each kind, and three before a CR.
+/// Every pair of lead bytes before a good frame of each kind, and three lead bytes before a CR.
 fn leads_back_to_back() -> Capture {
     let frames = [request(ONE), reply(R, ONE), PLUS.to_vec()];
     let mut capture = Capture::new();
@@ -52,7 +52,7 @@ fn leads_back_to_back() -> Capture {
     capture
 }
 
-/// A reply with a lead byte in place of each of its bytes in turn, its CR too.
+/// A reply in which each byte in turn is replaced by a lead byte, including its CR.
 fn a_lead_at_every_place() -> Capture {
     let mut capture = [request(ONE), request(OTHER)].concat();
     let frame = reply(R, OTHER);
@@ -62,7 +62,7 @@ fn a_lead_at_every_place() -> Capture {
     [capture, frame].concat()
 }
 
-/// A reply and a dynamic request with a CR in place of each of their bytes in turn.
+/// A reply and a dynamic request in which each byte in turn is replaced by a CR.
 fn a_cr_at_every_place() -> Capture {
     let mut capture = request(OTHER);
     for frame in [reply(R, OTHER), PLUS.to_vec()] {
@@ -83,17 +83,18 @@ mod tests {
         check_ends(
             &captures(),
             &[
-                // The key is in use before the first cut.
+                // The key is already in use before the first cut.
                 [1, 1, 0, 2 * 23],
                 [1, 1 + 50, 0, 50],
                 [1, 1, 45, 45],
                 [1, 1, 0, 1],
                 [1, 1, 0, 1],
-                // Of nine requests one is opened; nine leads more are refused with each pair.
+                // Of nine requests one is opened. With each pair nine more lead bytes are refused.
                 [1, 9, 9, 8 + 9 * 9],
-                // One frame has another lead byte, all others become two.
+                // One frame gets another lead byte. All the others become two frames.
                 [2, 1, 0, 1 + 2 * 50],
-                // Where it is the lead byte there is no frame, where it is the CR it is a good one.
+                // If the lead byte is replaced there is no frame. If the CR is replaced the frame
+                // is good.
                 [1, 1, 1, 49 + 44],
             ],
         );

@@ -13,8 +13,9 @@ pub fn captures() -> Vec<Capture> {
     [to_one_seat, spread].concat()
 }
 
-/// So many replies to these keys in turn, the last of them an E. Then comes a request more, which
-/// needs no cell, and replies that are taken if a cell is left.
+/// This many replies to these keys in turn, the last of them an E. Then one more request, which
+/// needs no cell. Of the replies that follow, the first, a Z, is taken if a cell is left. The
+/// others are always refused.
 fn many_replies(count: usize, keys: &[Key]) -> Capture {
     let mut capture = requests(keys).concat();
     for number in 1..count {
@@ -35,7 +36,7 @@ mod tests {
     use super::*;
     use crate::cases::captures::tests::check_ends;
 
-    /// After 255 replies a Z is taken yet; all other late replies are refused.
+    /// After 255 replies one more is taken, the Z. All other late replies are refused.
     #[test]
     fn there_are_256_cells() {
         let taken_and_refused = [[256, 4], [256, 5], [256, 6], [256, 49]];

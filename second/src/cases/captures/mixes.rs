@@ -1,12 +1,12 @@
-//! Several requests, and replies of each status in all kinds of order.
+//! Several requests, with replies of each status in many orders.
 
 use super::{keys, replies, requests, Capture, Frames, ONE, OTHER};
 use crate::cases::desk::frames::{reply, reply_with_bib, request, Key, E, R, Z};
 use crate::cases::replaced;
 use crate::reply::{at, CLOCK_LETTERS, INFORMATION, NET_LETTERS};
 
-/// Every word of one, two or three statuses is one request's replies, in groups that the seats are
-/// enough for.
+/// Every word of one, two or three statuses is the replies to one request. The words are in groups
+/// that fit the seats. Then come captures for single subjects.
 pub fn captures() -> Vec<Capture> {
     let short = [words(1), words(2)].concat();
     let long = words(3);
@@ -24,7 +24,7 @@ pub fn captures() -> Vec<Capture> {
     captures
 }
 
-/// All words of so many statuses.
+/// All words of this many statuses.
 fn words(length: usize) -> Vec<String> {
     let mut words = vec![String::new()];
     for _ in 0..length {
@@ -43,13 +43,13 @@ fn answers(words: &[String]) -> Vec<Frames> {
     words.map(|(key, word)| replies(key, word)).collect()
 }
 
-/// All requests, then one word after the other.
+/// All requests, then the replies of one word after the other.
 fn word_by_word(words: &[String]) -> Capture {
     let requests = requests(&keys(words.len()));
     [requests.concat(), answers(words).concat().concat()].concat()
 }
 
-/// Each request is heard just before its own replies, when others have ended.
+/// Each request is heard just before its own replies, after the replies to the requests before it.
 fn requests_between(words: &[String]) -> Capture {
     let requests = requests(&keys(words.len()));
     let pairs = requests.into_iter().zip(answers(words));
@@ -58,8 +58,8 @@ fn requests_between(words: &[String]) -> Capture {
         .collect()
 }
 
-/// The first reply of every word, then the second of every word, and so on; each time the last
-/// word's goes first.
+/// The first reply of every word, then the second of every word, and so on. In each turn the last
+/// word comes first.
 fn in_turns(words: &[String]) -> Capture {
     let answers = answers(words);
     let turns = answers.iter().map(Vec::len).max().unwrap_or(0);
@@ -72,8 +72,8 @@ fn in_turns(words: &[String]) -> Capture {
     capture
 }
 
-/// A key opened again before its first record, between records and after its end; and keys that are
-/// like it in one part alone.
+/// A key is opened again before its first record, between records and after its end. Other keys
+/// differ from it in only one part.
 fn a_key_again() -> Capture {
     [
         request(ONE),
@@ -114,8 +114,8 @@ fn the_same_reply_again() -> Capture {
     [request(ONE), request(OTHER), record, last].concat()
 }
 
-/// Replies that differ in every field, of clock, net and raw time and not available; some with a
-/// time or a date that does not suit their letter.
+/// Replies with clock, net and raw time, and replies that are not available. Some have a time or a
+/// date that does not suit their letter.
 fn all_kinds() -> Capture {
     let frames: [&[u8]; 11] = [
         b"\x11R z98700000P000000000S\r",
@@ -133,7 +133,7 @@ fn all_kinds() -> Capture {
     frames.concat()
 }
 
-/// Time and date that suit the letter.
+/// A time and a date that suit the letter.
 fn timing(letter: u8) -> &'static [u8] {
     if CLOCK_LETTERS.contains(&letter) {
         b"123456789831122099"
@@ -144,7 +144,7 @@ fn timing(letter: u8) -> &'static [u8] {
     }
 }
 
-/// A reply with every letter, its bib counting down.
+/// A reply with every letter. The bibs decrease.
 fn all_letters() -> Capture {
     let mut capture = [request(ONE), request(OTHER)].concat();
     for (number, &letter) in INFORMATION.iter().enumerate() {
@@ -156,7 +156,8 @@ fn all_letters() -> Capture {
     capture
 }
 
-/// Both ends of the raw bytes, alone and all over, wherever a reply has raw bytes.
+/// The lowest and the highest raw byte, mixed and filling whole fields, wherever a reply has raw
+/// bytes.
 fn blanks_and_tildes() -> Capture {
     let patches: [(usize, &[u8]); 9] = [
         (at::TIME, b"          "),
@@ -191,7 +192,7 @@ mod tests {
         assert_eq!(words(3).len(), 27);
     }
 
-    /// Of the short words, fourteen replies of 21 are taken: the three single ones, two each of RR
+    /// Of the short words, 14 of the 21 replies are taken: the three single ones, two each of RR
     /// and RE, and one of each other word.
     #[test]
     fn words_are_taken_up_to_their_end() {

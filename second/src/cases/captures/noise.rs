@@ -1,4 +1,4 @@
-//! Bytes that belong to no frame, and every byte at a place in one.
+//! Bytes that belong to no frame, and every byte value at one place inside a frame.
 
 use super::short::EXAMPLE;
 use super::{replies, requests, Capture, ONE, OTHER};
@@ -29,7 +29,7 @@ fn all_but_leads() -> Vec<u8> {
     (0..=u8::MAX).filter(|&code| !is_lead(code)).collect()
 }
 
-/// LF after each frame.
+/// An LF after each frame.
 fn line_feeds() -> Capture {
     let mut capture = Capture::new();
     for frame in EXAMPLE.into_iter().chain([&PLUS[..]]) {
@@ -48,7 +48,7 @@ fn noise_between(noise: &[u8]) -> Capture {
     [noise, &frames.join(noise), noise].concat()
 }
 
-/// After each byte comes a frame: a reply, or a dynamic request once in four times.
+/// After each byte comes a frame: a dynamic request once in four times, otherwise a reply.
 fn each_byte_between() -> Capture {
     let mut capture = [request(ONE), request(OTHER)].concat();
     for code in all_bytes() {
@@ -62,7 +62,7 @@ fn each_byte_between() -> Capture {
     capture
 }
 
-/// Each byte as the last raw one of a reply.
+/// Each byte value as the last raw byte of a reply.
 fn each_byte_in_a_reply() -> Capture {
     let mut capture = request(ONE);
     for code in all_bytes() {
@@ -79,8 +79,8 @@ fn each_byte_in_a_dynamic_request() -> Capture {
     frames.flatten().collect()
 }
 
-/// The example as it is without lead bytes, with letters in their place, and with lead bytes that
-/// have their top bit set.
+/// The example without its lead bytes: left out, or replaced by letters, by lead bytes with their
+/// top bit set, or by CR and LF.
 fn without_lead_bytes() -> Capture {
     let mut capture = Capture::new();
     for lead in [&b""[..], b"H", b"D", b"\x91", b"\x92", b"\x93", b"\r\n"] {
@@ -105,10 +105,11 @@ mod tests {
             &[
                 [2, 3, 1, 1],
                 [2, 4, 1, 0],
-                // Three lead bytes in each of eight noises, and no frame is lost.
+                // Three lead bytes in each of eight stretches of noise, and no frame is lost.
                 [2, 4, 1, 3 * 8],
                 [2, 192, 64, 3],
-                // The 95 raw bytes and a last record; a lead byte inside makes two frames of one.
+                // The 95 raw bytes and a last record are taken. A lead byte inside a frame makes
+                // two frames of it.
                 [1, 95 + 1, 0, 161 + 3],
                 [0, 0, 6, 250 + 3],
                 [0, 0, 0, 0],

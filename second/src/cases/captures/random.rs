@@ -1,4 +1,4 @@
-//! Random captures, with everything in them that can befall a frame.
+//! Random captures with every kind of fault that a frame can have.
 
 use super::{key, keys, requests as requests_to, Capture};
 use crate::cases::desk::frames::{random_reply, request, request_for, Key, E, R, Z};
@@ -8,15 +8,16 @@ use crate::random::Random;
 
 const CAPTURES: usize = 60;
 
-/// The least length of the first capture, and how much more each next one has at the least. So all
-/// of them stay below 3,000 bytes, and all together have about as many with any seed.
+/// The least length of the first capture, and how much it grows from one capture to the next. All
+/// captures stay below 3,000 bytes, and their total length is about the same for any seed.
 const SHORTEST: usize = 200;
 const STEP: usize = 46;
 
-/// How many keys a capture has. Seats are not enough for the last two.
+/// How many keys a capture has. The seats are not enough for the last two.
 const NUMBERS_OF_KEYS: [usize; 6] = [2, 3, 5, 9, 17, 20];
 
-/// A capture has one request at its beginning for so many bytes, as far as its keys go.
+/// A capture begins with one request for every `BYTES_A_REQUEST` bytes of its length, but with no
+/// more requests than it has keys.
 const BYTES_A_REQUEST: usize = 100;
 
 pub fn captures(random: &mut Random) -> Vec<Capture> {
@@ -28,7 +29,7 @@ pub fn captures(random: &mut Random) -> Vec<Capture> {
         .collect()
 }
 
-/// Some requests, then pieces up to this length. The last one is cut to fit, or LFs take its place.
+/// Some requests, then pieces up to this length. The last piece is cut to fit or replaced by LFs.
 pub fn capture(random: &mut Random, length: usize) -> Capture {
     let number_of_keys = random.pick(&NUMBERS_OF_KEYS);
     let opened = number_of_keys.min(length / BYTES_A_REQUEST);
@@ -45,7 +46,7 @@ pub fn capture(random: &mut Random, length: usize) -> Capture {
     capture
 }
 
-/// One frame, good or not, or some bytes that are none.
+/// One frame, good or not, or some bytes that are not a frame.
 fn piece(random: &mut Random, number_of_keys: usize) -> Vec<u8> {
     let own = key(random.place(number_of_keys));
     match random.below(24) {
@@ -62,7 +63,7 @@ fn piece(random: &mut Random, number_of_keys: usize) -> Vec<u8> {
     }
 }
 
-/// A reply to this key, all its other fields at random.
+/// A reply to this key. All its other fields are random.
 fn good_reply(random: &mut Random, own: Key) -> Vec<u8> {
     let status = match random.below(12) {
         0 => E,
@@ -86,7 +87,7 @@ fn good_frame(random: &mut Random, own: Key) -> Vec<u8> {
     }
 }
 
-/// A frame that something has befallen; now and then it is a good one still.
+/// A frame with a random change. Sometimes it is still good.
 fn damaged(random: &mut Random, own: Key) -> Vec<u8> {
     let mut frame = good_frame(random, own);
     let numbers = match frame[0] {
@@ -98,14 +99,14 @@ fn damaged(random: &mut Random, own: Key) -> Vec<u8> {
     frame
 }
 
-/// A frame without its end.
+/// The beginning of a frame.
 fn begun(random: &mut Random, own: Key) -> Vec<u8> {
     let mut frame = good_frame(random, own);
     frame.truncate(1 + random.place(frame.len() - 1));
     frame
 }
 
-/// Any bytes, or lead bytes and CRs alone.
+/// Random bytes, or only lead bytes and CRs.
 fn noise(random: &mut Random) -> Vec<u8> {
     let length = random.place(12);
     if random.once_in(2) {
@@ -132,7 +133,7 @@ mod tests {
         }
     }
 
-    /// But for FULL: no capture is long enough for it.
+    /// Every refusal that a whole frame can get, except FULL: no capture is long enough for it.
     #[test]
     fn every_refusal_of_a_whole_frame_comes() {
         let captures = captures(&mut Random::new(1, "test"));

@@ -1,4 +1,4 @@
-//! Frames that come whole and are turned away, each with some that are not.
+//! Whole frames that are refused, together with some that are not.
 
 use super::{replies, Capture, Frames, ONE, OTHER};
 use crate::cases::desk::frames::{
@@ -27,7 +27,7 @@ pub fn captures() -> Vec<Capture> {
     ]
 }
 
-/// Replies that have only their number or only their requester from a request.
+/// Replies whose key no request has. Most of them share the requester or the number of a request.
 fn strays() -> Capture {
     let mut capture = [request(ONE), request(OTHER)].concat();
     for stray in [
@@ -48,7 +48,7 @@ fn strays() -> Capture {
     capture
 }
 
-/// No request has such a number, though some are like one's if they are cut to three digits or to
+/// No request has such a number. Some of them would match a request if cut to three digits or to
 /// sixteen bits.
 fn numbers_above_999() -> Capture {
     let mut capture = [request(ONE), request((b'A', 999)), request((b'z', 0))].concat();
@@ -65,7 +65,7 @@ fn numbers_above_999() -> Capture {
     capture
 }
 
-/// A frame for each damage; then it comes undamaged.
+/// A frame with each damage, then the frame without damage.
 fn damaged_requests() -> Capture {
     let frame = request(ONE);
     let mut damaged: Frames = REQUEST_DAMAGES
@@ -76,8 +76,8 @@ fn damaged_requests() -> Capture {
     [damaged.concat(), frame, reply(E, ONE)].concat()
 }
 
-/// Damaged replies to this key, with one request open. A good reply stands between any two, so that
-/// the bytes of a frame that has lost its lead byte or its CR end somewhere.
+/// Damaged replies to this key, with one request open. A good reply is between any two of them. It
+/// ends the bytes of a frame that has lost its lead byte or its CR.
 fn damaged_replies(key: Key) -> Capture {
     let frame = reply(R, key);
     let mut damaged: Frames = REPLY_DAMAGES
@@ -89,8 +89,8 @@ fn damaged_replies(key: Key) -> Capture {
     [request(ONE), good.clone(), damaged.join(&good[..]), good].concat()
 }
 
-/// Frames of each kind that are too short and too long, a lead byte with a CR, and a frame of each
-/// kind under the lead byte of another.
+/// Frames of each kind that are too short or too long, a lead byte followed by a CR, and a frame of
+/// each kind with each of the three lead bytes.
 fn wrong_lengths() -> Capture {
     let frames = [request(ONE), reply(R, OTHER), PLUS.to_vec()];
     let mut capture = request(OTHER);
@@ -105,7 +105,7 @@ fn wrong_lengths() -> Capture {
     [capture, long, reply(R, ONE)].concat()
 }
 
-/// Good ones, some of them before the first request and some of them twice.
+/// Good dynamic requests, some before the first request and some twice.
 fn dynamic_requests() -> Capture {
     let mut capture = [*PLUS, *MINUS, *MINUS_ZERO, *PLUS].concat();
     capture.extend(request(ONE));
@@ -117,8 +117,8 @@ fn dynamic_requests() -> Capture {
     capture
 }
 
-/// One for each wrong field, each before a good one; and those with something wrong around the
-/// fields.
+/// A dynamic request for each wrong field, each followed by a good one. Then those with something
+/// wrong around the fields.
 fn wrong_dynamic_requests() -> Capture {
     let mut capture = Capture::new();
     for (offset, wrong) in WRONG_FIELDS {
@@ -129,12 +129,12 @@ fn wrong_dynamic_requests() -> Capture {
     [capture, around.concat()].concat()
 }
 
-/// Both sides of every limit.
+/// Dynamic requests with each number on both sides of its limits.
 fn dynamic_edges() -> Capture {
     with_number_edges(MINUS, &NUMBERS).concat()
 }
 
-/// The letter that no answer is due to, with a free key and with one in use; and replies to it.
+/// The letter that no answer is due to, with a free key and with a key in use, and replies to it.
 fn no_answer_due() -> Capture {
     [
         request_for(ONE, b'q'),
@@ -149,7 +149,7 @@ fn no_answer_due() -> Capture {
     .concat()
 }
 
-/// Every status after an E, after a Z and after an E that came first.
+/// Every status after R and E, after a Z, and after an E that came first.
 fn after_the_end() -> Capture {
     let third = (b'z', 999);
     [
@@ -164,7 +164,7 @@ fn after_the_end() -> Capture {
     .concat()
 }
 
-/// A Z after records, which go on.
+/// A Z after records. For one of the two requests, records go on after it.
 fn out_of_place() -> Capture {
     [
         request(ONE),
@@ -187,7 +187,7 @@ mod tests {
             &[
                 [2, 3, 0, 21],
                 [3, 3, 0, 27],
-                // Frames that have lost their lead byte are no frames.
+                // Frames that have lost their lead byte are not frames.
                 [1, 1, 0, 16 + 19],
                 [1, 49, 0, 25 + 19],
                 [1, 49, 0, 25 + 19],

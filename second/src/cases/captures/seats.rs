@@ -4,7 +4,7 @@ use super::{key, keys, replies, requests, Capture};
 use crate::cases::desk::frames::{reply, reply_with_bib, request, E, R, Z};
 use crate::desk::SEATS;
 
-/// One more than there are seats for.
+/// One more than there are seats.
 const SEVENTEEN: usize = SEATS + 1;
 
 pub fn captures() -> Vec<Capture> {
@@ -23,7 +23,7 @@ fn seventeen_requests() -> Capture {
     requests(&keys(SEVENTEEN)).concat()
 }
 
-/// A record for each request in this order, then the end of each.
+/// A record for each request in this order, then the last record of each.
 fn replies_in_order(order: &[usize]) -> Capture {
     let mut capture = seventeen_requests();
     for status in [R, E] {
@@ -34,7 +34,7 @@ fn replies_in_order(order: &[usize]) -> Capture {
     capture
 }
 
-/// The last seat with one digit and those with two, the last one first.
+/// Replies to the last seat with one digit and to those with two digits, the highest seat first.
 fn two_digit_seats() -> Capture {
     let mut capture = seventeen_requests();
     for place in (9..SEATS).rev() {
@@ -43,7 +43,7 @@ fn two_digit_seats() -> Capture {
     capture
 }
 
-/// Seats are not free again when they have ended.
+/// A seat that has ended does not become free again.
 fn all_ended() -> Capture {
     let mut capture = requests(&keys(SEATS)).concat();
     for place in 0..SEATS {

@@ -1,4 +1,4 @@
-//! The example, and captures that hold next to nothing.
+//! The example, and captures with at most one frame.
 
 use super::{Capture, ONE};
 use crate::cases::desk::frames::{reply, request, R};

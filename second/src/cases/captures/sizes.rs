@@ -1,4 +1,4 @@
-//! Captures about as long as the longest that has a list.
+//! Captures about as long as the longest one that has a list.
 
 use super::{counts, key, keys, requests, Capture};
 use crate::cases::desk::frames::{reply_with_bib, R};
@@ -15,8 +15,8 @@ pub fn captures() -> Vec<Capture> {
     captures
 }
 
-/// Just as long as this, with the CR of a dynamic request as its last byte: a byte less would be a
-/// frame less.
+/// A capture of exactly this length. Its last byte is the CR of a dynamic request, so one byte less
+/// would mean one frame less.
 fn filled(length: usize) -> Capture {
     let last = PLUS;
     let mut capture = requests(&keys(SEATS)).concat();
@@ -32,7 +32,8 @@ fn filled(length: usize) -> Capture {
     capture
 }
 
-/// A reply and, so that the cells are enough, more that takes none.
+/// A reply and two dynamic requests, which take no cell. This way there are enough cells for all
+/// replies.
 fn frames_of_turn(turn: usize) -> Vec<u8> {
     let reply = reply_with_bib(R, key(turn % SEATS), turn);
     [&reply[..], PLUS, b"\r\n", MINUS].concat()

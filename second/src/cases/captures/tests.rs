@@ -24,7 +24,7 @@ fn end(capture: &[u8]) -> [usize; 4] {
     counts.try_into().expect("four counts")
 }
 
-/// These captures end with these counts, and there are no other captures.
+/// Checks that these captures end with these counts, one entry for each capture.
 pub fn check_ends(captures: &[Capture], expected: &[[usize; 4]]) {
     let ends: Vec<[usize; 4]> = captures.iter().map(|capture| end(capture)).collect();
     assert_eq!(ends, expected);
@@ -51,7 +51,7 @@ pub fn taken_and_refused(captures: &[Capture]) -> (usize, usize) {
     })
 }
 
-/// The numbers of all refusals that whole frames of these captures meet.
+/// The numbers of all refusals that whole frames of these captures get.
 pub fn refusals(captures: &[Capture]) -> BTreeSet<u8> {
     captures
         .iter()
@@ -91,7 +91,7 @@ fn no_capture_comes_twice() {
     assert_eq!(different.len(), captures.len());
 }
 
-/// As many as the lead bytes, whatever else is in a capture.
+/// The four counts add up to the number of lead bytes, whatever else is in the capture.
 fn check_sum(capture: &[u8]) {
     if capture.len() <= MOST_BYTES {
         let leads = capture.iter().filter(|&&code| is_lead(code)).count();
@@ -111,8 +111,9 @@ fn counts_add_up_to_the_lead_bytes() {
     }
 }
 
-/// But for those that no whole frame can meet which goes to the call of its lead byte: KIND and
-/// END, and what is not a reader's or a desk's.
+/// Every refusal that can occur here. A whole frame is given to the call of its lead byte, so KIND
+/// and END cannot occur. The desk is always good, so DESK cannot occur. RECORD, ROOM and TIME
+/// belong to other calls.
 #[test]
 fn every_refusal_comes() {
     let expected = BTreeSet::from([2, 4, 5, 10, 11, 12, 13, 14, 15, 16]);

@@ -1,5 +1,5 @@
-//! Scripts in bulk: for each seed a piece of so many scripts. Each begins by lending, or with a case
-//! that leaves an empty desk, so that it can be asked alone.
+//! Scripts in bulk: for each seed a piece with a given number of scripts. Each begins with `lend`,
+//! or with `mixes`, which leaves an empty desk. So each script can be asked alone.
 
 mod conversations;
 mod full;
@@ -36,14 +36,14 @@ fn script(random: &mut Random) -> Vec<String> {
     cases.text.lines().map(str::to_string).collect()
 }
 
-/// Lends so many whole cells, at times with some bytes of one more, and about as many marks.
+/// Lends this many whole cells, sometimes with some bytes of one more, and about as many marks.
 fn lend<'a>(cases: &'a mut Cases, cells: usize, random: &mut Random) -> Script<'a> {
     let bytes = cells * CELL + random.pick(&[0, 0, 0, 1, 50]);
     let marks = cells + random.pick(&[0, 0, 0, 1, 2]);
     Script::lend(cases, bytes, marks)
 }
 
-/// Keys that often have one part in common with another.
+/// A random key. It often has one part in common with other keys.
 fn random_key(random: &mut Random) -> Key {
     let requester = random.pick(b"11AAaaz09ZBb");
     let number = match random.below(4) {
@@ -53,7 +53,7 @@ fn random_key(random: &mut Random) -> Key {
     (requester, number)
 }
 
-/// So many keys, all different.
+/// This many keys, all different.
 fn different_keys(count: usize, random: &mut Random) -> Vec<Key> {
     let mut keys = Vec::new();
     while keys.len() < count {
@@ -65,7 +65,7 @@ fn different_keys(count: usize, random: &mut Random) -> Vec<Key> {
     keys
 }
 
-/// The keys of the seats in use, as far as frames can have them.
+/// The keys of the seats in use, if frames can have them.
 fn open_keys(script: &Script) -> Vec<Key> {
     let desk = script.desk();
     let seats = desk.seats.iter().enumerate();
@@ -76,8 +76,7 @@ fn open_keys(script: &Script) -> Vec<Key> {
         .collect()
 }
 
-/// An opening or a reply with one of these keys, or with another; now and then of a frame that
-/// something has befallen.
+/// An opening or a reply, with one of these keys or with another key. Sometimes the frame is wrong.
 fn add_call(script: &mut Script, keys: &[Key], random: &mut Random) {
     let own = if keys.is_empty() || random.once_in(12) {
         random_key(random)
@@ -96,7 +95,7 @@ fn add_call(script: &mut Script, keys: &[Key], random: &mut Random) {
     }
 }
 
-/// A request that something has befallen. Now and then it is a good one still.
+/// A request with something wrong. Sometimes it is still good.
 fn wrong_request(random: &mut Random, own: Key) -> Vec<u8> {
     let mut frame = random_request(random, own);
     if random.once_in(2) {
@@ -106,7 +105,7 @@ fn wrong_request(random: &mut Random, own: Key) -> Vec<u8> {
     frame
 }
 
-/// The same of replies.
+/// A reply with something wrong. Sometimes it is still good.
 fn wrong_reply(random: &mut Random, own: Key) -> Vec<u8> {
     if random.once_in(2) {
         let frame = reply_with_bib(R, own, random.place(60_000));
@@ -117,13 +116,13 @@ fn wrong_reply(random: &mut Random, own: Key) -> Vec<u8> {
     frame
 }
 
-/// A reply whose number is another, at times one that no request has.
+/// A reply with a different number, sometimes one that no request can have.
 fn stray(random: &mut Random, (requester, number): Key) -> Vec<u8> {
     let number = (number + random.pick(&[1, 10, 1_000, 10_000, 65_536])) % 100_000;
     random_reply(random, R, (requester, number))
 }
 
-/// Seats in use, or the next held cell of some seat from some place on.
+/// Asks for the seats in use, or for the next held cell of some seat from some place on.
 fn add_look(script: &mut Script, random: &mut Random) {
     if random.once_in(4) {
         script.used();
@@ -140,7 +139,7 @@ fn add_look(script: &mut Script, random: &mut Random) {
     script.held(seat, place);
 }
 
-/// All records of a seat, one look after the other, and the look that finds no more.
+/// Asks for all records of a seat, one after the other, and then once more, which finds none.
 fn add_all_looks(script: &mut Script, seat: u32) {
     let mut place = 0;
     while let Some(cell) = script.desk().next_held(seat, place) {
@@ -170,7 +169,7 @@ mod tests {
         }
     }
 
-    /// So a script can be asked alone, and nothing is left of the one before it.
+    /// Each script can be asked alone, because nothing is left of the script before it.
     #[test]
     fn every_script_begins_with_an_empty_desk() {
         for script in piece(1, 300) {

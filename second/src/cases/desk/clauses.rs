@@ -1,5 +1,5 @@
-//! Scripts about what makes a desk. Each clause is broken alone, both calls are tried, the clause is
-//! mended, and both calls are tried again.
+//! Scripts about what makes a desk. Each clause is broken in turn and both calls are tried. Then
+//! the clause is mended and both calls are tried again.
 
 mod changes;
 
@@ -18,7 +18,7 @@ pub fn add_all(cases: &mut Cases) {
     add_shared_keys_far_apart(cases);
 }
 
-/// The good desk, laid by calls.
+/// The good desk, made by calls.
 fn lay(cases: &mut Cases) -> Script<'_> {
     let mut script = Script::lend_cells(cases, CELLS);
     script.open_all(&KEYS);
@@ -28,7 +28,8 @@ fn lay(cases: &mut Cases) -> Script<'_> {
     script
 }
 
-/// Spoiled, asked, mended, asked again; and spoiled once more for a reset.
+/// For each break: the desk is spoiled, asked, mended and asked again. Then it is spoiled once more
+/// and reset.
 fn add_breaks(cases: &mut Cases) {
     let mut script = lay(cases);
     let good = script.desk().clone();
@@ -61,7 +62,7 @@ fn add_harmless(cases: &mut Cases) {
     }
 }
 
-/// No desk is told before anything about the frame, its key or the room.
+/// DESK is reported before any refusal that is about the frame, its key or a free cell.
 fn add_no_desk_and_more(cases: &mut Cases) {
     let mut script = lay(cases);
     script.change(&Change::Bits(BITS | 1 << 16));
@@ -101,7 +102,8 @@ fn add_no_desk_and_more(cases: &mut Cases) {
     script.reply(&reply(R, (b'A', 0)));
 }
 
-/// A count above the capacity and nothing else wrong: the cell or the mark is not lent whole.
+/// A count above the capacity, because the third cell or the third mark is not lent whole. Records
+/// held is tried as 2 and as 3. With one of the two, nothing else is wrong.
 fn add_short_memory(cases: &mut Cases) {
     for (bytes, marks) in [(102, 4), (152, 4), (204, 2)] {
         let mut script = Script::lend(cases, bytes, marks);
@@ -131,7 +133,7 @@ fn add_short_memory(cases: &mut Cases) {
     }
 }
 
-/// The first and the last seat with one key.
+/// The first and the last seat, once with different keys and once with the same key.
 fn add_shared_keys_far_apart(cases: &mut Cases) {
     let mut script = Script::lend_cells(cases, 1);
     script.change(&Change::Bits(0x8001));
@@ -162,7 +164,7 @@ mod tests {
         }
     }
 
-    /// The outcomes of the openings and replies of a script, each with whether it is a reply.
+    /// The outcome of each opening and reply of a script, and whether it is a reply.
     fn calls(add: fn(&mut Cases)) -> Vec<(bool, String)> {
         let mut cases = Cases::default();
         add(&mut cases);

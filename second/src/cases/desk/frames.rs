@@ -1,5 +1,5 @@
-//! The frames that scripts open requests and reply with, spelled out here and not by the writers
-//! under comparison.
+//! The frames that scripts use to open requests and to reply. They are built here, without the
+//! writers that are compared.
 
 use crate::cases::{self, replaced};
 use crate::random::Random;
@@ -9,7 +9,7 @@ use std::iter;
 /// Requester and number.
 pub type Key = (u8, u32);
 
-/// What a reply's status is.
+/// The statuses of a reply.
 pub const R: u8 = b'R';
 pub const E: u8 = b'E';
 pub const Z: u8 = b'Z';
@@ -32,7 +32,7 @@ pub fn reply(status: u8, key: Key) -> Vec<u8> {
     reply_with_bib(status, key, 15)
 }
 
-/// Replies that are to be told apart have different bibs.
+/// A reply with this bib. Different bibs make replies distinguishable.
 pub fn reply_with_bib(status: u8, (requester, number): Key, bib: usize) -> Vec<u8> {
     let mut frame = b"\x12R SO".to_vec();
     frame.extend([status, requester]);
@@ -41,7 +41,7 @@ pub fn reply_with_bib(status: u8, (requester, number): Key, bib: usize) -> Vec<u
     frame
 }
 
-/// A reply with this status to this key, all its other fields at random.
+/// A reply with this status to this key. All its other fields are random.
 pub fn random_reply(random: &mut Random, status: u8, (requester, number): Key) -> Vec<u8> {
     let mut record = iter::repeat_with(|| cases::reply::random_record(random))
         .find(|record| record.status == status)
@@ -51,7 +51,7 @@ pub fn random_reply(random: &mut Random, status: u8, (requester, number): Key) -
     cases::reply::frame_of(&record)
 }
 
-/// A request with this key, all its other fields at random. To one in 41 no answer is due.
+/// A request with this key. All its other fields are random. To one in 41 no answer is due.
 pub fn random_request(random: &mut Random, (requester, number): Key) -> Vec<u8> {
     let mut record = cases::request::random_record(random);
     record.requester = requester;
@@ -59,10 +59,10 @@ pub fn random_request(random: &mut Random, (requester, number): Key) -> Vec<u8> 
     cases::request::frame_of(&record)
 }
 
-/// Something to put at a place of a frame.
+/// Bytes to put at a place of a frame.
 pub type Patch = (usize, &'static [u8]);
 
-/// What makes a request no request, refused with each of KIND, END, ADDRESS and FIELD.
+/// Changes that make a request wrong. Each of KIND, END, ADDRESS and FIELD occurs.
 pub const REQUEST_DAMAGES: [Patch; 17] = [
     (0, b"\x12"),
     (0, b"\x13"),
@@ -79,12 +79,12 @@ pub const REQUEST_DAMAGES: [Patch; 17] = [
     (16, b"251"),
     (19, b"200"),
     (22, b"C"),
-    // The letter that no answer is due to beside a wrong field.
+    // The letter that no answer is due to, together with a wrong field.
     (12, b"q250"),
     (12, b"q000002000s"),
 ];
 
-/// What makes a reply of status R no reply, refused with each of KIND, END, ADDRESS and FIELD.
+/// Changes that make a reply of status R wrong. Each of KIND, END, ADDRESS and FIELD occurs.
 pub const REPLY_DAMAGES: [Patch; 26] = [
     (0, b"\x11"),
     (0, b"\x13"),
@@ -119,8 +119,8 @@ pub fn patched(frame: &[u8], (place, text): Patch) -> Vec<u8> {
     replaced(frame, place, text)
 }
 
-/// No frame at all, a lead byte alone, and a frame one byte short and one byte long, with CR as the
-/// last byte of each.
+/// No bytes at all, only a lead byte, and a frame that is one byte too short and one that is one
+/// byte too long. The last two end with CR.
 pub fn of_wrong_length(frame: &[u8]) -> [Vec<u8>; 4] {
     let (_, fields) = frame.split_last().expect("a frame has bytes");
     let (_, shorter) = fields.split_last().expect("a frame has fields");
@@ -152,7 +152,7 @@ mod tests {
         }
     }
 
-    /// Each number is there, and each field's offset.
+    /// Each of these refusals occurs, and FIELD with each of these offsets.
     fn check_refusals(refusals: &[Option<Refusal>], offsets: &[usize]) {
         assert!(refusals.iter().all(Option::is_some));
         for refusal in [Refusal::Kind, Refusal::End, Refusal::Address] {

@@ -1,4 +1,4 @@
-//! Scripts about what is only looked at: seats in use and held cells.
+//! Scripts that only look: seats in use and held cells.
 
 use super::frames::{reply_with_bib, Key, E, R};
 use super::script::Script;
@@ -8,7 +8,7 @@ use crate::script::Change;
 
 const KEYS: [Key; 2] = [(b'1', 7), (b'A', 7)];
 
-/// What every mark holds that nothing was written to.
+/// What a mark holds if nothing was written to it.
 const LENT_MARK: u32 = 4_008_636_142;
 
 const LARGEST: u32 = u32::MAX;
@@ -21,7 +21,7 @@ pub fn add_all(cases: &mut Cases) {
     add_more_than_256(cases);
 }
 
-/// The ones of many numbers, also of those that make no desk.
+/// Counts the ones of many numbers, including numbers that make no desk.
 fn add_used(cases: &mut Cases) {
     let mut script = Script::lend(cases, 0, 0);
     for bits in [
@@ -48,7 +48,8 @@ fn add_used(cases: &mut Cases) {
     script.used();
 }
 
-/// Both seats from every place, and seats that hold nothing or are none.
+/// Looks for both seats from every place, for seats that hold nothing, and for numbers that are no
+/// seats.
 fn add_held_by_replies(cases: &mut Cases) {
     let mut script = Script::lend_cells(cases, 6);
     script.open_all(&KEYS);
@@ -66,7 +67,7 @@ fn add_held_by_replies(cases: &mut Cases) {
     for seat in [2, 15, 16, 17, 256, 257, 65_536, LENT_MARK, LARGEST] {
         script.held(seat, 0);
     }
-    // It takes no desk, and what is past the count does not count.
+    // A look does not need a desk. Cells past the count are not found.
     for count in [0, 1, 2, 3, 6, 7] {
         script.change(&Change::Count(count));
         for seat in [0, 1, LENT_MARK] {
@@ -78,7 +79,7 @@ fn add_held_by_replies(cases: &mut Cases) {
     script.held(0, 0);
 }
 
-/// Marks that name no seat are found by what they are.
+/// Marks that name no seat are found by their value.
 fn add_any_seats(cases: &mut Cases) {
     const MARKS: [u32; 8] = [16, 255, 256, 0, 65_536, LARGEST, 257, 15];
     let mut script = Script::lend_cells(cases, MARKS.len());
@@ -94,7 +95,7 @@ fn add_any_seats(cases: &mut Cases) {
     }
 }
 
-/// A count larger than the cells or the marks there are; a last cell that is not whole is none.
+/// A count larger than the number of cells or marks. A last cell that is not whole does not count.
 fn add_counts_beyond_what_is_lent(cases: &mut Cases) {
     for (bytes, marks) in [
         (3 * CELL, 5),
@@ -114,7 +115,7 @@ fn add_counts_beyond_what_is_lent(cases: &mut Cases) {
     }
 }
 
-/// More cells are lent than a desk has; those past its last are none of its own.
+/// More cells are lent than a desk has. Those past its last cell do not belong to it.
 fn add_more_than_256(cases: &mut Cases) {
     let mut script = Script::lend(cases, 15_300, 305);
     for count in [255, 256, 257, 300, 305, LARGEST] {
@@ -162,7 +163,7 @@ mod tests {
         assert_eq!(rest[..9], [none; 9]);
         assert_eq!(rest[9..16], ["set", none, none, none, none, none, none]);
         assert_eq!(rest[16..23], ["set", "0", none, none, none, none, none]);
-        // All six cells: seats 0 and 1, and the mark nothing was written to.
+        // All six cells: seats 0 and 1, and the mark that nothing was written to.
         assert_eq!(rest[37..44], ["set", "0", "3", "1", "4", "5", "5"]);
         assert_eq!(answers.last().map(String::as_str), Some(none));
     }

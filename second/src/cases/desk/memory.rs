@@ -8,7 +8,7 @@ use crate::script::Change;
 
 const KEYS: [Key; 3] = [(b'1', 7), (b'A', 7), (b'z', 0)];
 
-/// Before anything is lent there is a desk all the same. It has seats, but no cells.
+/// Before anything is lent there is already a desk. It has seats, but no cells.
 pub fn add_nothing_lent(cases: &mut Cases) {
     let mut script = Script::go_on(cases, Desk::default());
     script.used();
@@ -41,7 +41,8 @@ pub fn add_all(cases: &mut Cases) {
     add_filled_desk(cases);
 }
 
-/// Lengths at both sides of every limit, so that each of the three is the least at times.
+/// Lengths on both sides of every limit. Each of the three (256, whole cells and marks) is the
+/// least for some of them.
 const LENGTHS: [usize; 9] = [0, 50, 51, 101, 102, 13_055, 13_056, 13_107, 15_300];
 const MARKS: [usize; 7] = [0, 1, 2, 255, 256, 257, 300];
 
@@ -55,7 +56,8 @@ fn add_capacities(cases: &mut Cases) {
     Script::lend(cases, 15_400, 0);
 }
 
-/// Desks that are full at once or very soon, filled to their capacity and asked for one cell more.
+/// Desks that are full at once or very soon. They are filled to their capacity and get one reply
+/// more.
 fn add_small_desks(cases: &mut Cases) {
     for (bytes, marks) in [
         (0, 0),
@@ -79,7 +81,7 @@ fn add_small_desks(cases: &mut Cases) {
     }
 }
 
-/// Which status and whose the reply is that goes to this cell. Seat 2 ends early, seat 1 late.
+/// The status and the key of the reply that goes to this cell. Seat 2 ends early, seat 1 late.
 fn record_of(cell: usize) -> (u8, Key) {
     match cell {
         20 => (Z, KEYS[2]),
@@ -89,8 +91,8 @@ fn record_of(cell: usize) -> (u8, Key) {
     }
 }
 
-/// More is lent than a desk has cells. It is filled to the last, and a record past that, good in
-/// itself, makes no desk.
+/// More is lent than a desk has cells. The desk is filled to its last cell. One more record past
+/// that, good in itself, makes it no desk.
 fn add_filled_desk(cases: &mut Cases) {
     let mut script = Script::lend(cases, 15_300, 300);
     script.open_all(&KEYS);
@@ -127,7 +129,7 @@ fn add_filled_desk(cases: &mut Cases) {
     script.put_back(&full);
     script.open(&request((b'b', 1)));
     script.reply(&last);
-    // One cell is enough to make it no desk, the first or the last.
+    // One wrong cell is enough to make it no desk, the first or the last.
     for cell in [0, MOST_CELLS - 1] {
         script.change(&Change::Cell(cell * CELL + 50, vec![0]));
         script.reply(&last);
@@ -185,7 +187,7 @@ mod tests {
         let answers = outcomes(add_small_desks);
         let fulls = answers.iter().filter(|answer| *answer == "16 0 0");
         assert_eq!(fulls.count(), 12);
-        // Capacities 0, 1 and 2 are there five, four and three times.
+        // Capacities 0, 1 and 2 occur five, four and three times.
         let taken = answers.iter().filter(|answer| *answer == "0 0 0");
         assert_eq!(taken.count(), 12 + 4 + 2 * 3);
     }

@@ -1,4 +1,4 @@
-//! Every pair of words that is mixed, and the desk that is there afterwards.
+//! Every pair of words that is mixed, and the desk that is left afterwards.
 
 use super::frames::{reply, request, Key, R};
 use super::script::Script;
@@ -22,7 +22,7 @@ fn add_pairs(cases: &mut Cases) {
     }
 }
 
-/// The desk is empty, and has eight cells that nothing was written to.
+/// The desk is empty and has eight cells. Nothing was written to them.
 fn add_desk_afterwards(cases: &mut Cases) {
     const KEY: Key = (b'z', 9);
     const LENT_MARK: u32 = 4_008_636_142;
@@ -37,7 +37,7 @@ fn add_desk_afterwards(cases: &mut Cases) {
     script.reset();
 }
 
-/// All words with at most one E and at most one Z, the empty one too.
+/// All words with at most one E and at most one Z, including the empty one.
 fn words() -> Vec<String> {
     let mut words = vec!["-".to_string()];
     let mut longest = vec![String::new()];

@@ -18,7 +18,8 @@ pub fn add_all(cases: &mut Cases) {
     add_gaps(cases);
 }
 
-/// Keys that differ in one part alone, and then each of them again, open and ended.
+/// Keys, most of which differ from another one in only one part. Then each of them again. Then
+/// three of them after a reply: an R, an E and a Z.
 fn add_keys(cases: &mut Cases) {
     const KEYS: [Key; 9] = [
         (b'0', 0),
@@ -43,7 +44,7 @@ fn add_keys(cases: &mut Cases) {
     script.used();
 }
 
-/// Every letter of a request on an empty desk; the one of them that is refused also with a key in
+/// Every letter of a request on an empty desk. The letter that is refused also comes with a key in
 /// use.
 fn add_letters(cases: &mut Cases) {
     let mut script = Script::lend(cases, 0, 0);
@@ -56,7 +57,7 @@ fn add_letters(cases: &mut Cases) {
     script.open(&request_for((b'1', 8), b'q'));
 }
 
-/// Requests at the limits of all their fields. The same key with other fields is in use.
+/// Requests with fields at their limits. A key in use stays in use if the other fields differ.
 fn add_other_fields(cases: &mut Cases) {
     let mut script = Script::lend(cases, 0, 0);
     script.open(b"\x11R z99959999L255250199T\r");
@@ -65,7 +66,7 @@ fn add_other_fields(cases: &mut Cases) {
     script.open(b"\x11R 0000000000000000000B\r");
 }
 
-/// Every refusal of the reader, for a free key, for one in use, and with all seats in use.
+/// Every refusal of the reader: for a free key, for a key in use, and with all seats in use.
 fn add_reader_refusals(cases: &mut Cases) {
     let mut script = Script::lend(cases, 51, 1);
     script.open(&request((b'A', 7)));
@@ -90,7 +91,7 @@ fn add_damaged(script: &mut Script, key: Key) {
     }
 }
 
-/// Sixteen seats, the seventeenth request, and what goes before its refusal.
+/// Sixteen seats, the seventeenth request, and the refusals that come before NO SEAT.
 fn add_seventeen(cases: &mut Cases) {
     let mut script = Script::lend_cells(cases, 2);
     for seat in 0..SEATS {
@@ -103,7 +104,7 @@ fn add_seventeen(cases: &mut Cases) {
         script.open(&request_for(key, b'q'));
     }
     script.open(&request_for((b'z', 7), b'q'));
-    // An ended seat is no free one.
+    // An ended seat is not free.
     script.reply(&reply(E, key_at(15)));
     script.reply(&reply(Z, key_at(0)));
     script.open(&request(key_at(15)));
@@ -118,7 +119,7 @@ fn key_at(seat: usize) -> Key {
     (b'A' + seat as u8, seat as u32)
 }
 
-/// Sets these seats in use from outside.
+/// Puts these seats in use from outside.
 fn use_seats(script: &mut Script, bits: u64) {
     for seat in (0..SEATS).filter(|&seat| (bits >> seat) & 1 == 1) {
         script.change(&Change::Seat(seat, seat_of(key_at(seat), 0, 0)));
@@ -126,7 +127,7 @@ fn use_seats(script: &mut Script, bits: u64) {
     script.change(&Change::Bits(bits));
 }
 
-/// Seats in use with gaps between them: the gaps are filled from below.
+/// Seats in use with gaps between them. The gaps are filled from the lowest up.
 fn add_gaps(cases: &mut Cases) {
     for bits in [
         0x000d, 0xfffe, 0x7fff, 0xff7f, 0x5555, 0xaaaa, 0x8000, 0x00ff,
@@ -134,7 +135,8 @@ fn add_gaps(cases: &mut Cases) {
         let mut script = Script::lend_cells(cases, 1);
         use_seats(&mut script, bits);
         let gaps = SEATS - bits.count_ones() as usize;
-        // All of them, and one more where there are few.
+        // Fills all gaps and asks for one seat more. If there are more than eight gaps, only nine
+        // requests come.
         for number in 0..=gaps.min(8) {
             script.open(&request((b'z', number as u32)));
         }
@@ -207,9 +209,9 @@ mod tests {
     #[test]
     fn gaps_are_filled_from_below() {
         let answers = outcomes(add_gaps);
-        // Seats 0, 2 and 3 in use.
+        // Seats 0, 2 and 3 are in use.
         assert_eq!(answers[5..9], ["0 0 1", "0 0 4", "0 0 5", "0 0 6"]);
-        // All but seat 0, then all but seat 15.
+        // Six of the desks have at most eight gaps. On each of them the last request finds no seat.
         let of_many: Vec<&String> = answers
             .iter()
             .filter(|answer| *answer == "12 0 0")

@@ -1,4 +1,4 @@
-//! Random scripts on small desks, so that all refusals come often and answers stay short.
+//! Random scripts on small desks. All refusals occur often, and answers stay short.
 
 use super::frames::{reply_with_bib, request, request_for, Key, E, R, Z};
 use super::script::{seat_of, Script};
@@ -11,7 +11,8 @@ use crate::script::Change;
 
 const SCRIPTS: usize = 200;
 
-/// Few keys, so that they meet; each differs from another in one part alone.
+/// Few keys, so that the same key comes often. All but the last differ from another one in only one
+/// part.
 const KEYS: [Key; 5] = [(b'1', 7), (b'A', 7), (b'a', 7), (b'1', 8), (b'z', 0)];
 
 pub fn add_all(cases: &mut Cases, random: &mut Random) {
@@ -37,7 +38,7 @@ pub fn add_script(cases: &mut Cases, random: &mut Random) {
     }
 }
 
-/// Leaves three seats free, the lowest and two others.
+/// Puts all seats in use except three, the lowest and two others.
 fn use_most_seats(script: &mut Script) {
     const FREE: [usize; 3] = [0, 6, 15];
     let mut bits = 0;
@@ -73,7 +74,7 @@ fn good_reply(random: &mut Random) -> Vec<u8> {
     reply_with_bib(status, random.pick(&KEYS), random.place(60_000))
 }
 
-/// One that no answer is due to, or one that something has befallen.
+/// A request that no answer is due to, or one with a random change.
 fn random_request(random: &mut Random) -> Vec<u8> {
     let key = random.pick(&KEYS);
     if random.once_in(3) {
@@ -84,7 +85,7 @@ fn random_request(random: &mut Random) -> Vec<u8> {
     frame
 }
 
-/// A stray, or a reply that something has befallen.
+/// A stray, or a reply with a random change.
 fn random_reply(random: &mut Random) -> Vec<u8> {
     if random.once_in(3) {
         let (requester, number) = random.pick(&KEYS);
@@ -101,7 +102,8 @@ fn add_look(script: &mut Script, random: &mut Random) {
     script.held(seat, random.place(6));
 }
 
-/// A desk that something is changed in, some calls, and then the desk as it was, or none at all.
+/// Changes something in the desk and makes some calls. Then the desk is put back as it was, or
+/// reset.
 fn add_spoils(script: &mut Script, random: &mut Random) {
     let kept = script.desk().clone();
     for _ in 0..1 + random.below(2) {
@@ -118,7 +120,7 @@ fn add_spoils(script: &mut Script, random: &mut Random) {
     }
 }
 
-/// A change that as a rule leaves no desk.
+/// A change that usually leaves no desk.
 pub fn random_change(desk: &Desk, random: &mut Random) -> Change {
     match random.below(10) {
         0 | 1 if !desk.marks.is_empty() => {
@@ -132,7 +134,8 @@ pub fn random_change(desk: &Desk, random: &mut Random) -> Change {
     }
 }
 
-/// Some byte of a cell, or one that a good reply may have too. As a rule the cell is not free.
+/// Changes one byte of a cell: the status, the requester, the last digit of the number, or any
+/// byte. Usually the cell is not free.
 fn random_cell(desk: &Desk, random: &mut Random) -> Change {
     let cells = desk.cells.len() / CELL;
     let taken = usize::try_from(desk.count).map_or(cells, |count| count.clamp(1, cells));
@@ -194,7 +197,7 @@ mod tests {
         assert!(short.count() > 150);
     }
 
-    /// The numbers that the answers of these calls begin with.
+    /// The numbers that the answers to these calls begin with.
     fn numbers(text: &str, call: &str) -> BTreeSet<u32> {
         let answers = answers::file(text.as_bytes()).expect("cases");
         let calls = text.lines().zip(answers.lines());

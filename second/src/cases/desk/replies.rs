@@ -22,7 +22,7 @@ pub fn add_all(cases: &mut Cases) {
     add_all_seats(cases);
 }
 
-/// The listing's input.
+/// The input of the listing example.
 fn add_example(cases: &mut Cases) {
     let first = b"\x12R SOR10000700015000002000000P000000000000000000  \r";
     let second = b"\x12R SOEA000120004100000101525510001125400+0000000  \r";
@@ -35,13 +35,13 @@ fn add_example(cases: &mut Cases) {
     script.reply(second);
 }
 
-/// Each word is one request's replies, most of them with some that are refused.
+/// Each word is the replies to one request. In each word some replies are refused.
 fn add_words(cases: &mut Cases) {
     for word in ["EREZ", "ZREZ", "RZRZREZR", "RREE", "RZE", "ZZ", "EE"] {
         let mut script = Script::lend_cells(cases, 5);
         script.open_all(&[ONE, OTHER]);
         for (number, status) in word.bytes().enumerate() {
-            // Bibs fall, and the records are not to be sorted by them.
+            // The bibs decrease. Records must not be sorted by them.
             script.reply(&reply_with_bib(status, ONE, 40 - number));
         }
         script.reply(&reply(R, OTHER));
@@ -58,8 +58,8 @@ fn add_same_reply(cases: &mut Cases) {
     }
 }
 
-/// Replies whose key no seat has. Some have a seat's key if their number is cut to three digits or
-/// to sixteen bits, or if small letters are taken for large ones.
+/// Replies whose key no seat has. Some would match a seat if their number were cut to three digits
+/// or to sixteen bits, or if small letters were taken for capitals.
 fn add_strays(cases: &mut Cases) {
     let mut script = Script::lend_cells(cases, 4);
     script.reply(&reply(R, ONE));
@@ -86,7 +86,7 @@ fn add_strays(cases: &mut Cases) {
     }
 }
 
-/// Which refusal goes first where no cell is free.
+/// Which refusal comes first if no cell is free.
 fn add_full_desk(cases: &mut Cases) {
     for cells in [2, 3] {
         let mut script = Script::lend_cells(cases, cells);
@@ -112,7 +112,7 @@ fn add_full_desk(cases: &mut Cases) {
         for frame in &frames {
             script.reply(frame);
         }
-        // Opening needs no cell, and a reset frees them all.
+        // Opening needs no cell, and a reset frees all cells.
         script.open(&request((b'z', 1)));
         script.reset();
         script.open_all(&[THIRD]);
@@ -120,7 +120,8 @@ fn add_full_desk(cases: &mut Cases) {
     }
 }
 
-/// Every refusal of the reader, for an open key, a stray and an ended one.
+/// Every refusal of the reader for an open key. Then the damaged replies again, for an ended key
+/// and a stray in turn.
 fn add_reader_refusals(cases: &mut Cases) {
     let mut script = Script::lend_cells(cases, 2);
     script.open_all(&[ONE, OTHER]);
@@ -140,7 +141,8 @@ fn add_reader_refusals(cases: &mut Cases) {
     script.reply(&reply(R, ONE));
 }
 
-/// Replies of each kind are kept byte for byte, whatever the request asked for.
+/// Replies of each kind, some with a wrong time or date. Those that are taken are kept byte for
+/// byte, whatever the request asked for.
 fn add_all_kinds(cases: &mut Cases) {
     let mut script = Script::lend_cells(cases, 6);
     script.open_all(&[ONE, OTHER]);
@@ -160,7 +162,8 @@ fn add_all_kinds(cases: &mut Cases) {
     script.held(1, 0);
 }
 
-/// A record for every seat from the last to the first, then the end of each.
+/// A record for every seat from the last to the first, then the last record of each. For the last
+/// three there is no free cell.
 fn add_all_seats(cases: &mut Cases) {
     let keys: Vec<Key> = (0..SEATS)
         .map(|seat| (b'0' + seat as u8 % 4, seat as u32 / 4))

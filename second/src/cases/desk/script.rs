@@ -1,5 +1,5 @@
-//! A script in the making. Each line is also played on a desk, so that what a script has changed
-//! can be put back.
+//! A script that is being made. Each line is also played on a desk, so that what a script has
+//! changed can be put back.
 
 use super::frames::{request, Key};
 use crate::cases::Cases;
@@ -15,7 +15,7 @@ pub struct Script<'a> {
 }
 
 impl<'a> Script<'a> {
-    /// A script that goes on with the desk that the lines before it have left.
+    /// A script that continues with the desk that the lines before it have left.
     pub fn go_on(cases: &'a mut Cases, desk: Desk) -> Self {
         Script {
             cases,
@@ -24,14 +24,14 @@ impl<'a> Script<'a> {
         }
     }
 
-    /// A script that begins by lending this.
+    /// A script that begins by lending this many bytes and marks.
     pub fn lend(cases: &'a mut Cases, bytes: usize, marks: usize) -> Self {
         let mut script = Script::go_on(cases, script::lend(bytes, marks));
         script.line(&format!("lend {bytes} {marks}"));
         script
     }
 
-    /// A script that begins with so many whole cells and their marks.
+    /// A script that begins by lending this many whole cells and their marks.
     pub fn lend_cells(cases: &'a mut Cases, cells: usize) -> Self {
         Script::lend(cases, cells * CELL, cells)
     }
@@ -40,7 +40,7 @@ impl<'a> Script<'a> {
         &self.desk
     }
 
-    /// How many lines there are by now.
+    /// How many lines the script has so far.
     pub fn lines(&self) -> usize {
         self.lines
     }
@@ -52,7 +52,7 @@ impl<'a> Script<'a> {
 
     pub fn open(&mut self, frame: &[u8]) {
         self.line(&format!("open {}", bytes_text(frame)));
-        // What comes of it is the desk's affair, also where it is refused.
+        // The outcome does not matter here, even if the desk refuses the frame.
         let _ = self.desk.open(frame);
     }
 
@@ -93,7 +93,7 @@ impl<'a> Script<'a> {
         }
     }
 
-    /// Makes the desk again what it was, but for its free cells and marks.
+    /// Makes the desk what it was before, except its free cells and marks.
     pub fn put_back(&mut self, kept: &Desk) {
         for change in changes_back(&self.desk, kept) {
             self.change(&change);
@@ -101,7 +101,7 @@ impl<'a> Script<'a> {
     }
 }
 
-/// The record of a seat that was opened with this key, and holds this.
+/// The record of a seat with this key and these values.
 pub fn seat_of((requester, number): Key, held: u32, ended: u32) -> Seat {
     Seat {
         requester: requester.into(),
@@ -111,7 +111,7 @@ pub fn seat_of((requester, number): Key, held: u32, ended: u32) -> Seat {
     }
 }
 
-/// What leads from one desk back to another that has as much lent to it.
+/// The changes that lead from one desk back to another. Both have the same amount lent.
 fn changes_back(from: &Desk, to: &Desk) -> Vec<Change> {
     let mut changes = Vec::new();
     if from.bits != to.bits {
@@ -135,7 +135,7 @@ fn changes_back(from: &Desk, to: &Desk) -> Vec<Change> {
     changes
 }
 
-/// The bytes of a cell from the first that differs to the last.
+/// The bytes of a cell, from the first that differs to the last.
 fn cell_back(from: &Desk, to: &Desk, cell: usize) -> Option<Change> {
     const { assert!(CELL <= MOST_BYTES) };
     let mut bytes: Range<usize> = cell * CELL..(cell + 1) * CELL;
@@ -151,7 +151,7 @@ pub mod tests {
     use crate::answers;
     use crate::cases::desk::frames::{reply, R};
 
-    /// The answers to these cases, of calls the number, the offset and the seat alone.
+    /// The answers to these cases. Of calls only the number, the offset and the seat.
     pub fn outcomes(add: impl FnOnce(&mut Cases)) -> Vec<String> {
         let mut cases = Cases::default();
         add(&mut cases);

@@ -11,7 +11,8 @@ use crate::random::Random;
 use crate::reply::{at, Reply, CLOCK_LETTERS, INFORMATION, NET_LETTERS};
 use crate::spelling::bytes_text;
 
-/// Time and date that suit a clock letter, a net letter and neither. Raw letters take them all.
+/// A time and a date that suit a clock letter, a net letter, and neither. A raw letter takes them
+/// all.
 const TIMINGS: [&[u8]; 3] = [
     b"123456789823122001",
     b"0001125400-0000001",
@@ -60,7 +61,8 @@ fn add_reads(cases: &mut Cases, frames: &[Vec<u8>]) {
     }
 }
 
-/// A reply of each kind; then more, so that every status meets all letters with every timing.
+/// A reply of each kind, then more of them, so that all letters are read with every status and
+/// every timing.
 fn add_damages(cases: &mut Cases) {
     let others = [
         with_letter(b'E', b'0', TIMINGS[0]),
@@ -130,9 +132,9 @@ fn add_runs(cases: &mut Cases) {
     }
 }
 
-/// The letters that are not always raw with every status and every timing. The other letters of the
-/// list meet each status and each timing too, though not each with each, and all other bytes meet
-/// one of each. Every byte with all of them is what the damaged replies ask.
+/// Clock and net letters come with every status and every timing. The other letters of the list
+/// come with each status and each timing, but not in every combination. All other bytes come with
+/// one combination each. The damage cases ask about every byte in all combinations.
 fn add_letters(cases: &mut Cases) {
     for letter in (0x20..=0x7e).chain(NOT_PRINTABLE) {
         for (row, &status) in STATUSES.iter().enumerate() {
@@ -234,8 +236,9 @@ fn add_net_dates(cases: &mut Cases) {
     }
 }
 
-/// The outermost good bytes at all raw places together, and their neighbours at each; bytes above
-/// 7Fh at the first place of each field. All bytes at each place are what the damaged `RAW` asks.
+/// The lowest and the highest good byte at all raw places together. Then the bytes just outside at
+/// each raw place, and bytes above 7Fh at the first place of each field. The damage case of `RAW`
+/// asks about every byte at each place.
 fn add_raw_bytes(cases: &mut Cases) {
     for good in *b"\x20\x7e" {
         let frame = replaced(RAW, at::PROGRAM, &[good; 2]);

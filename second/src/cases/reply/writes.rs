@@ -17,11 +17,11 @@ use crate::times::{MOST_NET_DAYS, TICKS_OF_DAY};
 /// No room, one byte too little, just enough, and more.
 const ROOMS: [usize; 4] = [0, LENGTH - 1, LENGTH, 60];
 
-/// The largest size of a VALUE.
+/// The largest absolute value of a VALUE.
 const LARGEST_VALUE: i128 = (1 << 63) - 1;
 
-/// Each number's offset, the highest good one, and more at both sides of its limits. Some are good
-/// numbers again if cut to 8 or 16 bits.
+/// Each number's offset, its highest good value, and more values on both sides of its limits. Some
+/// of these are good again if cut to 8 or 16 bits.
 const NUMBERS: [(usize, u64, &[u64]); 6] = [
     (at::NUMBER, 99_999, &[0, 999, 1_000]),
     (at::BIB, 59_999, &[0, 65_535]),
@@ -54,7 +54,7 @@ fn record_of(frame: &[u8; LENGTH]) -> Reply {
     Reply::read(frame).expect("a good frame")
 }
 
-/// A clock record of short numbers, to keep the file short.
+/// A clock record of short numbers, which keeps the file short.
 fn clock_record(ticks: i128, day: u64, month: u64, year: u64) -> Reply {
     let mut record = record_of(NET);
     record.information = b'a';
@@ -67,7 +67,7 @@ fn clock_record(ticks: i128, day: u64, month: u64, year: u64) -> Reply {
     record
 }
 
-/// A good record of each timing.
+/// A good record with each kind of timing.
 fn timed_records() -> [Reply; 3] {
     [clock_record(1, 29, 2, 2024), record_of(NET), record_of(RAW)]
 }
@@ -88,7 +88,7 @@ fn add_value(cases: &mut Cases, record: &Reply) {
     cases.add(value_case(record));
 }
 
-/// To just enough room, and as a value.
+/// Writes to just enough room and to a value.
 fn add_both(cases: &mut Cases, record: &Reply) {
     add_write(cases, LENGTH, record);
     add_value(cases, record);
@@ -182,8 +182,8 @@ fn add_numbers(cases: &mut Cases) {
     }
 }
 
-/// A timing of each kind for each status and a letter of each kind, with the raw parts that go with
-/// the timing.
+/// Each kind of timing with each status and with a letter of each kind. The raw parts belong to the
+/// timing.
 fn add_timing_kinds(cases: &mut Cases) {
     for &status in STATUSES {
         for information in *b"s3A" {
@@ -273,8 +273,8 @@ fn add_nets(cases: &mut Cases) {
     }
 }
 
-/// The first and the last byte of each raw part, at both sides of the limits of raw bytes: with
-/// status Z and a clock letter, and with a raw letter.
+/// Bytes on both sides of the limits of raw bytes. With status Z and a clock letter they are the
+/// first and the last byte of each raw part, with a raw letter the second byte.
 fn add_raw_parts(cases: &mut Cases) {
     let raw = record_of(RAW);
     let absent = Reply {
@@ -298,7 +298,7 @@ fn add_raw_parts(cases: &mut Cases) {
     }
 }
 
-/// Sets one byte of a raw part; a place beyond its end is its last one.
+/// Sets one byte of a raw part. A place beyond its end means its last byte.
 fn set_raw(record: &mut Reply, part: usize, place: usize, code: u8) {
     let bytes: &mut [u8] = match part {
         at::TIME => &mut record.raw_time,
@@ -308,8 +308,8 @@ fn set_raw(record: &mut Reply, part: usize, place: usize, code: u8) {
     bytes[place.min(bytes.len() - 1)] = code;
 }
 
-/// Clock and net records whose raw parts are not all zero bytes: one byte of them, or all of both.
-/// Then the same with a wrong byte before.
+/// Clock and net records whose raw parts are not all zero: one byte of them, or all bytes of both.
+/// Then the same with a wrong spare byte, which is an earlier field.
 fn add_left_overs(cases: &mut Cases) {
     let [clock, net, _] = timed_records();
     for good in [clock, net] {
@@ -332,7 +332,7 @@ fn add_left_overs(cases: &mut Cases) {
     }
 }
 
-/// A field's offset, and something that makes the part of a clock record wrong that belongs there.
+/// A field's offset, and a function that makes that field's part of a clock record wrong.
 type Spoil = (usize, fn(&mut Reply));
 
 /// By rising offset.
@@ -368,7 +368,7 @@ fn add_several_wrong(cases: &mut Cases) {
         for (_, spoil) in spoils {
             spoil(&mut record);
         }
-        // Two wrong parts to enough room, more to none and as a value.
+        // Two wrong parts go to enough room, all other lists to no room and to a value.
         if spoils.len() == 2 {
             add_write(cases, LENGTH, &record);
         } else {
@@ -384,7 +384,7 @@ fn add_random_writes(cases: &mut Cases, random: &mut Random) {
     }
 }
 
-/// A record that nothing or some parts are spoiled of, to a room that may be too small or as a
+/// A record with no, one or several wrong parts, written to a room that may be too small or to a
 /// value.
 pub fn random_write(random: &mut Random) -> String {
     let mut record = random_record(random);

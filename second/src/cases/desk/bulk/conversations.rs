@@ -1,11 +1,11 @@
-//! Several requesters at once, whose answers come mixed.
+//! Several requesters at once, with their answers mixed.
 
 use super::{add_all_looks, add_call, add_look, different_keys, lend};
 use crate::cases::desk::frames::request;
 use crate::cases::Cases;
 use crate::random::Random;
 
-/// More keys than there are seats at times, and more replies than there are cells.
+/// Sometimes there are more keys than seats, or more replies than cells.
 pub fn add(cases: &mut Cases, random: &mut Random) {
     let number_of_keys = random.pick(&[1, 2, 2, 3, 3, 4, 5, 8, 12, 16, 17, 20]);
     let keys = different_keys(number_of_keys, random);

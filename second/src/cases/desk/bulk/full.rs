@@ -1,4 +1,5 @@
-//! Desks with many seats in use that are filled to their last cell, and what is asked of them then.
+//! Desks that are filled to their last cell or nearly, and what is asked of them then. Most have
+//! many seats in use.
 
 use super::{add_call, add_look, different_keys, lend, random_key};
 use crate::cases::desk::frames::{random_reply, random_request, request, Key, E, R, Z};
@@ -7,7 +8,7 @@ use crate::cases::Cases;
 use crate::desk::{MOST_CELLS, SEATS};
 use crate::random::Random;
 
-/// One in so many has about as many cells as a desk can have.
+/// One desk in this many has about as many cells as a desk can have.
 const LARGE_ONE_IN: u64 = 60;
 
 pub fn add(cases: &mut Cases, random: &mut Random) {
@@ -32,7 +33,8 @@ pub fn add(cases: &mut Cases, random: &mut Random) {
     }
 }
 
-/// Replies to the keys up to the last free cell, or nearly; few of them end.
+/// Replies to the keys up to the last free cell or nearly. Except for the last four, few of them
+/// are an E or a Z.
 fn fill(script: &mut Script, keys: &[Key], random: &mut Random) {
     let free = random.pick(&[0, 0, 0, 1, 2]);
     let replies = script.desk().capacity().saturating_sub(free);

@@ -1,4 +1,5 @@
-//! Every mix of two answers, with words that may end more than once; and the desk that is left.
+//! Every mix of two answers, with words that may end more than once, and calls on the desk that is
+//! left.
 
 use super::{add_call, add_look};
 use crate::cases::desk::script::Script;
@@ -16,7 +17,7 @@ pub fn add(cases: &mut Cases, random: &mut Random) {
     }
 }
 
-/// Up to four letters, or none.
+/// A word of up to four letters, or `-` for none.
 fn word(random: &mut Random) -> String {
     let length = random.place(5);
     if length == 0 {

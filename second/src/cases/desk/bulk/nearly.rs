@@ -1,5 +1,5 @@
-//! States that are desks, or nearly: changes that belong together are made, and half the time one
-//! of them is left out or is wrong by a little.
+//! States that are desks or nearly. Changes that belong together are made. About half the time one
+//! of them is left out or slightly wrong.
 
 mod together;
 
@@ -47,7 +47,7 @@ fn lay<'a>(cases: &'a mut Cases, random: &mut Random) -> Script<'a> {
     script
 }
 
-/// What is done to the state.
+/// The changes that are made to the state.
 fn changes(script: &Script, random: &mut Random) -> Vec<Change> {
     let desk = script.desk();
     match random.below(8) {
@@ -57,8 +57,8 @@ fn changes(script: &Script, random: &mut Random) -> Vec<Change> {
     }
 }
 
-/// A seat that holds records or has ended, or any other if there is none, with one part a little
-/// other.
+/// Changes one part of a seat slightly. It is a seat that holds records or has ended, or any seat
+/// if there is none.
 fn another_seat(desk: &Desk, random: &mut Random) -> Change {
     let busy: Vec<usize> = (0..SEATS)
         .filter(|&place| desk.seats[place].held > 0 || desk.seats[place].ended > 0)
@@ -72,7 +72,7 @@ fn another_seat(desk: &Desk, random: &mut Random) -> Change {
     Change::Seat(place, seat)
 }
 
-/// Changes that belong together, half the time not all of them as they should be.
+/// Changes that belong together. About half the time one of them is left out or slightly wrong.
 fn together_or_nearly(desk: &Desk, random: &mut Random) -> Vec<Change> {
     let mut changes = together::changes(desk, random);
     match random.below(4) {
@@ -88,7 +88,7 @@ fn together_or_nearly(desk: &Desk, random: &mut Random) -> Vec<Change> {
     changes
 }
 
-/// Makes a change a little other than it should be.
+/// Makes a change slightly different from what it should be.
 fn nudge(change: &mut Change, random: &mut Random) {
     match change {
         Change::Bits(bits) => *bits ^= 1 << random.below(18),
@@ -124,7 +124,7 @@ fn nudge_seat(seat: &mut Seat, random: &mut Random) {
     nudge_number(part, random);
 }
 
-/// An opening that is due, a reply to a key that is open, and more.
+/// Asks for a look, an opening, a reply to an open key or some other call, one to three times.
 fn ask(script: &mut Script, random: &mut Random) {
     let keys = open_keys(script);
     for _ in 0..1 + random.place(3) {
@@ -148,7 +148,7 @@ mod tests {
     use super::*;
     use crate::cases::desk::script::tests::outcomes;
 
-    /// After a change from outside a call finds a desk about as often as none.
+    /// After a change from outside, a call finds a desk about half the time.
     #[test]
     fn they_make_a_desk_about_half_the_time() {
         let mut random = Random::new(1, "test");

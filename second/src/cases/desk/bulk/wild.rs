@@ -1,5 +1,5 @@
-//! States that are anything at all. They hardly ever make a desk, but seats are counted and held
-//! cells found all the same.
+//! Arbitrary states. They hardly ever make a desk, but seats in use and held cells can still be
+//! asked for.
 
 use super::{add_call, add_look, lend, open_keys, random_key};
 use crate::cases::desk::frames::random_reply;
@@ -56,7 +56,7 @@ fn any_mark(random: &mut Random) -> u32 {
     }
 }
 
-/// A whole reply at a cell, or some bytes anywhere.
+/// A whole reply at a cell, or random bytes anywhere.
 fn any_cell(bytes: usize, random: &mut Random) -> Change {
     if random.once_in(2) {
         let key = random_key(random);
@@ -69,7 +69,8 @@ fn any_cell(bytes: usize, random: &mut Random) -> Change {
     Change::Cell(place, random.bytes(length))
 }
 
-/// A seat that was just opened, or four numbers.
+/// A seat with a random key. Half the time it has some records held and some value of `ended`, and
+/// half the time one of its four numbers is arbitrary.
 fn any_seat(random: &mut Random) -> Seat {
     let (requester, number) = random_key(random);
     let mut seat = Seat {
@@ -103,7 +104,7 @@ mod tests {
         let count = |outcome: &str| answers.iter().filter(|&answer| answer == outcome).count();
         assert!(count("9 0 0") > 200);
         assert!(count("none") > 100);
-        // A look that finds a cell.
+        // Looks that find a cell.
         assert!(count("0") + count("1") + count("2") > 100);
     }
 }

@@ -6,8 +6,9 @@ use crate::desk::{Seat, CELL};
 use crate::reply::at;
 use crate::script::Change;
 
-/// The keys of the desk that is spoiled, by their seats. Seat 0 holds R, R and E in cells 0, 2 and
-/// 3, seat 1 an R in cell 1, seat 2 nothing, and seat 3 a Z in cell 4. Two more cells are free.
+/// The keys of the desk that is spoiled, by seat. Seat 0 holds R, R and E in cells 0, 2 and 3. Seat
+/// 1 holds an R in cell 1, seat 2 holds nothing, and seat 3 holds a Z in cell 4. Two more cells are
+/// free.
 pub const KEYS: [Key; 4] = [(b'1', 7), (b'A', 12), (b'z', 0), (b'a', 999)];
 pub const RECORDS: [(u8, usize); 5] = [(R, 0), (R, 1), (R, 0), (E, 0), (Z, 3)];
 pub const CELLS: usize = 7;
@@ -17,11 +18,11 @@ pub const COUNT: u32 = 5;
 /// The first unused seat.
 pub const UNUSED: usize = 4;
 
-/// What the spoiled and the mended desk are asked. The mended one takes both.
+/// The keys that the spoiled and the mended desk are asked about. The mended desk takes both.
 pub const NEW_KEY: Key = (b'b', 5);
 pub const OPEN_KEY: Key = KEYS[1];
 
-/// The largest number of a seat or a mark.
+/// The largest number that a seat or a mark can hold.
 const LARGEST: u32 = u32::MAX;
 
 /// The record of a seat of the good desk.
@@ -33,7 +34,7 @@ pub fn seat_at(seat: usize) -> Seat {
     seat_of(KEYS[seat], held as u32, ended.into())
 }
 
-/// A seat of the good desk that holds another number of records.
+/// A seat of the good desk, but with this number of records held.
 fn holding(seat: usize, held: u32) -> Change {
     let record = seat_at(seat);
     Change::Seat(seat, Seat { held, ..record })
@@ -52,7 +53,7 @@ fn status(cell: usize, status: u8) -> Change {
     put(cell, (at::STATUS, &[status]))
 }
 
-/// Each list of changes leaves no desk.
+/// After each of these lists of changes there is no desk.
 pub fn breaks() -> Vec<Vec<Change>> {
     [
         bits(),
@@ -94,7 +95,7 @@ fn illegal_keys() -> Vec<Vec<Change>> {
         .into_iter()
         .map(|seat| vec![Change::Seat(2, seat)])
         .collect();
-    // A bit alone, with nothing at its seat.
+    // Only a bit is set, with nothing at its seat.
     for seat in [UNUSED, 15] {
         breaks.push(vec![Change::Bits(BITS | 1 << seat)]);
     }
@@ -134,18 +135,20 @@ fn unused_seats() -> Vec<Vec<Change>> {
         }
     }
     breaks.push(vec![Change::Seat(UNUSED, seat_of(NEW_KEY, 0, 0))]);
-    // The bit of a used seat lost: one that holds nothing, and one that holds a record.
+    // The bit of a used seat is cleared: once of a seat that holds nothing, once of a seat that
+    // holds a record.
     breaks.push(vec![Change::Bits(BITS & !0b0100)]);
     breaks.push(vec![Change::Bits(BITS & !0b0010)]);
     breaks
 }
 
-/// Counts that are not the number of records. That of too little memory stands apart.
+/// Counts that are not the number of records. Counts above a small capacity are in
+/// `add_short_memory`.
 fn counts() -> Vec<Vec<Change>> {
     let mut breaks: Vec<Vec<Change>> = [0, 4, 6, 7, 8, 256 + COUNT, 65_536 + COUNT, LARGEST]
         .map(|count| vec![Change::Count(count)])
         .to_vec();
-    // One record more that is good in itself, but that its seat does not know of; and one less.
+    // One record more that is good in itself but is not counted by its seat; and one record less.
     breaks.push(vec![
         Change::Count(6),
         Change::Mark(5, 1),
@@ -155,7 +158,7 @@ fn counts() -> Vec<Vec<Change>> {
     breaks
 }
 
-/// A mark that names no used seat, with its seat's records held put right and with it left.
+/// A mark that names no used seat, once with the seat's records held corrected and once without.
 fn marks() -> Vec<Vec<Change>> {
     let mut breaks = Vec::new();
     for mark in [4, 15, 16, 17, 255, 256, 257, 65_537, LARGEST] {
@@ -165,7 +168,7 @@ fn marks() -> Vec<Vec<Change>> {
     breaks
 }
 
-/// A cell that holds no reply.
+/// A cell that does not hold a reply.
 fn cells() -> Vec<Vec<Change>> {
     let mut breaks: Vec<Vec<Change>> = REPLY_DAMAGES.map(|damage| vec![put(1, damage)]).to_vec();
     breaks.push(vec![put(4, (at::RUN, b"251"))]);
@@ -177,7 +180,7 @@ fn cells() -> Vec<Vec<Change>> {
     breaks
 }
 
-/// A cell that holds a good reply, but not its seat's.
+/// A cell that holds a good reply, but with another key than its seat's.
 fn keys_of_cells() -> Vec<Vec<Change>> {
     let mut breaks = Vec::new();
     for requester in [b"a", b"1", b"B"] {
@@ -188,10 +191,10 @@ fn keys_of_cells() -> Vec<Vec<Change>> {
     }
     breaks.push(vec![put(1, (0, &reply(R, KEYS[0])))]);
     breaks.push(vec![put(1, (0, &reply(R, NEW_KEY)))]);
-    // The mark names another seat, and both seats know of it.
+    // The mark names another seat, and the records held of both seats agree with that.
     breaks.push(vec![Change::Mark(1, 2), holding(1, 0), holding(2, 1)]);
     breaks.push(vec![Change::Mark(0, 1), holding(0, 2), holding(1, 2)]);
-    // The seat has got another key.
+    // The seat has another key.
     let other = seat_of(NEW_KEY, 1, 0);
     breaks.push(vec![Change::Seat(1, other)]);
     breaks
@@ -210,7 +213,7 @@ fn records_held() -> Vec<Vec<Change>> {
     breaks
 }
 
-/// The statuses of seat 0, with what ended is to say of the last.
+/// Sets the statuses of seat 0, with `ended` as the last status requires.
 fn statuses(statuses: &[u8; 3]) -> Vec<Change> {
     let [first, second, last] = *statuses;
     let mut changes = vec![status(0, first), status(2, second), status(3, last)];
@@ -227,7 +230,7 @@ fn orders() -> Vec<Vec<Change>> {
     .to_vec()
 }
 
-/// Ended that does not tell whether the last is E or Z.
+/// `ended` does not say whether the last record is E or Z.
 fn ends() -> Vec<Vec<Change>> {
     let mut breaks = Vec::new();
     for (seat, values) in [
@@ -238,14 +241,14 @@ fn ends() -> Vec<Vec<Change>> {
     ] {
         breaks.extend(values.into_iter().map(|value| vec![ended(seat, value)]));
     }
-    // The status is another, and ended is as before.
+    // The status changes and `ended` stays.
     for (cell, other) in [(3, R), (1, E), (1, Z), (4, R)] {
         breaks.push(vec![status(cell, other)]);
     }
     breaks
 }
 
-/// Each list of changes leaves a desk that takes what it is asked.
+/// After each of these lists of changes there is a desk, and it takes what it is asked.
 pub fn harmless() -> Vec<Vec<Change>> {
     let mut changes = Vec::new();
     // Free marks and cells may hold anything.
@@ -255,14 +258,14 @@ pub fn harmless() -> Vec<Vec<Change>> {
     changes.push(vec![put(5, (0, &reply(Z, KEYS[0])))]);
     changes.push(vec![put(5, (0, &[0; CELL])), put(6, (CELL - 1, b"\r"))]);
     changes.push(vec![put(6, (0, &reply(E, KEYS[2])))]);
-    // Fields that are no part of the key.
+    // Fields that are not part of the key.
     changes.push(vec![
         put(1, (at::PROGRAM, b"~ ")),
         put(1, (at::BIB, b"59999")),
     ]);
     changes.push(vec![put(4, (at::RUN, b"000"))]);
     changes.push(vec![put(1, (at::INFORMATION, b"K235959999929022024"))]);
-    // Other seats and other ends that are good ones.
+    // Other seats and other ends that are good.
     changes.push(vec![Change::Seat(2, seat_of((b'A', 999), 0, 0))]);
     changes.push(vec![Change::Seat(2, seat_of((b'0', 12), 0, 0))]);
     changes.push(vec![status(4, E)]);
@@ -275,7 +278,7 @@ pub fn harmless() -> Vec<Vec<Change>> {
         Change::Seat(2, Seat::default()),
         Change::Bits(BITS & !0b0100),
     ]);
-    // One record less, and one more.
+    // One record less, and one record more.
     changes.push(vec![
         Change::Count(4),
         Change::Seat(3, seat_of(KEYS[3], 0, 0)),

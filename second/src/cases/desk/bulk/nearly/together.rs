@@ -1,5 +1,6 @@
-//! Changes that belong together: made all of them to a desk, they mostly leave a desk. Where they do
-//! not, they break as a rule one clause alone: a Z that is not the first, or a record after the end.
+//! Changes that belong together. If all of them are made to a desk, the result is mostly a desk
+//! again. If not, it usually breaks only one clause: a Z that is not the first record, or a record
+//! after the end.
 
 use crate::cases::desk::bulk::random_key;
 use crate::cases::desk::frames::{random_reply, E, R, Z};
@@ -8,7 +9,7 @@ use crate::random::Random;
 use crate::reply::at;
 use crate::script::Change;
 
-/// Any of them; of some states there are none to be made.
+/// Any of these changes. For some states there is none to make.
 pub fn changes(desk: &Desk, random: &mut Random) -> Vec<Change> {
     match random.below(9) {
         0 => another_key(desk, random),
@@ -22,18 +23,18 @@ pub fn changes(desk: &Desk, random: &mut Random) -> Vec<Change> {
     }
 }
 
-/// How many cells hold records, as far as they are lent.
+/// How many cells hold records, as far as the cells are lent.
 fn taken(desk: &Desk) -> usize {
     usize::try_from(desk.count).map_or(desk.capacity(), |count| count.min(desk.capacity()))
 }
 
-/// A record's cell, if there is one.
+/// The cell of some record, if there is one.
 fn some_record(desk: &Desk, random: &mut Random) -> Option<usize> {
     let taken = taken(desk);
     (taken > 0).then(|| random.place(taken))
 }
 
-/// The places of the seats whose bit is this.
+/// The places of the seats whose bit has this value.
 fn seats_with(desk: &Desk, bit: u64) -> Vec<usize> {
     (0..SEATS)
         .filter(|&seat| (desk.bits >> seat) & 1 == bit)
@@ -45,20 +46,20 @@ fn some_seat(desk: &Desk, bit: u64, random: &mut Random) -> Option<usize> {
     (!seats.is_empty()).then(|| random.pick(&seats))
 }
 
-/// The seat that a cell's mark names, if there is such a seat.
+/// The seat that a cell's mark names, if it is below sixteen.
 fn seat_of_record(desk: &Desk, cell: usize) -> Option<usize> {
     let seat = usize::try_from(*desk.marks.get(cell)?).ok()?;
     (seat < SEATS).then_some(seat)
 }
 
-/// Requester and number of a seat put into a cell.
+/// Puts a seat's requester and number into a cell.
 fn put_key(cell: usize, seat: &Seat) -> Change {
     let mut text = vec![seat.requester as u8];
     text.extend(format!("{:05}", seat.number % 100_000).bytes());
     Change::Cell(cell * CELL + at::REQUESTER, text)
 }
 
-/// A seat gets another key, and all its records with it.
+/// A seat gets another key, and so do all its records.
 fn another_key(desk: &Desk, random: &mut Random) -> Vec<Change> {
     let Some(place) = some_seat(desk, 1, random) else {
         return Vec::new();
@@ -75,7 +76,8 @@ fn another_key(desk: &Desk, random: &mut Random) -> Vec<Change> {
     changes
 }
 
-/// The next cell holds a record of a seat in use. Where no cell is free, only the count says so.
+/// The next cell gets a record of a seat in use. If no cell is free or no seat is in use, only the
+/// count changes.
 fn a_record_more(desk: &Desk, random: &mut Random) -> Vec<Change> {
     let cell = taken(desk);
     let mut changes = vec![Change::Count(desk.count.wrapping_add(1))];
@@ -96,7 +98,7 @@ fn a_record_more(desk: &Desk, random: &mut Random) -> Vec<Change> {
     changes
 }
 
-/// The last record is a free cell again.
+/// The last record's cell becomes free again.
 fn a_record_less(desk: &Desk) -> Vec<Change> {
     let Some(cell) = taken(desk).checked_sub(1) else {
         return Vec::new();
@@ -125,7 +127,7 @@ fn a_seat_more(desk: &Desk, random: &mut Random) -> Vec<Change> {
     vec![Change::Seat(place, seat), Change::Bits(bits)]
 }
 
-/// A seat is no longer in use. If it holds records, they name it all the same.
+/// A seat is no longer in use. If it holds records, their marks still name it.
 fn a_seat_less(desk: &Desk, random: &mut Random) -> Vec<Change> {
     let used = seats_with(desk, 1);
     let empty: Vec<usize> = used
@@ -144,7 +146,7 @@ fn a_seat_less(desk: &Desk, random: &mut Random) -> Vec<Change> {
     ]
 }
 
-/// A seat's last record has another status, and ended says so.
+/// A seat's last record gets another status, and `ended` agrees with it.
 fn another_end(desk: &Desk, random: &mut Random) -> Vec<Change> {
     let Some(place) = some_record(desk, random).and_then(|cell| seat_of_record(desk, cell)) else {
         return Vec::new();
@@ -161,12 +163,12 @@ fn another_end(desk: &Desk, random: &mut Random) -> Vec<Change> {
     changes
 }
 
-/// The bytes of a cell, all of which are lent.
+/// The bytes of a cell. All of them are lent.
 fn bytes_of(desk: &Desk, cell: usize) -> Vec<u8> {
     desk.cells[cell * CELL..][..CELL].to_vec()
 }
 
-/// Two records change places, and so do their marks.
+/// Two records change places, together with their marks.
 fn two_records_changed_about(desk: &Desk, random: &mut Random) -> Vec<Change> {
     let (Some(one), Some(other)) = (some_record(desk, random), some_record(desk, random)) else {
         return Vec::new();
@@ -179,7 +181,7 @@ fn two_records_changed_about(desk: &Desk, random: &mut Random) -> Vec<Change> {
     ]
 }
 
-/// A record goes over to another seat, key and mark, and both seats know of it.
+/// A record moves to another seat: its key, its mark and the records held of both seats change.
 fn a_record_of_another_seat(desk: &Desk, random: &mut Random) -> Vec<Change> {
     let (Some(cell), Some(to)) = (some_record(desk, random), some_seat(desk, 1, random)) else {
         return Vec::new();
