@@ -27,13 +27,13 @@ pub fn proof(c: &Call) -> String {
 
 /// The clauses that a proof has for each parameter. They depend on the parameter's kind.
 enum Clause {
-    /// What stays of the parameter at exit.
+    /// What is owned of the parameter at exit.
     Stays,
-    /// How the parameter is given up.
+    /// The law from what is owned of it at exit to what the contract says about its last value.
     Goes,
-    /// How its value is spelled in MIR.
+    /// Its values in MIR.
     Spells,
-    /// How that spelling determines it.
+    /// The law that its type relates it to these values.
     Tells,
 }
 
@@ -84,7 +84,7 @@ fn tells(p: &Param) -> String {
     }
 }
 
-/// What stays at exit, and the contracts of the core and the refuser.
+/// What is owned of the parameters at exit, and the contracts of the core and the refuser.
 fn contracts(c: &Call) -> String {
     let contract = |name: &str, of: &str| {
         let value = format!("tripleOf 𝓤 H A {of}.signature ({of}.spec 𝓤 H A at-mem run)");
