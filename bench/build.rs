@@ -1,4 +1,4 @@
-//! Links the proved library: on x86-64 the archive itself, elsewhere what bench/native makes of its module.
+//! Links the proved library: on x86-64 the archive itself, on other machines what bench/native makes from its LLVM module.
 fn main() {
     let root = concat!(env!("CARGO_MANIFEST_DIR"), "/..");
     let native = std::env::var("CARGO_CFG_TARGET_ARCH").is_ok_and(|arch| arch == "x86_64");

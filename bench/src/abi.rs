@@ -1,4 +1,4 @@
-//! The structs of include/rei2.h, and its calls as both sides have them.
+//! The structs of include/rei2.h, and its calls, which both sides have.
 
 use crate::plain;
 
@@ -11,7 +11,7 @@ pub const RAW: u32 = 0;
 pub const CLOCK: u32 = 1;
 pub const NET: u32 = 2;
 
-/// Declares structs as C lays them out.
+/// Declares structs with the layout of C.
 macro_rules! structs {
     ($($name:ident { $($field:ident: $type:ty),* $(,)? })*) => {$(
         #[repr(C)]
@@ -52,8 +52,8 @@ structs! {
     ListedAnswer { refusal: u32, size: usize }
 }
 
-/// Declares the calls, and the two sides as tables of pointers to them. Both sides have the same types, and are called
-/// through the pointers, so neither is inlined.
+/// Declares the calls, and the two sides as tables of pointers to them. The calls of both sides have the same types. They
+/// are made through the pointers, so that none is inlined.
 macro_rules! calls {
     ($($call:ident $exported:ident($($name:ident: $type:ty),* $(,)?) -> $answer:ty;)*) => {
         extern "C" { $(fn $exported($($name: $type),*) -> $answer;)* }
@@ -65,8 +65,8 @@ macro_rules! calls {
     };
 }
 
-// An answer of more than 16 bytes is stored where the first argument points, and that pointer comes back. On x86-64 this
-// is what C does where a function returns such a struct.
+// An answer of more than 16 bytes is stored where the first argument points, and the call returns that pointer. On x86-64
+// C does the same if a function returns such a struct.
 calls! {
     reset rei2_reset(answer: *mut DeskAnswer, seats: *mut Seat, seats_len: usize, desk: Desk) -> *mut DeskAnswer;
     open rei2_open(

@@ -1,16 +1,16 @@
-//! Both sides give the same, or the program stops and says on what they do not.
+//! Checks that both sides answer the same. If they do not, the program stops and prints the call.
 
 use crate::abi::{Side, PLAIN, PROVED};
 use crate::rows::Row;
 use std::fmt::Debug;
 
-/// Compares what a call gives on both sides: its answer and all memory that was lent.
+/// Compares the outcome of a call on both sides: its answer and all memory that was lent.
 pub fn same<T: PartialEq + Debug>(asked: &dyn Debug, call: impl Fn(&Side) -> T) {
     let (proved, plain) = (call(&PROVED), call(&PLAIN));
     assert!(proved == plain, "the sides differ on {asked:?}\nproved: {proved:?}\nplain: {plain:?}");
 }
 
-/// Compares all calls of the rows, and tells how many there were.
+/// Compares all calls of the rows, and returns how many there were.
 pub fn rows(rows: &mut [Row]) -> usize {
     rows.iter_mut().map(one_row).sum()
 }

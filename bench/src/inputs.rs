@@ -1,4 +1,4 @@
-//! Well formed records, and the frames, desks and captures made of them.
+//! Makes well formed records, and frames, desks and captures from them.
 
 use crate::abi::*;
 use crate::plain;
@@ -16,7 +16,7 @@ const NET_LETTERS: &[u8] = b"123";
 const RAW_LETTERS: &[u8] = b"456789AQPTRGHhIiJjpkugWwX";
 const LAST_TICK: u32 = 863_999_999;
 
-/// Requester and number.
+/// A requester and a number.
 pub type Key = (u8, u32);
 
 pub fn request(random: &mut Random) -> StaticRequest {
@@ -68,7 +68,7 @@ fn clock_timing(random: &mut Random) -> TimingNumbers {
     }
 }
 
-/// Up to nine million days on both sides of zero.
+/// A net value of up to nine million days before or after zero.
 fn net_value(random: &mut Random) -> i64 {
     let days = i64::from(random.between(0, 18_000_000)) - 9_000_000;
     days * 864_000_000 + i64::from(random.between(0, LAST_TICK))
@@ -121,7 +121,7 @@ pub fn dynamic_frame(record: &DynamicRequest) -> Vec<u8> {
     frame
 }
 
-/// The key of a seat, another one for each seat.
+/// The key of a seat. Each seat has a different key.
 pub fn key_of_seat(seat: usize) -> Key {
     (REQUESTERS[(7 * seat + 10) % REQUESTERS.len()], 61 * seat as u32 + 7)
 }
@@ -130,18 +130,18 @@ pub fn request_with(random: &mut Random, (requester, number): Key) -> Vec<u8> {
     request_frame(&StaticRequest { requester, number, ..request(random) })
 }
 
-/// The record with this key.
+/// The same record with this key.
 pub fn with_key(record: ReplyRecord, (requester, number): Key) -> ReplyRecord {
     ReplyRecord { head: ReplyHead { requester, number, ..record.head }, ..record }
 }
 
-/// A reply of any timing with this key and status R.
+/// A reply with any kind of timing, this key and status R.
 pub fn reply_with(random: &mut Random, key: Key) -> Vec<u8> {
     let kind = random.between(RAW, NET);
     reply_frame(&with_key(reply(random, kind), key))
 }
 
-/// A desk with all that is lent to it.
+/// A desk with all memory that is lent to it.
 #[derive(Clone)]
 pub struct Lent {
     pub desk: Desk,
@@ -151,7 +151,7 @@ pub struct Lent {
 }
 
 impl Lent {
-    /// So many seats in use, and so many cells held by them in turn.
+    /// A desk with `used` seats in use and `held` cells, which belong to these seats in turn.
     pub fn with(random: &mut Random, used: usize, held: usize) -> Self {
         let mut lent = Lent::empty();
         lent.desk = Desk { bits: (1 << used) - 1, count: held as u32 };
@@ -188,8 +188,8 @@ pub fn full_capture(random: &mut Random) -> Vec<u8> {
     bytes
 }
 
-/// Sixteen requests, then replies to them, dynamic requests and damaged frames, with line feeds between: 32,768 bytes, the
-/// last frame cut off.
+/// Sixteen requests, and then replies to them, dynamic requests and damaged frames, with a line feed after each of these.
+/// It is 32,768 bytes long, and the last frame is cut off.
 pub fn mixed_capture(random: &mut Random) -> Vec<u8> {
     let mut bytes = Vec::new();
     for seat in 0..SEATS {

@@ -1,4 +1,5 @@
-//! Times each call of the proved library beside plain Rust that does the same, once both have given the same answers.
+//! Times each call of the proved library beside plain Rust that does the same. Before this it checks that both give the
+//! same answers.
 
 mod abi;
 mod compare;
@@ -18,7 +19,7 @@ const USAGE: &str = "usage: bench [--quick] [--only WORDS] [--about TEXT]...";
 
 struct Options {
     quick: bool,
-    /// Rows without this text are left out.
+    /// Rows whose call and case do not contain this text are left out.
     only: String,
     /// Lines to print above the table.
     about: Vec<String>,

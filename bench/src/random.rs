@@ -1,4 +1,4 @@
-//! Numbers that look random and are the same in every run.
+//! Pseudo-random numbers, which are the same in every run.
 
 pub struct Random(u64);
 
@@ -19,7 +19,7 @@ impl Random {
         (self.next() % limit as u64) as usize
     }
 
-    /// A number from the first to the last, both among them.
+    /// A number from `first` to `last`, including both.
     pub fn between(&mut self, first: u32, last: u32) -> u32 {
         first + self.below((last - first) as usize + 1) as u32
     }

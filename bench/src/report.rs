@@ -1,4 +1,4 @@
-//! What is printed: a table in Markdown, and what follows from it.
+//! Prints the results: a table in Markdown, and figures that follow from it.
 
 use crate::rows::{About, Row};
 use crate::timing::{Figures, Plan};
@@ -30,7 +30,7 @@ pub fn ending(rows: &[Row], figures: &[Figures]) {
     println!();
     for (row, figures) in rows.iter().zip(figures) {
         let Some(bytes) = row.about.bytes else { continue };
-        // Bytes in a nanosecond, times a thousand.
+        // Bytes per nanosecond times a thousand are megabytes per second.
         let speed = |time: f64| bytes as f64 / (time * row.about.calls as f64) * 1000.0;
         let (proved, plain) = (speed(figures.proved), speed(figures.plain));
         println!("- `{}`, {}: {proved:.0} MB/s proved, {plain:.0} MB/s plain", row.about.call, row.about.case);
@@ -39,7 +39,7 @@ pub fn ending(rows: &[Row], figures: &[Figures]) {
     println!("- load of the machine after: {}", load());
 }
 
-/// What a held cell and a seat in use cost a reply.
+/// Prints how much time a reply takes for each held cell, and for more seats in use.
 fn growth(rows: &[Row], figures: &[Figures]) {
     let of = |case: &str| {
         let mut both = rows.iter().zip(figures);
@@ -66,7 +66,7 @@ fn duration(nanoseconds: f64) -> String {
     }
 }
 
-/// The three load averages, where the system has them.
+/// The three load averages, if the system reports them.
 fn load() -> String {
     let text = std::fs::read_to_string("/proc/loadavg").unwrap_or_default();
     let averages: Vec<&str> = text.split(' ').take(3).collect();

@@ -1,8 +1,9 @@
-//! A side's calls over slices. An answer of more than 16 bytes goes to a place of the caller's, and is not copied.
+//! The calls of a side with slices for pointers. An answer of more than 16 bytes is stored where the caller wants it and is
+//! not copied.
 
 use crate::abi::*;
 
-// SAFETY, of each call below: pointers and counts are those of slices, and what may change is borrowed alone.
+// SAFETY of each call below: pointers and counts are those of slices, and what may change is borrowed exclusively.
 impl Side {
     #[inline(always)]
     pub fn reset(&self, answer: &mut DeskAnswer, seats: &mut [Seat], desk: Desk) {

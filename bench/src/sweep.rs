@@ -1,11 +1,11 @@
-//! More calls on which both sides must agree than the rows have: damaged frames, records, desks and captures.
+//! Calls beyond those of the rows on which both sides must agree: damaged frames, records, desks and captures.
 
 use crate::abi::*;
 use crate::compare::same;
 use crate::inputs::*;
 use crate::random::Random;
 
-/// Numbers at the limits of some part.
+/// Numbers at or near the limits of some part.
 const LIMITS: [u32; 34] = [
     0,
     1,
@@ -43,7 +43,7 @@ const LIMITS: [u32; 34] = [
     u32::MAX,
 ];
 
-/// Makes all of them and tells how many there were.
+/// Makes all these calls, and returns how many there were.
 pub fn all() -> usize {
     let mut random = Random::new(8);
     damaged_frames(&mut random)
@@ -67,7 +67,7 @@ fn read_by_all(frame: &[u8]) {
     same(&frame, |side| got(|answer| side.read_dynamic(answer, frame)));
 }
 
-/// Each byte of a few frames in all its values, and frames of other lengths.
+/// A few frames with each byte changed to each of its values, and frames of other lengths.
 fn damaged_frames(random: &mut Random) -> usize {
     let mut calls = 0;
     let kinds = [CLOCK, NET, RAW].map(|kind| reply_frame(&reply(random, kind)));
@@ -176,7 +176,7 @@ fn spoil_dynamic(record: &mut DynamicRequest, part: usize, value: u32, byte: u8)
     }
 }
 
-/// Each byte of a held cell in all its values, met by a reply.
+/// Desks in which each byte of a held cell is changed to each of its values. Each desk is given a reply.
 fn damaged_cells(random: &mut Random) -> usize {
     for kind in [CLOCK, NET, RAW] {
         let mut lent = Lent::with(random, 2, 3);
@@ -201,7 +201,7 @@ fn reply_to(lent: &Lent, frame: &[u8]) {
     });
 }
 
-/// Desks with one thing that may be wrong, met by a request, a reply and both in a capture.
+/// Desks with one thing that may be wrong. Each is given a request, a reply, and a capture with both.
 fn spoiled_desks(random: &mut Random) -> usize {
     const TIMES: usize = 4_000;
     for _ in 0..TIMES {
@@ -251,7 +251,7 @@ fn spoil_desk(lent: &mut Lent, random: &mut Random) {
     }
 }
 
-/// The last record of a seat made its E, as a desk has it.
+/// Changes the last record of a seat to status E and marks the seat as ended, which leaves the desk good.
 fn end_seat(lent: &mut Lent, random: &mut Random) {
     let seat = random.below(SEATS);
     let held = lent.desk.count as usize;
@@ -261,7 +261,7 @@ fn end_seat(lent: &mut Lent, random: &mut Random) {
     }
 }
 
-/// Captures cut, taken and listed, over cells, marks and outputs of many sizes.
+/// Captures that are listed, with cells, marks and outputs of many sizes, and searched for frames.
 fn captures(random: &mut Random) -> usize {
     const TIMES: usize = 300;
     for time in 0..TIMES {
@@ -283,7 +283,7 @@ fn captures(random: &mut Random) -> usize {
     3 * TIMES
 }
 
-/// Calls on numbers, and cells looked for on any state.
+/// Calls on numbers, searches for cells with any state, and resets of rows of several lengths.
 fn numbers(random: &mut Random) -> usize {
     const TIMES: usize = 5_000;
     let lent = Lent::with(random, SEATS, CELLS);
@@ -306,7 +306,7 @@ fn numbers(random: &mut Random) -> usize {
     5 * TIMES + names()
 }
 
-/// Every name, on outputs of each length up to one byte more than the longest needs.
+/// Every refusal's name, with outputs of each length up to one byte more than the longest name needs.
 fn names() -> usize {
     let refusals = || (0..20).chain([255, 256, u32::MAX]);
     for refusal in refusals() {

@@ -1,18 +1,20 @@
-//! How a row is timed.
+//! Times a row.
 
 use crate::abi::{Side, PLAIN, PROVED};
 use crate::rows::Row;
 use std::hint::black_box;
 use std::time::{Duration, Instant};
 
-/// A repeat is so many slices of each side, by turns; its time for a side is the median of that side's slices.
+/// How often and how long a row is timed. A repeat times `slices` slices of each side in turn. Its time for a side is the
+/// median of that side's slices.
 pub struct Plan {
     pub repeats: usize,
     pub slices: usize,
     pub slice: Duration,
 }
 
-/// Nanoseconds of one call on each side, medians over the repeats, and the ratios proved to plain.
+/// The nanoseconds of one call on each side and the ratio of proved to plain, as medians of the repeats, and the least and
+/// the greatest ratio.
 pub struct Figures {
     pub proved: f64,
     pub plain: f64,
@@ -37,7 +39,7 @@ pub fn time(row: &mut Row, plan: &Plan) -> Figures {
     Figures { proved: median(proved), plain: median(plain), ratio: median(ratios), least, most }
 }
 
-/// One repeat. Which side is first changes with every pair of slices.
+/// One repeat. The side that comes first changes with every pair of slices.
 fn repeat(row: &mut Row, slices: usize, passes: usize, turn: usize) -> (f64, f64) {
     let mut proved = Vec::new();
     let mut plain = Vec::new();
@@ -53,10 +55,10 @@ fn repeat(row: &mut Row, slices: usize, passes: usize, turn: usize) -> (f64, f64
     (median(proved), median(plain))
 }
 
-/// Nanoseconds of a call in so many passes.
+/// The nanoseconds of one call, measured over `passes` passes.
 fn a_slice(row: &mut Row, side: &Side, passes: usize) -> f64 {
     let side = black_box(side);
-    // The first pass is not timed: it brings the row's memory and the side's code near.
+    // The first pass is not timed. It brings the row's memory and the side's code into the caches.
     row.pass.timed(side);
     let start = Instant::now();
     for _ in 0..passes {
@@ -65,7 +67,7 @@ fn a_slice(row: &mut Row, side: &Side, passes: usize) -> f64 {
     start.elapsed().as_nanos() as f64 / (passes * row.about.calls) as f64
 }
 
-/// How many passes fill a slice.
+/// How many passes of the plain side take at least half the time of a slice.
 fn passes_in(row: &mut Row, slice: Duration) -> usize {
     let mut passes = 1;
     loop {

@@ -1,10 +1,10 @@
-//! Who sees what a call answers: nobody while it is timed, and a keeper while the sides are compared.
+//! What happens to a call's answer. While calls are timed it is dropped, and while the sides are compared it is kept.
 
 use crate::abi::*;
 use std::fmt::Debug;
 use std::hint::black_box;
 
-/// An answer, with what it says of being refused.
+/// An answer and the number of its refusal, which is 0 if it is not refused.
 pub trait Answer: Debug {
     fn refusal(&self) -> u32 {
         0
@@ -31,7 +31,7 @@ impl Answer for u32 {}
 impl Answer for usize {}
 
 pub trait Witness {
-    /// Takes what was asked, what came, and the lent memory after it.
+    /// Is given what was asked, the answer, and the lent memory after the call.
     fn saw(&mut self, asked: &dyn Debug, answer: &impl Answer, memory: &[&dyn Debug]);
 }
 
@@ -44,7 +44,7 @@ impl Witness for Nobody {
     }
 }
 
-/// What one call was asked, and what it gave.
+/// What one call was asked, what it answered, and the lent memory after it.
 #[derive(PartialEq)]
 pub struct Seen {
     pub asked: String,

@@ -1,4 +1,4 @@
-//! The calls in the shape that C gives them. No pointer is null here, with no elements either.
+//! The calls in the form in which C calls them. No pointer is null here, even if there are no elements.
 #![allow(clippy::missing_safety_doc, clippy::too_many_arguments)]
 
 use super::refusal::{put_name, Refusal, DESK};

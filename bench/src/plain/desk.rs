@@ -1,4 +1,4 @@
-//! The desk: requests opened, replies sorted to them.
+//! The desk: opens requests and sorts replies to them.
 
 use super::finder::{next_frame, WHOLE};
 use super::refusal::{Refusal, DESK, ENDED, FULL, IN_USE, NO_ANSWER_DUE, NO_SEAT, OUT_OF_PLACE, STRAY};
@@ -6,7 +6,7 @@ use super::test::is_desk;
 use super::{dynamic, reply, request};
 use crate::abi::{Counts, Desk, Seat, CELLS, CELL_SIZE, SEATS};
 
-/// What a reply is matched on.
+/// The key by which a reply finds its seat.
 #[derive(Clone, Copy, PartialEq)]
 pub struct Key {
     pub requester: u32,
@@ -28,7 +28,7 @@ pub fn capacity(cells: usize, marks: usize) -> usize {
     CELLS.min(cells / CELL_SIZE).min(marks)
 }
 
-/// The state after a call, and the seat.
+/// The state after a call, and the place of the seat.
 type Done = Result<(Desk, usize), Refusal>;
 
 pub fn open(seats: &mut [Seat], desk: Desk, cells: &[u8], marks: &[u32], frame: &[u8]) -> Done {
@@ -41,7 +41,7 @@ pub fn reply(seats: &mut [Seat], desk: Desk, cells: &mut [u8], marks: &mut [u32]
     reply_on_desk(row, desk, cells, marks, frame)
 }
 
-/// The row, where all this makes a desk.
+/// The row, if state and memory make a desk.
 #[inline]
 fn row_of_desk<'a>(
     seats: &'a mut [Seat],
@@ -101,7 +101,7 @@ fn seat_with(seats: &[Seat; SEATS], bits: u64, key: Key) -> Option<usize> {
     (0..SEATS).find(|&place| is_used(bits, place) && key_of(&seats[place]) == key)
 }
 
-/// All frames of a capture, with one test of the desk.
+/// Processes all frames of a capture, with one test of the desk.
 pub fn capture(
     seats: &mut [Seat],
     desk: Desk,

@@ -87,7 +87,7 @@ fn is_run(value: u32) -> bool {
     value <= 250
 }
 
-/// Orders A and B want a period.
+/// Orders A and B need a period that is not zero.
 fn is_period(value: u32, order: u8) -> bool {
     value <= 99_999 && (value != 0 || !matches!(order, b'A' | b'B'))
 }

@@ -1,11 +1,11 @@
-//! What all kinds of frame are read and written with.
+//! Functions that all kinds of frame are read and written with.
 
 use super::refusal::{field, Refusal, ADDRESS, END, KIND, LENGTH};
 use super::times;
 
 pub const CR: u8 = 0x0d;
 
-/// The frame, if nothing around its fields is wrong.
+/// The frame, if its lead byte, length, end and address are right.
 #[inline(always)]
 pub fn framed<const SIZE: usize>(bytes: &[u8], lead: u8) -> Result<&[u8; SIZE], Refusal> {
     if bytes.first() != Some(&lead) {
@@ -21,7 +21,7 @@ pub fn framed<const SIZE: usize>(bytes: &[u8], lead: u8) -> Result<&[u8; SIZE], 
     Ok(frame)
 }
 
-/// The number that these digits are.
+/// The number that these digits are; none if one is not a digit.
 #[inline(always)]
 pub fn number(digits: &[u8]) -> Option<u32> {
     let mut value = 0;
@@ -35,13 +35,13 @@ pub fn number(digits: &[u8]) -> Option<u32> {
     Some(value)
 }
 
-/// The number of the field, if it is a good one.
+/// The number in a field, if `good` accepts it.
 #[inline(always)]
 pub fn number_at<const WIDTH: usize>(frame: &[u8], at: usize, good: impl FnOnce(u32) -> bool) -> Result<u32, Refusal> {
     number(&frame[at..at + WIDTH]).filter(|&value| good(value)).ok_or(field(at))
 }
 
-/// The byte, if it is a good one.
+/// The byte at a place, if `good` accepts it.
 #[inline(always)]
 pub fn byte_at(frame: &[u8], at: usize, good: impl FnOnce(u8) -> bool) -> Result<u8, Refusal> {
     if good(frame[at]) {
@@ -51,13 +51,13 @@ pub fn byte_at(frame: &[u8], at: usize, good: impl FnOnce(u8) -> bool) -> Result
     }
 }
 
-/// Ten digits that are a time of day, in ticks.
+/// The time of day in a field of ten digits, in ticks.
 #[inline(always)]
 pub fn clock_at(frame: &[u8], at: usize) -> Result<u32, Refusal> {
     times::clock(&frame[at..at + 10]).ok_or(field(at))
 }
 
-/// Raw bytes, one field.
+/// The bytes of a raw field.
 #[inline(always)]
 pub fn raw_at<const WIDTH: usize>(frame: &[u8], at: usize) -> Result<[u8; WIDTH], Refusal> {
     let bytes: [u8; WIDTH] = frame[at..at + WIDTH].try_into().expect("WIDTH bytes");
@@ -68,7 +68,7 @@ pub fn raw_at<const WIDTH: usize>(frame: &[u8], at: usize) -> Result<[u8; WIDTH]
     }
 }
 
-/// Fills the field with the digits of a value that fits.
+/// Fills a field with the digits of a value, which must fit.
 #[inline]
 pub fn put_number(digits: &mut [u8], mut value: u32) {
     for digit in digits.iter_mut().rev() {
@@ -89,7 +89,7 @@ pub fn is_raw(code: u8) -> bool {
     matches!(code, 0x20..=0x7e)
 }
 
-/// Without a way out in the middle, which is faster on so few bytes.
+/// Are all bytes raw? There is no early return: on so few bytes it is faster without one.
 pub fn all_raw(codes: &[u8]) -> bool {
     codes.iter().fold(true, |good, &code| good & is_raw(code))
 }

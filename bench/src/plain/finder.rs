@@ -1,4 +1,4 @@
-//! Captured bytes cut into frames.
+//! Cuts captured bytes into frames.
 
 use super::fields::CR;
 use super::{dynamic, reply, request};
@@ -7,7 +7,7 @@ use crate::abi::FrameAnswer;
 pub const WHOLE: u32 = 1;
 pub const CUT: u32 = 2;
 
-/// The first frame that begins at a place or behind it.
+/// The first frame that begins at a place or after it.
 #[inline]
 pub fn next_frame(capture: &[u8], at: usize) -> Option<FrameAnswer> {
     let start = at + capture.get(at..)?.iter().position(|&byte| is_lead(byte))?;
@@ -15,7 +15,7 @@ pub fn next_frame(capture: &[u8], at: usize) -> Option<FrameAnswer> {
     Some(FrameAnswer { kind, start, end, next: end })
 }
 
-/// How the frame that begins at a place ends, and where.
+/// Whether the frame that begins at a place is whole or cut, and where it ends.
 #[inline]
 fn end_of_frame(capture: &[u8], start: usize) -> (u32, usize) {
     for (place, &byte) in capture.iter().enumerate().skip(start + 1) {

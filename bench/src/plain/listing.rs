@@ -12,7 +12,7 @@ const HEADING: &[u8] = b"seat\tfrom\tnumber\tbib\tgroup\trun\tphys\tlog\tinfo\tt
 /// The bytes of a frame that the columns show.
 const COLUMNS: [Range<usize>; 11] = [6..7, 9..12, 12..17, 17..20, 20..23, 23..26, 26..29, 29..30, 30..40, 40..48, 5..6];
 
-/// Bytes put to an output one behind the other.
+/// An output to which bytes are written one after the other.
 struct Text<'a> {
     out: &'a mut [u8],
     size: usize,
@@ -49,7 +49,8 @@ fn width_of(value: usize) -> usize {
     value.checked_ilog10().map_or(1, |log| log as usize + 1)
 }
 
-/// Writes the list. The frames are kept aside until there is room for it, and then in the lent cells and marks.
+/// Writes the list. The frames are first kept in local memory. They are copied to the lent cells and marks only if the
+/// output has room for the list.
 pub fn list(capture: &[u8], cells: &mut [u8], marks: &mut [u32], out: &mut [u8]) -> Result<usize, Refusal> {
     if capture.len() > MOST_INPUT {
         out.get_mut(..TOO_LONG.len()).ok_or(ROOM)?.copy_from_slice(TOO_LONG);

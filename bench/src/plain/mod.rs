@@ -1,5 +1,5 @@
-//! The same calls in plain Rust: what one would write by hand from docs/RULES.md and include/rei2.h, tuned by measuring.
-//! The readers and what they call are inlined by force, which is worth a third of their time.
+//! The same calls in plain Rust, as one would write them by hand from docs/RULES.md and include/rei2.h, and tuned by
+//! measurements. The readers and the functions that they call are always inlined, which saves a third of their time.
 
 pub mod calls;
 pub mod desk;

@@ -1,4 +1,4 @@
-//! Why a call is refused.
+//! The reasons why a call is refused.
 
 #[derive(Clone, Copy)]
 pub struct Refusal {
@@ -25,12 +25,12 @@ pub const ENDED: Refusal = numbered(14);
 pub const OUT_OF_PLACE: Refusal = numbered(15);
 pub const FULL: Refusal = numbered(16);
 
-/// A wrong field, by the offset where it begins.
+/// FIELD, with the offset at which the wrong field begins.
 pub const fn field(at: usize) -> Refusal {
     Refusal { number: 5, offset: at as u32 }
 }
 
-/// RECORD at this offset, unless the part is good.
+/// RECORD with this offset, unless the part is good.
 #[inline]
 pub fn part(good: bool, at: u32) -> Result<(), Refusal> {
     if good {
@@ -46,7 +46,7 @@ const NAMES: [&str; 17] = [
     "NO SEAT", "STRAY", "ENDED", "OUT OF PLACE", "FULL",
 ];
 
-/// Writes a refusal's name and a zero byte, and gives the name's size.
+/// Writes a refusal's name and a zero byte, and returns the name's size.
 pub fn put_name(refusal: u32, out: &mut [u8]) -> Result<usize, Refusal> {
     let name = NAMES.get(refusal as usize).unwrap_or(&"UNKNOWN").as_bytes();
     let place = out.get_mut(..=name.len()).ok_or(ROOM)?;

@@ -10,7 +10,7 @@ use crate::abi::{ReplyHead, ReplyRecord, TimingNumbers, CLOCK, NET, RAW};
 pub const LEAD: u8 = 0x12;
 const SIZE: usize = 51;
 
-/// Reads a frame. Inlined, so that a caller that wants a part of the record pays for that part alone.
+/// Reads a frame. It is inlined, so that a caller that needs one part of the record pays only for that part.
 #[inline(always)]
 pub fn read(bytes: &[u8]) -> Result<ReplyRecord, Refusal> {
     let frame = framed::<SIZE>(bytes, LEAD)?;
@@ -120,7 +120,7 @@ fn head_must_be_good(head: &ReplyHead) -> Result<(), Refusal> {
     part(is_information(head.information), 29)
 }
 
-/// What a kind of timing does not use is zero.
+/// Checks the timing of a record. The parts that its kind does not use must be zero.
 fn timing_must_be_good(record: &ReplyRecord) -> Result<(), Refusal> {
     let timing = &record.timing;
     part(timing.kind == kind_of(record.head.status, record.head.information), 30)?;
@@ -143,7 +143,7 @@ fn timing_must_be_good(record: &ReplyRecord) -> Result<(), Refusal> {
     part(timing.kind == RAW || rawless, 50)
 }
 
-/// The timing that a reply has.
+/// The kind of timing that a reply has.
 #[inline(always)]
 fn kind_of(status: u8, information: u8) -> u32 {
     match information {

@@ -1,18 +1,18 @@
-//! The desk test: the eleven clauses, with one pass over the held cells.
+//! The desk test: its eleven clauses, with one pass over the held cells.
 
 use super::desk::{capacity, is_used, key_of, Key};
 use super::fields::is_requester;
 use super::reply;
 use crate::abi::{Desk, ReplyRecord, Seat, CELL_SIZE, SEATS};
 
-/// What the cells so far say of one seat.
+/// What the cells that were read so far say about one seat.
 #[derive(Clone, Copy, Default)]
 struct View {
     held: u32,
     ended: bool,
 }
 
-/// Clauses 2 to 11; the type of the row is the first.
+/// Tests clauses 2 to 11. Clause 1 holds by the type of the row.
 pub fn is_desk(seats: &[Seat; SEATS], desk: Desk, cells: &[u8], marks: &[u32]) -> bool {
     desk.bits >> SEATS == 0
         && seats_are_good(seats, desk.bits)
@@ -60,6 +60,6 @@ fn cells_are_good(seats: &[Seat; SEATS], desk: Desk, cells: &[u8], marks: &[u32]
         view.held += 1;
         view.ended = head.status != b'R';
     }
-    // A seat that is not in use is all zero, and so is its view.
+    // For a seat that is not in use, both the seat and its view are all zero.
     views.iter().zip(seats).all(|(view, seat)| view.held == seat.held && u32::from(view.ended) == seat.ended)
 }

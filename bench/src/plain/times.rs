@@ -11,7 +11,7 @@ pub fn is_clock(ticks: u32) -> bool {
     i64::from(ticks) < DAY
 }
 
-/// HHMMSSdddd in ticks.
+/// The ticks of a time `HHMMSSdddd`.
 #[inline(always)]
 pub fn clock(text: &[u8]) -> Option<u32> {
     let hours = number(&text[..2])?;
@@ -30,7 +30,7 @@ pub fn put_clock(text: &mut [u8], ticks: u32) {
     put_number(&mut text[6..10], ticks % 10_000);
 }
 
-/// A real day of the years 2000 to 2099.
+/// Is it a real day of the years 2000 to 2099?
 #[inline(always)]
 pub fn is_day(day: u32, month: u32, year: u32) -> bool {
     let last = match month {
@@ -47,7 +47,7 @@ fn is_leap(year: u32) -> bool {
     year.is_multiple_of(4) && (!year.is_multiple_of(100) || year.is_multiple_of(400))
 }
 
-/// The value of days with a sign and a time. Minus with no days is none.
+/// The net value of days with a sign, and a time. A minus without days has no value.
 #[inline(always)]
 pub fn net_value(minus: bool, days: u32, time: u32) -> Option<i64> {
     if minus && days == 0 {
@@ -57,7 +57,7 @@ pub fn net_value(minus: bool, days: u32, time: u32) -> Option<i64> {
     Some(if minus { -days } else { days } + i64::from(time))
 }
 
-/// Days rounded down and the time past them, if seven digits show the days.
+/// The days, rounded down, and the time after them; none if seven digits cannot show the days.
 #[inline]
 pub fn net_parts(value: i64) -> Option<(i64, u32)> {
     let days = value.div_euclid(DAY);

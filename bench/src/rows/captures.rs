@@ -1,4 +1,4 @@
-//! Captures: cut into frames, taken whole, and listed.
+//! Captures that are cut into frames, given to a desk, and listed.
 
 use super::{About, Calls, Row};
 use crate::abi::*;
@@ -8,7 +8,7 @@ use crate::witness::Witness;
 
 const LONGEST_LIST: usize = 14_170;
 
-/// All frames of a capture.
+/// Finds all frames of a capture, one after the other.
 struct Walking {
     capture: Vec<u8>,
 }
@@ -57,7 +57,7 @@ impl Calls for Listing {
     }
 }
 
-/// How many calls it takes to walk a capture.
+/// How many calls it takes to find all frames of a capture.
 fn calls_to_walk(capture: &[u8]) -> usize {
     capture.iter().filter(|byte| matches!(byte, 0x11..=0x13)).count() + 1
 }

@@ -1,5 +1,5 @@
-//! Calls on a desk. What a call changed of the seats is put back before the next one, on both sides and within the timing;
-//! a cell or mark that was free may hold anything.
+//! Calls on a desk. What a call changed in the seats is put back before the next call. This is done on both sides and is
+//! timed too. Free cells and marks are not put back, since they may contain anything.
 
 use super::{About, Calls, Row};
 use crate::abi::*;
@@ -7,10 +7,10 @@ use crate::inputs::{key_of_seat, reply_with, request_with, Lent};
 use crate::random::Random;
 use crate::witness::Witness;
 
-/// Frames in a row.
+/// The number of frames in a row.
 const FRAMES: usize = 16;
 
-/// Seats in use, where nothing else is said.
+/// The number of seats in use, if a case does not say otherwise.
 const USED: usize = 8;
 
 struct Opening {
@@ -33,7 +33,7 @@ impl Calls for Opening {
 struct Replying {
     lent: Lent,
     frames: Vec<Vec<u8>>,
-    /// How the seat that each frame is for was.
+    /// For each frame, the place of its seat and the seat as it was before.
     before: Vec<(usize, Seat)>,
 }
 
@@ -64,7 +64,7 @@ impl Calls for Resetting {
     }
 }
 
-/// All records of a seat, one after the other.
+/// Finds all records of a seat, one after the other.
 struct ReadingBack {
     lent: Lent,
     seat: u32,

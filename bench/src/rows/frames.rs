@@ -1,4 +1,4 @@
-//! Frames read to records and written from records.
+//! Frames that are read to records, and records that are written to frames.
 
 use super::{About, Calls, Row};
 use crate::abi::*;
@@ -7,7 +7,7 @@ use crate::random::Random;
 use crate::witness::{Answer, Witness};
 use std::fmt::Debug;
 
-/// Different frames or records in a row, so that no side learns a single one by heart.
+/// The number of different frames or records in a row. There are several, so that no side is timed on one repeated input.
 const INPUTS: usize = 64;
 
 struct Reading<A, R> {
@@ -45,14 +45,14 @@ fn many<T>(mut make: impl FnMut(&mut Random) -> T) -> Vec<T> {
     (0..INPUTS).map(|_| make(&mut random)).collect()
 }
 
-/// The same with one byte of each changed.
+/// The same frames with one byte of each changed.
 fn damaged(frames: &[Vec<u8>], at: usize) -> Vec<Vec<u8>> {
     let mut frames = frames.to_vec();
     frames.iter_mut().for_each(|frame| frame[at] = 0x7f);
     frames
 }
 
-/// Good frames of a kind, and the same with the lead byte and the last field damaged.
+/// Rows with good frames of a kind, and with the same frames after the lead byte or the last field was damaged.
 fn readings<A: Answer + Default + 'static>(
     call: &'static str,
     good: Vec<(&str, Vec<Vec<u8>>)>,
@@ -73,7 +73,8 @@ fn readings<A: Answer + Default + 'static>(
     rows
 }
 
-/// Good records of a kind, the same with their last part wrong, and the same with too short an output.
+/// Rows with good records of a kind, with the same records after their last part was made wrong, and with an output that is
+/// too short.
 fn writings<T: Copy + Debug + 'static>(
     call: &'static str,
     size: usize,

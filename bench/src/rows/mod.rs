@@ -1,4 +1,4 @@
-//! The rows of the benchmark: what is called, on what, and what it must answer.
+//! The rows of the benchmark: which call is made, with which inputs, and what it must answer.
 
 mod captures;
 mod desks;
@@ -8,17 +8,17 @@ mod numbers;
 use crate::abi::Side;
 use crate::witness::{Keeper, Nobody, Seen, Witness};
 
-/// What a row says of itself.
+/// The description of a row.
 pub struct About {
     pub call: &'static str,
     pub case: String,
-    /// The refusal that each call answers.
+    /// The refusal that each call must answer with.
     pub refusal: u32,
     /// Calls in one pass.
     pub calls: usize,
-    /// Bytes in one pass, where the row is told by them.
+    /// Bytes in one pass, if the row's speed in bytes is printed.
     pub bytes: Option<usize>,
-    /// What is cleared or put back before each call, within the timing.
+    /// What is cleared or put back before each call. This is timed too.
     pub cleared: &'static str,
 }
 
@@ -28,12 +28,12 @@ impl About {
     }
 }
 
-/// The calls of a row, made once each.
+/// The calls of a row. `make` makes each of them once.
 pub trait Calls {
     fn make<W: Witness>(&mut self, side: &Side, witness: &mut W);
 }
 
-/// `Calls` behind a pointer.
+/// `Calls` in a form that can be used through a pointer.
 pub trait Pass {
     fn timed(&mut self, side: &Side);
     fn kept(&mut self, side: &Side) -> Vec<Seen>;

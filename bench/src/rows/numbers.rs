@@ -1,4 +1,4 @@
-//! Calls on numbers alone.
+//! Calls that take only numbers.
 
 use super::{About, Calls, Row};
 use crate::abi::*;
@@ -32,7 +32,7 @@ fn row<T: Copy + Debug + 'static, A: Answer + 'static>(
     Row::new(About::new(call, case, refusal, inputs.len()), Asking { inputs, call: ask })
 }
 
-/// The same with one part out of range, each part in turn.
+/// The same numbers with one part out of range. `turn` selects the part.
 fn one_wrong(mut of: RunningOf, turn: usize) -> RunningOf {
     let parts = [&mut of.tnow, &mut of.tev, &mut of.sign, &mut of.days, &mut of.time];
     *parts.into_iter().nth(turn % 5).expect("one of five") = 864_000_000;

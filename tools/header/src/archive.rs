@@ -1,12 +1,12 @@
-//! Reads the symbol index of an archive, System V form: the first member, named `/`, has a count, as many offsets of four
-//! bytes, all with the high byte first, and then the names, each ended by a zero byte.
+//! Reads the symbol index of an archive in System V form. The index is the first member, named `/`. It has a count, then
+//! as many offsets of four bytes, and then the names, each ended by a zero byte. Count and offsets have the high byte first.
 
 const MAGIC: &[u8] = b"!<arch>\n";
 
 /// The size of a member's head: name 16, date 12, owner 6, group 6, mode 8, size 10, end 2.
 const HEAD: usize = 60;
 
-/// The names that the index has.
+/// The names in the index.
 pub fn symbols(archive: &[u8]) -> Result<Vec<String>, String> {
     let index = index(archive).ok_or("it is no archive with a symbol index")?;
     names(index).ok_or_else(|| "its symbol index ends too early".to_string())

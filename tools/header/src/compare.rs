@@ -1,8 +1,8 @@
-//! Says how a header differs from what a crate exports.
+//! Finds how a header differs from what a crate exports.
 
 use crate::declared::{Declared, Function, Part, Struct};
 
-/// Every difference, a line each, which begins with the name of the function or struct.
+/// A line for each difference. It begins with the name of the function or struct.
 pub fn differences(source: &Declared, header: &Declared) -> Vec<String> {
     let mut found: Vec<String> = source.faults.iter().chain(&header.faults).cloned().collect();
     for wanted in &source.functions {
@@ -40,7 +40,7 @@ fn function_differences(wanted: &Function, had: &Function) -> Vec<String> {
     found
 }
 
-/// The differences of two lists of parameters or fields, place by place.
+/// The differences between two lists of parameters or fields, place by place.
 fn part_differences(name: &str, what: &str, wanted: &[Part], had: &[Part]) -> Vec<String> {
     let shown = |part: Option<&Part>| part.map_or("nothing".to_string(), Part::shown);
     let places = 0..wanted.len().max(had.len());
@@ -52,7 +52,7 @@ fn part_differences(name: &str, what: &str, wanted: &[Part], had: &[Part]) -> Ve
     differing.map(line).collect()
 }
 
-/// The size and the offsets of a struct that the header does not assert.
+/// A line for the size and each offset of a struct that the header does not assert.
 fn unasserted(had: &Struct, header: &Declared) -> Vec<String> {
     let has = |field: Option<&str>| header.asserted.iter().any(|a| a.name == had.name && a.field.as_deref() == field);
     let size = (!has(None)).then(|| format!("{}: its size is not asserted", had.name));
@@ -61,7 +61,7 @@ fn unasserted(had: &Struct, header: &Declared) -> Vec<String> {
     size.into_iter().chain(offsets).collect()
 }
 
-/// The differences of an archive's symbols from the functions that are exported.
+/// The differences between an archive's symbols and the exported functions.
 pub fn archive_differences(source: &Declared, symbols: &[String]) -> Vec<String> {
     let exported = |name: &String| source.functions.iter().any(|f| f.name == *name);
     let missing = source.functions.iter().filter(|f| !symbols.contains(&f.name));

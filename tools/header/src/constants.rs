@@ -1,4 +1,4 @@
-//! Says how the constants of the header's enums differ from the numbers that they stand for in sources and definitions.
+//! Finds how the constants of the header's enums differ from the same numbers in sources and definitions.
 
 use crate::declared::{Constant, Declared};
 use crate::exports;
@@ -6,9 +6,9 @@ use crate::source::Source;
 use crate::spec::Spec;
 use std::path::Path;
 
-/// Each constant of `enum rei2_limit`, and where its number stands below the crates: a constant of a source; and in a
-/// file of specs a definition, a field of one, or a case of one that is a formula, `NAME ≡ NUMBER` or
-/// `NAME ≡ record { FIELD = NUMBER }`.
+/// Each constant of `enum rei2_limit`, and the two places below the crates that have its number. The first is a constant of
+/// a source. The second is in a file of specs: a definition, a field of a definition, or a case, which is
+/// `NAME ≡ NUMBER` or `NAME ≡ record { FIELD = NUMBER }`.
 const LIMITS: [(&str, [(&str, &str); 2]); 12] = [
     ("REI2_SEATS", [("desk/src/limits.rt", "SEATS"), ("desk/specs/Limits.antt", "seatCount")]),
     ("REI2_CELLS", [("desk/src/limits.rt", "CELLS"), ("desk/specs/Limits.antt", "mostCells")]),
@@ -24,34 +24,34 @@ const LIMITS: [(&str, [(&str, &str); 2]); 12] = [
     ("REI2_NAME_SIZE", [("rei2/src/names.rt", "NAME_SIZE"), ("rei2/specs/Names.antt", "nameSize")]),
 ];
 
-/// The table of refusals: a file whose constants are their numbers, and one that defines them.
+/// The table of refusals: a source whose constants are the numbers of the refusals, and the file that defines them.
 const REFUSALS: (&str, &str) = ("digits/src/refusal.rt", "digits/specs/Refusals.antt");
 
-/// Each enum of kinds, and the function that gives each constructor its number, as the field `kind` of a record.
+/// Each enum of kinds, and the function that gives each constructor its number: the field `kind` of a record.
 const KINDS: [(&str, &str, &str); 2] =
     [("rei2_timing", "rei2/specs/Reply.antt", "numbersOf"), ("rei2_found", "rei2/specs/Calls.antt", "frameAnswer")];
 
 /// The programs that list captures.
 const PROGRAMS: [&str; 2] = ["rei2list/src/main.rt", "lists/src/main.rt"];
 
-/// Each array that they lend: how long it is, as a product of constants and so many more.
+/// Each array that they lend. Its length is the product of these constants, plus a number.
 const LENT: [(&str, &[&str], u64); 4] = [
-    // one byte more than is listed, to see that there is more
+    // one byte more than can be listed, to notice that a capture is too long
     ("input", &["REI2_MOST_INPUT"], 1),
     ("cells", &["REI2_CELLS", "REI2_CELL_SIZE"], 0),
     ("marks", &["REI2_CELLS"], 0),
     ("out", &["REI2_LONGEST_LIST"], 0),
 ];
 
-/// A constant that the header shall have.
+/// A constant that the header must have.
 struct Wanted {
     group: &'static str,
     name: String,
-    /// Where its number stands, and the number, if there is one.
+    /// Where its number is, and the number, if there is one.
     places: Vec<(String, Option<u64>)>,
 }
 
-/// Every difference, a line each.
+/// A line for each difference.
 pub fn differences(root: &Path, header: &Declared) -> Result<Vec<String>, String> {
     let mut wanted = limits(root)?;
     wanted.extend(refusals(root)?);
@@ -120,13 +120,13 @@ fn kinds(root: &Path) -> Result<Vec<Wanted>, String> {
     Ok(found)
 }
 
-/// The differences of the arrays that a program lends.
+/// The differences in the lengths of the arrays that a program lends.
 fn lent_differences(root: &Path, program: &str, constants: &[Constant]) -> Result<Vec<String>, String> {
     let source = Source::at(root, program)?;
     let value = |name: &&str| constants.iter().find(|had| had.name == **name).map(|had| had.value);
     let mut found = Vec::new();
     for (array, factors, more) in LENT {
-        // a constant that the header lacks is told already
+        // a constant that the header lacks is reported elsewhere
         let Some(wanted) = factors.iter().map(value).product::<Option<u64>>() else { continue };
         let wanted = wanted + more;
         let lengths = source.lengths(array);

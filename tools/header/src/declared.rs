@@ -1,6 +1,6 @@
-//! What C sees: functions, structs and constants, in the words of C.
+//! What C sees: functions, structs and constants, with the names of types that C uses.
 
-/// A parameter or a field. The type is spelled `size_t`, `const uint8_t *`, `uint8_t[10]`.
+/// A parameter or a field. Its type is spelled like `size_t`, `const uint8_t *` or `uint8_t[10]`.
 #[derive(Clone, PartialEq)]
 pub struct Part {
     pub name: String,
@@ -20,7 +20,7 @@ pub struct Struct {
     pub fields: Vec<Part>,
 }
 
-/// A static assertion: of a struct's size, or of the offset of one field.
+/// A static assertion about a struct's size, or about the offset of one field.
 pub struct Asserted {
     pub name: String,
     pub field: Option<String>,
@@ -28,28 +28,28 @@ pub struct Asserted {
 
 /// A constant of an enum.
 pub struct Constant {
-    /// The enum's name; empty where it has none.
+    /// The enum's name; empty if it has none.
     pub group: String,
     pub name: String,
     pub value: u64,
 }
 
-/// All that one side declares, and what could not be read of it.
+/// Everything that one side declares, and what could not be read.
 #[derive(Default)]
 pub struct Declared {
     pub functions: Vec<Function>,
     pub structs: Vec<Struct>,
-    /// The header's alone.
+    /// Only the header has these.
     pub constants: Vec<Constant>,
     pub asserted: Vec<Asserted>,
     pub faults: Vec<String>,
 }
 
 impl Declared {
-    /// Adds a function, or a fault where it is there already.
+    /// Adds a function. If there is one of this name already, adds a fault too.
     pub fn add_function(&mut self, function: Function) {
         if self.functions.iter().any(|f| f.name == function.name) {
-            self.faults.push(format!("{}: stands twice", function.name));
+            self.faults.push(format!("{}: is declared twice", function.name));
         }
         self.functions.push(function);
     }
@@ -57,7 +57,7 @@ impl Declared {
     /// The same for a struct.
     pub fn add_struct(&mut self, found: Struct) {
         if self.structs.iter().any(|s| s.name == found.name) {
-            self.faults.push(format!("{}: stands twice", found.name));
+            self.faults.push(format!("{}: is declared twice", found.name));
         }
         self.structs.push(found);
     }
@@ -65,14 +65,14 @@ impl Declared {
     /// The same for a constant.
     pub fn add_constant(&mut self, constant: Constant) {
         if self.constants.iter().any(|c| c.name == constant.name) {
-            self.faults.push(format!("{}: stands twice", constant.name));
+            self.faults.push(format!("{}: is declared twice", constant.name));
         }
         self.constants.push(constant);
     }
 }
 
 impl Part {
-    /// As C writes it.
+    /// The part as it is written in C.
     pub fn shown(&self) -> String {
         match self.kind.split_once('[') {
             Some((element, length)) => format!("{element} {}[{length}", self.name),

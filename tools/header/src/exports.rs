@@ -1,12 +1,12 @@
-//! Reads what a Rattle crate exports, as C declares it: its functions marked `#[no_mangle] pub extern "C"`, and the
-//! `#[repr(C)]` structs that these and their fields name, wherever they are declared.
+//! Reads what a Rattle crate exports, in the form of C declarations: the functions marked `#[no_mangle] pub extern "C"`,
+//! and the `#[repr(C)]` structs that these functions or the structs' fields name, in whichever crate they are declared.
 
 use crate::declared::{Declared, Function, Part, Struct};
 use crate::lex::{self, Token};
 use crate::source::{self, Source};
 use std::path::Path;
 
-/// A type's name in C begins with this.
+/// The beginning of a type's name in C.
 const PREFIX: &str = "rei2_";
 
 const NUMBERS: [(&str, &str); 12] = [
@@ -38,13 +38,13 @@ pub fn exported(root: &Path, name: &str) -> Result<Declared, String> {
 
 struct Reader<'a> {
     root: &'a Path,
-    /// The structs met so far: crate, module and name.
+    /// The structs found so far: crate, module and name.
     homes: Vec<(String, String, String)>,
     found: Declared,
 }
 
 impl Reader<'_> {
-    /// Reads the exported function whose `fn` stands at `at`, if one does.
+    /// Reads the exported function whose `fn` is at `at`, if there is one.
     fn function_at(&mut self, source: &Source, at: usize) -> Result<(), String> {
         let (before, rest) = source.tokens.split_at(at);
         let [keyword, name, open, ..] = rest else { return Ok(()) };
@@ -71,7 +71,7 @@ impl Reader<'_> {
         Ok(())
     }
 
-    /// The C parameters of `name: type`: two for a slice.
+    /// The C parameters of `name: type`. A slice has two.
     fn parameter(&mut self, source: &Source, function: &str, tokens: &[Token]) -> Result<Vec<Part>, String> {
         let texts: Vec<&str> = tokens.iter().map(|token| token.text.as_str()).collect();
         let (name, mutable, kind) = match texts.as_slice() {
@@ -94,7 +94,7 @@ impl Reader<'_> {
         })
     }
 
-    /// The C type of a number or a struct; the struct is read too.
+    /// The C type of a number or a struct. A struct is read too.
     fn plain(&mut self, source: &Source, user: &str, tokens: &[Token]) -> Result<String, String> {
         let [name] = tokens else {
             self.fault(user, &format!("has a type that is not read: {}", lex::shown(tokens)));
@@ -112,7 +112,7 @@ impl Reader<'_> {
         Ok(c_name(&name.text))
     }
 
-    /// Reads the struct that is declared there, and those that it holds.
+    /// Reads the struct that is declared there, and the structs of its fields.
     fn structure(&mut self, home: &(String, String, String)) -> Result<(), String> {
         let (crate_name, module, name) = home;
         let source = Source::read(self.root, crate_name, module)?;
@@ -129,7 +129,7 @@ impl Reader<'_> {
         Ok(())
     }
 
-    /// A field `pub name: type`, the type also `[type; 10]`.
+    /// A field `pub name: type` or `pub name: [type; 10]`.
     fn field(&mut self, source: &Source, owner: &str, tokens: &[Token]) -> Result<Part, String> {
         let tokens = if tokens[0].text == "pub" { &tokens[1..] } else { tokens };
         let texts: Vec<&str> = tokens.iter().map(|token| token.text.as_str()).collect();
@@ -168,7 +168,7 @@ fn ends_with(tokens: &[Token], words: &[&str]) -> bool {
     tokens.len() >= words.len() && tokens[tokens.len() - words.len()..].iter().zip(words).all(|(t, w)| t.text == *w)
 }
 
-/// The attributes right before a declaration, of which `tokens` end with `pub`, `extern "C"` or nothing more.
+/// The attributes directly before a declaration. `tokens` end just before its `fn` or `struct`.
 fn attributes(tokens: &[Token]) -> String {
     let head = |token: &Token| ["pub", "extern", "\"C\""].contains(&token.text.as_str());
     let mut end = tokens.iter().rposition(|token| !head(token)).map_or(0, |i| i + 1);
@@ -179,7 +179,7 @@ fn attributes(tokens: &[Token]) -> String {
     lex::shown(&tokens[end..last])
 }
 
-/// Parts a list at its commas.
+/// Splits a list at its commas.
 fn parted(list: &[Token]) -> Vec<&[Token]> {
     let mut depth = 0;
     let parts = list.split(|token| {

@@ -1,5 +1,5 @@
-//! Reads a C header: constants, structs, functions and the assertions of their layout. What it cannot read is a fault
-//! and never passed over, since a declaration that is not seen would not be compared.
+//! Reads a C header: constants, structs, functions and the assertions about layout. What it cannot read is a fault and is
+//! never skipped, because a declaration that is not seen would not be compared.
 
 use crate::declared::{Asserted, Constant, Declared, Function, Part, Struct};
 use crate::lex::{self, Language, Token};
@@ -29,7 +29,7 @@ fn is_linkage(item: &[Token]) -> bool {
     matches!(lex::shown(item).as_str(), "extern \"C\" {" | "}")
 }
 
-/// How many tokens the first item has: up to a `;` outside braces, or the beginning or end of a linkage.
+/// How many tokens the first item has. It ends at a `;` outside braces, or it is the beginning or end of a linkage.
 fn item_length(tokens: &[Token]) -> usize {
     if tokens[0].text == "}" {
         return 1;
@@ -45,7 +45,7 @@ fn item_length(tokens: &[Token]) -> usize {
     end.map_or(tokens.len(), |i| i + 1)
 }
 
-/// Reads an item to what was found; says whether it could.
+/// Reads an item and adds it to what was found. Returns whether it could be read.
 fn read_item(item: &[Token], found: &mut Declared) -> bool {
     let Some((_, body)) = item.split_last().filter(|(last, _)| last.text == ";") else {
         return false;
@@ -71,7 +71,7 @@ fn read_item(item: &[Token], found: &mut Declared) -> bool {
     }
 }
 
-/// Reads the constants `NAME = NUMBER, ..` of an enum to what was found; says whether it could.
+/// Reads the constants `NAME = NUMBER, ..` of an enum and adds them to what was found. Returns whether they could be read.
 fn read_enum(group: &str, list: &[Token], found: &mut Declared) -> bool {
     let parts = list.split(|token| token.text == ",").filter(|part| !part.is_empty());
     let constants: Option<Vec<Constant>> = parts.map(|part| constant(group, part)).collect();

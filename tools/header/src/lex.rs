@@ -1,7 +1,7 @@
 //! Cuts the text of a Rattle file, of an antt file or of a C header into tokens: words, strings, and marks of one
 //! character.
 //!
-//! Comments and single characters in quotes leave no token, and a C header's preprocessor lines none either.
+//! Comments, single characters in quotes and the preprocessor lines of a C header have no tokens.
 
 /// Which language a text is in.
 #[derive(Clone, Copy, PartialEq)]
@@ -13,10 +13,10 @@ pub enum Language {
 
 #[derive(Clone)]
 pub struct Token {
-    /// The word or mark; of a string its text with the quotes.
+    /// The word or mark; for a string, its text with the quotes.
     pub text: String,
     pub line: usize,
-    /// Does it begin its line, with no blank before it?
+    /// Is it at the very beginning of its line?
     pub first: bool,
 }
 
@@ -39,7 +39,7 @@ pub fn is_word(text: &str) -> bool {
     text.chars().all(in_word)
 }
 
-/// The number that a word is, in tens or after `0x` in sixteens.
+/// The number that a word is: decimal, or hexadecimal after `0x`.
 pub fn number(word: &str) -> Option<u64> {
     let digits = word.replace('_', "");
     match digits.strip_prefix("0x") {
@@ -57,7 +57,7 @@ pub fn last_mark(tokens: &[Token], marks: &[&str]) -> Option<usize> {
     })
 }
 
-/// What stands in the group that the first token opens.
+/// The tokens inside the group that the first token opens.
 pub fn group(tokens: &[Token]) -> &[Token] {
     let mut depth = 0;
     let end = tokens.iter().position(|token| {
@@ -67,7 +67,7 @@ pub fn group(tokens: &[Token]) -> &[Token] {
     &tokens[1..end.unwrap_or(tokens.len())]
 }
 
-/// 1 where a token opens a group, -1 where it closes one.
+/// 1 if a token opens a group, -1 if it closes one, and otherwise 0.
 pub fn nesting(text: &str) -> i32 {
     match text {
         "(" | "[" | "{" => 1,
@@ -76,7 +76,7 @@ pub fn nesting(text: &str) -> i32 {
     }
 }
 
-/// The texts of tokens, parted by blanks.
+/// The texts of tokens, separated by blanks.
 pub fn shown(tokens: &[Token]) -> String {
     tokens.iter().map(|token| token.text.as_str()).collect::<Vec<_>>().join(" ")
 }
@@ -85,12 +85,12 @@ fn in_word(c: char) -> bool {
     c.is_alphanumeric() || c == '_'
 }
 
-/// May `c` stand in a name of antt? `n+n` is one name, and so is `IN-USE`.
+/// May `c` be part of a name of antt? `n+n` is one name, and so is `IN-USE`.
 fn in_name(c: char) -> bool {
     !c.is_whitespace() && !"(){}.;,@\"«»".contains(c)
 }
 
-/// The text with an empty line for each line of a directive, also for those that a backslash joins to it.
+/// The text with an empty line in place of each line of a directive, including lines that a backslash joins to it.
 fn without_directives(text: &str) -> String {
     let mut inside = false;
     let mut kept = String::new();
@@ -124,7 +124,7 @@ impl Lexer {
         self.at = end;
     }
 
-    /// How many characters there are up to `end`, with it; all where there is none.
+    /// How many characters there are up to and including `end`; all characters if there is no `end`.
     fn up_to(&self, end: &str) -> usize {
         let end: Vec<char> = end.chars().collect();
         let rest = &self.chars[self.at..];
@@ -171,7 +171,7 @@ impl Lexer {
         self.chars[self.at..].iter().take_while(|c| within(**c)).count()
     }
 
-    /// The length of a comment `{- .. -}`, which may hold others.
+    /// The length of a comment `{- .. -}`, which may contain other comments.
     fn comment_length(&self) -> usize {
         let (mut depth, mut i) = (1, 2);
         while depth > 0 && self.at + i < self.chars.len() {
@@ -186,7 +186,7 @@ impl Lexer {
         i
     }
 
-    /// The length of a character in quotes that begins with a backslash, as `'\''` and `'\x0d'`.
+    /// The length of a character in quotes that begins with a backslash, such as `'\''` or `'\x0d'`.
     fn escape_length(&self) -> usize {
         let rest = self.chars.get(self.at + 3..).unwrap_or_default();
         rest.iter().position(|c| *c == '\'').map_or(1, |i| i + 4)

@@ -1,11 +1,17 @@
-//! Holds a C header that is written by hand to what the Rattle crate `rei2` exports.
+//! Compares a C header that is written by hand with what the Rattle crate `rei2` exports.
 //!
-//! `header CRATES HEADER [ARCHIVE]` reads the sources below the folder CRATES, and the header. Each exported function and
-//! each struct that it names shall be in the header with the same names, types and order, and nothing else; each struct's
-//! size and offsets shall be asserted there. Each constant of the header's enums shall have the number that it stands for
-//! in sources and definitions, and each refusal and kind there a constant; so long shall be the arrays that the programs
-//! lend. The symbol index of the archive shall name just the exported functions. Each difference is a line, and the last
-//! line counts. Exit status: 0 without differences, 1 with some or where nothing is exported, 2 if it cannot tell.
+//! `header CRATES HEADER [ARCHIVE]` reads the sources below the folder CRATES, and the header. It checks that:
+//!
+//! - the header has each exported function and each struct that these name, with the same names, types and order, and no
+//!   other function or struct;
+//! - the header asserts each struct's size and offsets;
+//! - each constant of the header's enums has the same number as in sources and definitions;
+//! - each refusal and each kind has a constant;
+//! - the arrays that the programs lend have the lengths that follow from these constants;
+//! - the symbol index of the archive names exactly the exported functions.
+//!
+//! Each difference is printed as a line, and the last line has the counts. Exit status: 0 if there are no differences, 1 if
+//! there are some or nothing is exported, 2 if it could not be run.
 
 mod archive;
 mod compare;

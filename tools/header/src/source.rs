@@ -1,4 +1,4 @@
-//! A file of a crate: its tokens, and the paths that its `use` lines bring.
+//! A source file of a crate: its tokens, its constants, and where the names that it uses are declared.
 
 use crate::lex::{self, Language, Token};
 use std::fs;
@@ -29,8 +29,8 @@ impl Source {
         Source::read(root, crate_name, module.trim_end_matches(".rt"))
     }
 
-    /// The crate and module in which a type or a constant that this file names is declared: where a `use` brings it
-    /// from, or here.
+    /// The crate and module in which a type or a constant is declared that this file names: where a `use` imports it from,
+    /// or this file itself.
     pub fn home(&self, name: &str) -> (String, String) {
         match self.used(name) {
             Some(path) => self.place(&path),
@@ -38,7 +38,7 @@ impl Source {
         }
     }
 
-    /// The crate and module that a path leads to: it begins with `crate`, with a module of this one, or with a crate.
+    /// The crate and module that a path leads to. The path begins with `crate`, with a module below this one, or with a crate.
     fn place(&self, path: &[String]) -> (String, String) {
         let (first, rest) = path.split_first().expect("a path has a word");
         let below = if self.module == "lib" { first.clone() } else { format!("{}/{first}", self.module) };
@@ -56,7 +56,7 @@ impl Source {
         named.map(|w| w[1].text.clone()).collect()
     }
 
-    /// The number of `const name: type = ..;`, if it stands here just once.
+    /// The number of `const name: type = ..;`, if it is in this file exactly once.
     pub fn constant(&self, name: &str) -> Option<u64> {
         let items = self.tokens.split(|token| token.text == ";");
         let values = items.filter_map(|item| {
@@ -70,7 +70,7 @@ impl Source {
         }
     }
 
-    /// The value of products of numbers, constants and what is in brackets, added and taken away.
+    /// The value of a sum or difference of products. The factors are numbers, constants and expressions in brackets.
     pub fn value(&self, tokens: &[Token]) -> Option<u64> {
         let Some(at) = lex::last_mark(tokens, &["+", "-"]) else { return self.product(tokens) };
         let (left, right) = (self.value(&tokens[..at])?, self.product(&tokens[at + 1..])?);
@@ -88,7 +88,7 @@ impl Source {
         }
     }
 
-    /// The value of what is in brackets, of a number, or of a constant, which is named or reached by a path.
+    /// The value of an expression in brackets, a number, or a constant, which has a name or a path.
     fn factor(&self, tokens: &[Token]) -> Option<u64> {
         if tokens.first()?.text == "(" {
             let inside = lex::group(tokens);
@@ -99,13 +99,13 @@ impl Source {
         let (crate_name, module) = match path {
             [] if lex::number(name).is_some() => return lex::number(name),
             [] => self.home(name),
-            // a `use` may bring the module that the path begins with
+            // the module at the start of the path may be imported by a `use`
             path => self.place(&[self.used(&path[0]).unwrap_or_default(), path.to_vec()].concat()),
         };
         Source::found(&self.root, &crate_name, &module)?.constant(name)
     }
 
-    /// Reads a module that is a file, or that stands in another one: `mod NAME { .. }`.
+    /// Reads a module that is a file, or that is inside another module: `mod NAME { .. }`.
     fn found(root: &Path, crate_name: &str, module: &str) -> Option<Source> {
         if let Ok(source) = Source::read(root, crate_name, module) {
             return Some(source);
@@ -117,14 +117,14 @@ impl Source {
         Some(Source { module: module.to_string(), tokens, ..source })
     }
 
-    /// The lengths of the arrays that `let name = [..; length]` makes, none where a length is not read.
+    /// The lengths of the arrays that `let name = [..; length]` makes. A length that cannot be read is none.
     pub fn lengths(&self, name: &str) -> Vec<Option<u64>> {
         let plain: Vec<Token> = self.tokens.iter().filter(|token| token.text != "mut").cloned().collect();
         let made = (1..plain.len()).filter(|i| plain[*i].text == name && plain[i - 1].text == "let");
         made.map(|i| self.value(length(&plain[i..])?)).collect()
     }
 
-    /// The path in front of `name` in the `use` that ends with it: `a::b` is `["a", "b"]`.
+    /// The path before `name` in the `use` that ends with it: `a::b` is `["a", "b"]`.
     fn used(&self, name: &str) -> Option<Vec<String>> {
         let uses = self.tokens.split(|token| token.text == ";");
         uses.filter_map(|item| used_path(item).filter(|path| path.last().is_some_and(|last| last == name)))
@@ -136,7 +136,7 @@ impl Source {
     }
 }
 
-/// The length in `name = [..; length]`, also with a type behind the name.
+/// The length in `name = [..; length]`. There may be a type after the name.
 fn length(tokens: &[Token]) -> Option<&[Token]> {
     let equals = tokens.iter().position(|token| token.text == "=")?;
     let array = &tokens[equals + 1..];
@@ -145,7 +145,7 @@ fn length(tokens: &[Token]) -> Option<&[Token]> {
     Some(&inside[end + 1..])
 }
 
-/// The words of the path of a `use` that ends an item; none of a `ghost use`.
+/// The words of the path of the `use` at the end of an item; none for a `ghost use`.
 fn used_path(item: &[Token]) -> Option<Vec<String>> {
     let at = item.iter().rposition(|token| token.text == "use")?;
     let ghost = at > 0 && item[at - 1].text == "ghost";
@@ -160,7 +160,7 @@ fn folder(root: &Path, crate_name: &str) -> PathBuf {
     root.join(crate_name).join("src")
 }
 
-/// The modules of a crate, by name.
+/// The modules of a crate, sorted by name.
 pub fn modules(root: &Path, crate_name: &str) -> Result<Vec<String>, String> {
     let mut found = Vec::new();
     collect(&folder(root, crate_name), "", &mut found)?;

@@ -14,18 +14,18 @@ impl Spec {
         let path = root.join(file);
         let text = fs::read_to_string(&path).map_err(|e| format!("{}: cannot be read: {e}", path.display()))?;
         let mut tokens = lex::tokens(&text, Language::Antt);
-        // a name in these marks is the name
+        // a name between these marks is the same as without them
         tokens.retain(|token| token.text != "«" && token.text != "»");
         Ok(Spec { tokens })
     }
 
-    /// What begins at a line's first column, with the lines below it that do not.
+    /// The items of the file. An item begins at a line's first column and ends before the next one that does.
     fn items(&self) -> impl Iterator<Item = Vec<&str>> {
         let items = self.tokens.chunk_by(|_, next| !next.first);
         items.map(|item| item.iter().map(|token| token.text.as_str()).collect())
     }
 
-    /// What stands behind each `NAME ≡`.
+    /// What comes after each `NAME ≡`.
     fn cases<'a>(&'a self, name: &'a str) -> impl Iterator<Item = Vec<&'a str>> {
         let words = self.tokens.windows(2).enumerate();
         let found = words.filter(move |(_, w)| w[0].text == name && w[1].text == "≡");
@@ -41,8 +41,8 @@ impl Spec {
         self.items().filter_map(number).collect()
     }
 
-    /// The number of a definition; with `NAME .FIELD` that of a field of the record that it is; with `NAME ≡` and
-    /// `NAME ≡ .FIELD` those of a case; none unless there is just one.
+    /// The number of the definition `NAME`. With `NAME .FIELD`, the number of a field of the record that is defined. With
+    /// `NAME ≡` or `NAME ≡ .FIELD`, the number of a case. None unless there is exactly one.
     pub fn number(&self, of: &str) -> Option<u64> {
         if let Some((name, wanted)) = of.split_once(" ≡ .") {
             let cases = self.cases(name).filter(|case| case.starts_with(&["record", "{"]));
@@ -58,7 +58,7 @@ impl Spec {
         single(self.numbers().into_iter().filter(|(name, _)| name == of).map(|(_, value)| value))
     }
 
-    /// Each `NAME = plain NUMBER` or `NAME = placed NUMBER`: a refusal, without an offset and with one.
+    /// Each refusal: `NAME = plain NUMBER` without an offset, or `NAME = placed NUMBER` with one.
     fn refused(&self) -> Vec<(String, u64)> {
         let number = |item: Vec<&str>| match item.as_slice() {
             [name, "=", "plain" | "placed", value] => Some((name.to_string(), lex::number(value)?)),
@@ -72,17 +72,17 @@ impl Spec {
         self.refused().into_iter().map(|(name, _)| name).collect()
     }
 
-    /// The number of a refusal; none unless there is just one.
+    /// The number of a refusal; none unless there is exactly one.
     pub fn refusal(&self, of: &str) -> Option<u64> {
         single(self.refused().into_iter().filter(|(name, _)| name == of).map(|(_, value)| value))
     }
 
-    /// A number, or that of the definition of this name.
+    /// The number that a word is, or the number of the definition with this name.
     fn value(&self, word: &str) -> Option<u64> {
         lex::number(word).or_else(|| self.number(word))
     }
 
-    /// For each clause `NAME (CONSTRUCTOR ..) = record { .. }`, the constructor and the number of a field.
+    /// For each clause `NAME (CONSTRUCTOR ..) = record { .. }`: the constructor and the number of the field `wanted`.
     pub fn clauses(&self, name: &str, wanted: &str) -> Vec<(String, Option<u64>)> {
         let clause = |item: Vec<&str>| {
             let (first, rest) = item.split_first()?;
@@ -93,12 +93,12 @@ impl Spec {
     }
 }
 
-/// The one number that there is.
+/// The only number; none if there are more or none.
 fn single(mut numbers: impl Iterator<Item = u64>) -> Option<u64> {
     numbers.next().filter(|_| numbers.next().is_none())
 }
 
-/// The word of `wanted = WORD` in a record, outside the records in it.
+/// The word of `wanted = WORD` in a record, but not in a record inside it.
 fn field<'a>(item: &[&'a str], wanted: &str) -> Option<&'a str> {
     let mut depth = 0;
     let at = item.iter().enumerate().position(|(i, word)| {

@@ -1,11 +1,11 @@
-//! Runs the tool on a small crate and its header, right and with one edit each, and looks at what it prints.
+//! Runs the tool on small crates and a header, as they are and with one edit each, and compares what it prints.
 
 use std::path::PathBuf;
 use std::process::Command;
 use std::sync::atomic::{AtomicUsize, Ordering};
 use std::{env, fs, process};
 
-/// The files of the right pair, each a path and its text.
+/// The files without differences, each with its path and its text.
 const FILES: [(&str, &str); 25] = [
     ("crates/rei2/src/lib.rt", "pub mod calls;\n"),
     ("crates/rei2/src/calls.rt", CALLS),
@@ -289,11 +289,11 @@ void rei2_nothing(void);
 
 const RIGHT: &str = "header: 3 functions, 3 structs, 22 constants, 0 differences\n";
 
-/// A folder for one test, which is removed with it.
+/// A folder for one test, which is removed at its end.
 struct Folder(PathBuf);
 
 impl Folder {
-    /// The files of the right pair, with `old` in the file `path` replaced by `new`.
+    /// The files without differences, but with `old` in the file `path` replaced by `new`.
     fn edited(path: &str, old: &str, new: &str) -> Folder {
         let folder = Folder::right();
         let path = folder.0.join(path);
@@ -315,12 +315,12 @@ impl Folder {
         folder
     }
 
-    /// Runs the tool here: its status, what it prints, and what it prints as errors.
+    /// Runs the tool in the folder. Returns its status, what it prints, and what it prints as errors.
     fn run(&self, words: &[&str]) -> (i32, String, String) {
         run(Command::new(env!("CARGO_BIN_EXE_header")).current_dir(&self.0).args(words))
     }
 
-    /// An archive whose index has these names.
+    /// Writes an archive whose index has these names.
     fn archive(&self, names: &[&str]) {
         let text: String = names.iter().map(|name| format!("{name}\0")).collect();
         let count = u32::try_from(names.len()).expect("a small number").to_be_bytes();
@@ -343,7 +343,7 @@ fn run(command: &mut Command) -> (i32, String, String) {
     (done.status.code().expect("the tool ends by itself"), text(done.stdout), text(done.stderr))
 }
 
-/// Asserts that with this edit the tool prints just these differences.
+/// Asserts that with this edit the tool prints exactly these differences.
 #[track_caller]
 fn differs_in(path: &str, old: &str, new: &str, wanted: &[&str]) {
     let (status, printed, errors) = Folder::edited(path, old, new).run(&["crates", "rei2.h"]);
@@ -360,7 +360,7 @@ fn differs(old: &str, new: &str, wanted: &[&str]) {
     differs_in("rei2.h", old, new, wanted);
 }
 
-/// Asserts that the tool prints just these differences of an archive with these names.
+/// Asserts that the tool prints exactly these differences for an archive with these names.
 #[track_caller]
 fn archive_differs(names: &[&str], wanted: &[&str]) {
     let folder = Folder::right();
@@ -410,7 +410,7 @@ fn a_function_has_another_name() {
 #[test]
 fn a_function_stands_twice() {
     let two = "void rei2_nothing(void);\nvoid rei2_nothing(void);";
-    differs("void rei2_nothing(void);", two, &["rei2_nothing: stands twice"]);
+    differs("void rei2_nothing(void);", two, &["rei2_nothing: is declared twice"]);
 }
 
 #[test]
@@ -714,7 +714,7 @@ fn a_constant_too_many() {
     );
     let more = "enum rei2_more { REI2_ONE = 1, REI2_SEATS = 16 };\nenum rei2_found {";
     let wanted = [
-        "REI2_SEATS: stands twice",
+        "REI2_SEATS: is declared twice",
         "REI2_ONE: not compared: no number is known that it stands for",
         "REI2_SEATS: not compared: no number is known that it stands for",
     ];
@@ -853,7 +853,7 @@ fn an_archive_has_a_function_more() {
     archive_differs(&names, &["helper: in the archive, and not exported by the crate"]);
 }
 
-// Where it cannot tell.
+// When it cannot be run.
 
 #[test]
 fn it_cannot_tell() {

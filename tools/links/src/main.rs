@@ -1,4 +1,5 @@
-//! `links ROOT`: every relative link of the Markdown files below ROOT leads to a file or folder, and one with `#PART` to a heading of its file.
+//! `links ROOT` checks that every relative link in the Markdown files below ROOT leads to a file or folder. A link with `#PART` must
+//! lead to a heading of its file.
 
 use std::fs;
 use std::path::{Path, PathBuf};
@@ -39,7 +40,7 @@ fn check(root: &Path) -> (usize, usize, Vec<String>) {
     (pages.len(), links, broken)
 }
 
-/// The Markdown files below a folder; what is built or hidden is passed over.
+/// The Markdown files below a folder. Hidden folders and those named `target` are skipped.
 fn collect(folder: &Path, pages: &mut Vec<PathBuf>) {
     let Ok(entries) = fs::read_dir(folder) else { return };
     for entry in entries.flatten() {
@@ -55,7 +56,7 @@ fn collect(folder: &Path, pages: &mut Vec<PathBuf>) {
     }
 }
 
-/// The targets of `[text](target)` that name no other host, outside of code.
+/// The targets of `[text](target)` that do not name another host. Code is skipped.
 fn relative_links(text: &str) -> Vec<String> {
     let mut found = Vec::new();
     let lines = text.lines().filter(|line| !line.starts_with("    "));
@@ -91,7 +92,7 @@ fn follow(page: &Path, text: &str, link: &str) -> Result<(), String> {
     }
 }
 
-/// The headings of a page as links name them: lower case, words joined by `-`, other signs dropped.
+/// The headings of a page as links name them: in lower case, with `-` between words and other signs dropped.
 fn headings(text: &str) -> Vec<String> {
     let title = |line: &str| line.trim_start_matches('#').trim().to_lowercase();
     let name = |c: char| match c {

@@ -1,21 +1,21 @@
-//! Tells what the contract of a public function lacks, and what form its promise has.
+//! Finds what the contract of a public function lacks, and which form its promise has.
 
 use crate::lex;
 use crate::parse::Function;
 
-/// The marks between claims: what has one outside parentheses is more than one equation or one predicate.
+/// The marks between claims. A text with one of them outside parentheses is more than one equation or one predicate.
 const BETWEEN_CLAIMS: [&str; 4] = ["≡", "×", "→", "⊎"];
 
 /// The form of a promise.
 pub enum Promise {
-    /// It says what the outcome is, so no second one meets it.
+    /// An equation says what the outcome is, so no second outcome meets it.
     Equation,
     /// The outcome meets the predicate of this name.
     Predicate(String),
     Neither,
 }
 
-/// What the contract lacks; of a function for tests alone, a `requires` is all that counts.
+/// What the contract lacks. For a function that is only for tests, the only fault is a `requires`.
 pub fn faults(function: &Function, for_tests: bool) -> Vec<String> {
     let mut found = Vec::new();
     if clauses(function, "requires").next().is_some() {
@@ -38,8 +38,8 @@ pub fn faults(function: &Function, for_tests: bool) -> Vec<String> {
     found
 }
 
-/// The form of the function's promise; none where it has no `ensures`. Of several `ensures` one that leaves no second
-/// outcome is enough, since the others can only say more: an equation, or else the first predicate.
+/// The form of the function's promise; none if it has no `ensures`. Of several `ensures` one that leaves no second outcome
+/// is enough, since the others can only add to it. So an equation counts first, and then the first predicate.
 pub fn promise(function: &Function) -> Option<Promise> {
     let forms = clauses(function, "ensures").map(|text| form(function, text));
     forms.min_by_key(|form| match form {
@@ -71,8 +71,8 @@ fn claim(text: &[String]) -> Option<(&str, &[String])> {
     (framed && whole).then_some((bound, body))
 }
 
-/// Is it `bound ≡ ..`, or `now (x .exit) ≡ ..` where x is all that the function is lent and it gives nothing back? The
-/// other side has to say what that is by itself.
+/// Is it `bound ≡ ..`, or `now (x .exit) ≡ ..` of a function that is lent only x and returns nothing? The right side must
+/// not name the result or any `.exit`.
 fn is_equation(function: &Function, bound: &str, body: &[String]) -> bool {
     let left = match function.lent.as_slice() {
         [] if bound != "_" => vec![bound],
@@ -86,7 +86,7 @@ fn is_equation(function: &Function, bound: &str, body: &[String]) -> bool {
     mark == "≡" && !right.is_empty() && by_itself && one
 }
 
-/// The name P of a body `P a (b c) ..`, also of `M.P a ..`.
+/// The name P of a body `P a (b c) ..` or `M.P a ..`.
 fn predicate(bound: &str, body: &[String]) -> Option<String> {
     let dots = body.iter().skip(1).step_by(2).take_while(|name| *name == ".").count();
     let head = body.get(2 * dots)?;
@@ -95,12 +95,12 @@ fn predicate(bound: &str, body: &[String]) -> Option<String> {
     (is_name(head) && is_name(&body[0]) && applied).then(|| head.clone())
 }
 
-/// Is it a name of marks alone, as `≤`? `[]` and `_` are none.
+/// Is it a name made only of marks, such as `≤`? `[]` and `_` do not count.
 fn is_operator(name: &str) -> bool {
     name.chars().all(|c| lex::in_name(c) && !c.is_alphanumeric()) && !["[]", "_"].contains(&name)
 }
 
-/// The names and marks of a text that stand outside its parentheses and braces.
+/// The names and marks of a text that are outside its parentheses and braces.
 fn outside(text: &[String]) -> impl Iterator<Item = &str> {
     let mut depth = 0;
     text.iter().map(String::as_str).filter(move |name| {
@@ -127,7 +127,7 @@ fn names_exit(text: &[String], parameter: &str) -> bool {
     (0..text.len()).any(|i| names_at(text, i, parameter) && exits(i))
 }
 
-/// Does the text name `wanted` at `i`? After a dot the same name is a field's.
+/// Does the text name `wanted` at `i`? After a dot the same name would be a field.
 fn names_at(text: &[String], i: usize, wanted: &str) -> bool {
     text[i] == wanted && (i == 0 || text[i - 1] != ".")
 }

@@ -1,21 +1,21 @@
 //! Cuts the text of a Rattle file into tokens.
 //!
-//! Comments, literals and lifetimes leave no token, so that no brace and no word in them can mislead. The text of a
-//! clause is antt, where `//` is a name and `--` begins a comment: a whole clause is one token.
+//! Comments, literals and lifetimes have no tokens, so that a brace or a word in them cannot mislead. A whole clause is one
+//! token, because its text is antt, in which `//` is a name and `--` begins a comment.
 
 /// A word, a mark of one character, or a clause.
 pub struct Token {
-    /// The word or the mark; of a clause, its keyword.
+    /// The word or the mark; for a clause, its keyword.
     pub text: String,
     pub line: usize,
-    /// Of a clause, the names and marks in its braces; without comments, quoted texts and brackets `⟦ .. ⟧`.
+    /// For a clause, the names and marks in its braces, without comments, quoted texts and brackets `⟦ .. ⟧`.
     pub clause: Option<Vec<String>>,
 }
 
 /// The words that begin a clause. They are reserved.
 const KEYWORDS: [&str; 3] = ["requires", "ensures", "ghost"];
 
-/// The tokens of `text`; or a line and what is wrong there.
+/// The tokens of `text`, or a line and what is wrong there.
 pub fn tokens(text: &str) -> Result<Vec<Token>, (usize, String)> {
     let mut lexer = Lexer { chars: text.chars().collect(), at: 0, line: 1, tokens: Vec::new() };
     match lexer.code() {
@@ -24,8 +24,8 @@ pub fn tokens(text: &str) -> Result<Vec<Token>, (usize, String)> {
     }
 }
 
-/// The text of an antt file with a blank for each comment and each quoted text, line by line as it was; or a line and
-/// what is wrong there.
+/// The text of an antt file with a blank in place of each comment and each quoted text, or a line and what is wrong there.
+/// The line breaks stay.
 pub fn uncommented(text: &str) -> Result<String, (usize, String)> {
     let mut lexer = Lexer { chars: text.chars().collect(), at: 0, line: 1, tokens: Vec::new() };
     let mut kept = String::new();
@@ -44,12 +44,12 @@ pub fn uncommented(text: &str) -> Result<String, (usize, String)> {
     Ok(kept)
 }
 
-/// May `c` stand in a word of Rattle?
+/// May `c` be part of a word of Rattle?
 pub fn in_word(c: char) -> bool {
     c.is_alphanumeric() || c == '_'
 }
 
-/// May `c` stand in a name of antt? `n+n` is one name, and so is `b'`.
+/// May `c` be part of a name of antt? `n+n` is one name, and so is `b'`.
 pub fn in_name(c: char) -> bool {
     !c.is_whitespace() && !"(){}.;,@\"«»⟦⟧\0".contains(c)
 }
@@ -62,12 +62,12 @@ struct Lexer {
 }
 
 impl Lexer {
-    /// The character `ahead` of here; NUL past the end.
+    /// The character `ahead` places further on; NUL past the end.
     fn peek(&self, ahead: usize) -> char {
         self.chars.get(self.at + ahead).copied().unwrap_or('\0')
     }
 
-    /// Does `text` stand here?
+    /// Is `text` what comes next?
     fn sees(&self, text: &str) -> bool {
         text.chars().enumerate().all(|(i, c)| self.peek(i) == c)
     }
@@ -80,20 +80,20 @@ impl Lexer {
         Ok(c)
     }
 
-    /// Steps over the characters that `keep` takes, which are to be of one line, and returns them.
+    /// Steps over the characters that `keep` accepts and returns them. `keep` must not accept a line break.
     fn run(&mut self, keep: fn(char) -> bool) -> String {
         let text: String = self.chars[self.at..].iter().take_while(|c| keep(**c)).collect();
         self.at += text.chars().count();
         text
     }
 
-    /// Steps over all up to `end`, and over that.
+    /// Steps over everything up to and including `end`.
     fn run_to(&mut self, end: char) -> Result<(), String> {
         while self.step()? != end {}
         Ok(())
     }
 
-    /// Steps over a comment between two marks of two characters. It may hold others.
+    /// Steps over a comment between two marks of two characters. It may contain other comments.
     fn comment(&mut self, open: &str, close: &str) -> Result<(), String> {
         let mut depth = 0;
         loop {
@@ -109,7 +109,7 @@ impl Lexer {
         }
     }
 
-    /// Steps over a literal, if one begins here: `".."` and `'.'`, also after a `b`; `r".."`, `br#".."#`.
+    /// Steps over a literal, if one begins here: `".."` and `'.'`, with or without a `b` before them; `r".."`, `br#".."#`.
     fn literal(&mut self) -> Result<bool, String> {
         let start = self.at;
         self.at += usize::from(self.peek(0) == 'b');
@@ -158,7 +158,8 @@ impl Lexer {
         Ok(())
     }
 
-    /// If `text` opens a clause, or is the `use` of a `ghost use`, what ends it. Its keyword is then the last token.
+    /// If `text` opens a clause, or is the `use` of a `ghost use`, returns the mark that ends it. Its keyword is then the last
+    /// token.
     fn clause_end(&mut self, text: &str) -> Option<char> {
         let is_head = |t: &Token| t.clause.is_none() && KEYWORDS.contains(&t.text.as_str());
         let back = self.tokens.iter().rev().take(2).position(is_head)?;
@@ -183,7 +184,7 @@ impl Lexer {
         Ok(true)
     }
 
-    /// Reads antt into the last token, up to an `end` outside its braces.
+    /// Reads antt into the last token, up to an `end` outside all braces.
     fn clause(&mut self, end: char) -> Result<(), String> {
         let mut names = Vec::new();
         let mut depth = 0;

@@ -1,4 +1,4 @@
-//! Reads crates.txt, and finds what is wrong there about the crates that are for tests alone.
+//! Reads crates.txt, and finds what is wrong in it with the crates that are only for tests.
 
 use std::fs;
 use std::path::Path;
@@ -10,7 +10,7 @@ struct Listed {
     needs: Vec<String>,
 }
 
-/// A line for each crate of `tests` that is not listed or is no library, and for each other library that depends on one.
+/// A line for each crate of `tests` that is not listed or is not a library, and for each other library that depends on one.
 pub fn faults(root: &Path, tests: &[String]) -> Result<Vec<String>, String> {
     if tests.is_empty() {
         return Ok(Vec::new());

@@ -1,19 +1,19 @@
 //! Finds the public functions of a repository's Rattle libraries whose contract falls short.
 //!
-//! `lint ROOT` reads each library crate of ROOT/crates. A function that another crate can reach shall ask nothing of its
-//! caller (no `requires`), say what it does and gives back (an `ensures`), and say what is at the end in all memory that
-//! it is lent by `&mut` (`out .exit` in an `ensures`).
+//! `lint ROOT` reads each library crate of ROOT/crates. A function that another crate can reach must ask nothing of its
+//! caller (no `requires`). It must say what it does and returns (an `ensures`). It must also say what all memory that it is
+//! lent by `&mut` contains at the end (`out .exit` in an `ensures`).
 //!
-//! No second outcome shall meet what it promises. That is plain of an equation: `r ≡ ..`, or `now (out .exit) ≡ ..`. Any
-//! other promise shall be one predicate, `P r ..`, and specs/Unique.antt of the crate shall say so of it: in `pub record
-//! OneOutcome`, a field with the function's name that says `Once` of `P`. Each field shall belong to such a function, and
-//! a file of the crate's proofs shall prove the record (a line `pub NAME : OneOutcome`).
+//! No second outcome may meet what it promises. For an equation this is clear: `r ≡ ..`, or `now (out .exit) ≡ ..`. Any
+//! other promise must be one predicate, `P r ..`, and specs/Unique.antt of the crate must say that it has one outcome: in
+//! `pub record OneOutcome`, a field with the function's name that says `Once` of `P`. Each field must belong to such a
+//! function, and a file of the crate's proofs must prove the record (a line `pub NAME : OneOutcome`).
 //!
-//! Each fault is a line, and the last line counts; `--list` prints each public function first. Exit status: 0 if there
-//! are public functions and no fault, else 1; 2 if it cannot tell.
+//! Each fault is printed as a line, and the last line has the counts. `--list` prints each public function first. Exit
+//! status: 0 if there are public functions and no fault, 1 otherwise, and 2 if it could not be run.
 //!
-//! `--tests NAME,..` names libraries that are for tests alone. No contract can say what they print or read, so their
-//! functions need no `ensures`. No other library may depend on them: ROOT/crates.txt tells what depends on what.
+//! `--tests NAME,..` names libraries that are only for tests. No contract can say what they print or read, so their
+//! functions need no `ensures`. No other library may depend on them. ROOT/crates.txt says which crate depends on which.
 
 mod contract;
 mod lex;
@@ -44,7 +44,7 @@ fn main() -> ExitCode {
 struct Asked {
     root: PathBuf,
     list: bool,
-    /// The libraries that are for tests alone.
+    /// The libraries that are only for tests.
     tests: Vec<String>,
 }
 
@@ -63,7 +63,7 @@ fn asked(mut words: impl Iterator<Item = String>) -> Option<Asked> {
     Some(Asked { root: PathBuf::from(root), list, tests })
 }
 
-/// Says why the lint cannot tell.
+/// Prints why the lint could not be run.
 fn refuse(what: &str) -> ExitCode {
     eprintln!("lint: {what}");
     ExitCode::from(2)
@@ -78,10 +78,10 @@ struct Public {
     faults: Vec<String>,
 }
 
-/// What all library crates have.
+/// What was found in all library crates.
 #[derive(Default)]
 struct Read {
-    /// By file and line.
+    /// Sorted by file and line.
     functions: Vec<Public>,
     /// The faults of the files specs/Unique.antt.
     unique: Vec<String>,
@@ -109,7 +109,7 @@ fn report(read: &Read, listed: &[String], list: bool) -> ExitCode {
     ExitCode::from(u8::from(short > 0 || read.functions.is_empty() || others))
 }
 
-/// Reads all library crates. Those of `tests` are for tests alone.
+/// Reads all library crates. Those of `tests` are only for tests.
 fn read(root: &Path, tests: &[String]) -> Result<Read, String> {
     let mut found = Read::default();
     for folder in libraries(root)? {
@@ -132,7 +132,7 @@ fn read(root: &Path, tests: &[String]) -> Result<Read, String> {
     Ok(found)
 }
 
-/// What leaves room for a second outcome of the function.
+/// The fault that leaves room for a second outcome of the function, if there is one.
 fn second_outcome(unique: &mut Unique, name: &str, function: &Function) -> Option<String> {
     match contract::promise(function)? {
         Promise::Equation => None,

@@ -1,12 +1,12 @@
 //! Reads the items of a crate.
 //!
-//! What it cannot read is an error and never passed over: a function that is not seen would not be checked.
+//! What it cannot read is an error and is never skipped, because a function that is not seen would not be checked.
 
 use crate::lex::{self, Token};
 use std::path::{Path, PathBuf};
 use std::{fs, mem};
 
-/// A path as code writes it: `a::b` is `["a", "b"]`.
+/// A path as it is written in code: `a::b` is `["a", "b"]`.
 pub type Names = Vec<String>;
 
 /// A library crate.
@@ -18,22 +18,22 @@ pub struct Crate {
 }
 
 pub struct Module {
-    /// The file that holds it, as seen from the repository's root.
+    /// The file that contains it, as a path from the repository's root.
     pub file: PathBuf,
     /// The module around it; the root has none.
     pub parent: Option<usize>,
 }
 
 pub struct Item {
-    /// Its name; of a method `Type::name`, of a glob `*`.
+    /// Its name; for a method `Type::name`, for a glob `*`.
     pub name: String,
-    /// The module in which it stands.
+    /// The module that it is in.
     pub module: usize,
     pub line: usize,
     /// Is it `pub`? `pub(crate)` and the like are not.
     pub public: bool,
     pub kind: Kind,
-    /// The paths in its signature or its declaration; among them are the types that it hands out.
+    /// The paths in its signature or declaration. Among them are the types of the values that it returns or contains.
     pub mentions: Vec<Names>,
 }
 
@@ -51,14 +51,14 @@ pub struct Function {
     pub owner: Option<Names>,
     /// The parameters that are `&mut ..`.
     pub lent: Vec<String>,
-    /// Does it give a value back?
+    /// Does it return a value?
     pub gives: bool,
     /// Its clauses: each one's keyword, and the names and marks of its text.
     pub clauses: Vec<(String, Vec<String>)>,
 }
 
 impl Crate {
-    /// Reads the module in the file `root/file`, whose own modules are files of `folder`. Returns its number.
+    /// Reads the module in the file `root/file`. The files of its own modules are in `folder`. Returns its number.
     pub fn read(&mut self, root: &Path, file: &Path, folder: &Path, parent: Option<usize>) -> Result<usize, String> {
         let shown = file.display();
         let text = fs::read_to_string(root.join(file)).map_err(|e| format!("{shown}: cannot be read: {e}"))?;
@@ -122,7 +122,7 @@ impl Parser<'_> {
         here
     }
 
-    /// Reads a token and, where it opens a group, the whole group. Returns what lies within.
+    /// Reads a token and, if it opens a group, the whole group. Returns what is inside.
     fn group(&mut self) -> Result<&[Token], String> {
         let start = self.at + 1;
         let mut depth = 0;
@@ -137,7 +137,7 @@ impl Parser<'_> {
         }
     }
 
-    /// Reads up to one of `ends`, outside all groups. Returns what lies before it.
+    /// Reads up to one of `ends`, outside all groups. Returns what is before it.
     fn until(&mut self, ends: &[&str]) -> Result<&[Token], String> {
         let start = self.at;
         while !ends.contains(&self.peek()) {
@@ -173,7 +173,7 @@ impl Parser<'_> {
         }
     }
 
-    /// Reads the items of a block in braces, which stand in `module` and in the `impl` block of `owner`.
+    /// Reads the items of a block in braces, which are in `module` and in the `impl` block of `owner`.
     fn block(&mut self, module: usize, owner: Option<Names>) -> Result<(), String> {
         let around = (mem::replace(&mut self.module, module), mem::replace(&mut self.owner, owner));
         if !self.take("{") {
@@ -186,7 +186,7 @@ impl Parser<'_> {
         Ok(())
     }
 
-    /// Notes an item of the module that is being read.
+    /// Adds an item to the module that is being read.
     fn push(&mut self, name: String, line: usize, public: bool, kind: Kind, mentions: Vec<Names>) {
         self.found.items.push(Item { name, module: self.module, line, public, kind, mentions });
     }
@@ -245,7 +245,7 @@ impl Parser<'_> {
         self.block(self.module, owner)
     }
 
-    /// Reads a struct, an enum or a constant, from its name on. One of `ends` is or begins its last group.
+    /// Reads a struct, an enum or a constant, from its name on. One of `ends` is its last token or opens its last group.
     fn data(&mut self, public: bool, ends: &[&str]) -> Result<(), String> {
         let (name, line) = (self.next()?, self.line());
         let mut mentions = paths(self.until(ends)?);
@@ -267,12 +267,12 @@ impl Parser<'_> {
     }
 }
 
-/// How much deeper a token leads: 1 where it opens a group, -1 where it closes one.
+/// 1 if a token opens a group, -1 if it closes one, and otherwise 0.
 fn nesting(text: &str) -> i32 {
     i32::from("([{".contains(text)) - i32::from(")]}".contains(text))
 }
 
-/// Parts a list at its commas.
+/// Splits a list at its commas.
 fn split(list: &[Token]) -> Vec<&[Token]> {
     let mut depth = 0;
     let parts = list.split(|t| {
@@ -282,8 +282,8 @@ fn split(list: &[Token]) -> Vec<&[Token]> {
     parts.filter(|part| !part.is_empty()).collect()
 }
 
-/// The name of a parameter `name: &mut ..` or `&mut self`; none if it is another. `lex` has dropped its lifetime, and a
-/// parenthesis around its type goes too.
+/// The name of a parameter `name: &mut ..` or `&mut self`; none for any other parameter. `lex` has dropped its lifetime,
+/// and a parenthesis around its type is dropped here.
 fn lent(parameter: &[Token]) -> Option<String> {
     let texts: Vec<&str> = parameter.iter().map(|t| t.text.as_str()).filter(|t| *t != "(").collect();
     if texts == ["&", "mut", "self"] {
@@ -307,7 +307,7 @@ fn paths(tokens: &[Token]) -> Vec<Names> {
     found
 }
 
-/// What the tree of a `use` brings, below the path `prefix`: names, each with its path.
+/// What the tree of a `use` imports below the path `prefix`: names, each with its path.
 fn imported(tree: &[Token], prefix: &[String]) -> Vec<(String, Names)> {
     let mut path = prefix.to_vec();
     for (i, token) in tree.iter().enumerate() {

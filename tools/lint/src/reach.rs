@@ -1,8 +1,8 @@
 //! Finds what another crate can reach.
 //!
-//! Reached are the `pub` items of a module that is reached, beginning with the root; what a reached `pub use` names; and
-//! the methods of a type that is reached. A type is reached too where a reached item hands it out, as a function does
-//! in its result: whoever holds a value can call its methods, even if no path to its type is public.
+//! These are reached: the `pub` items of a module that is reached, beginning with the root; what a reached `pub use` names;
+//! and the `pub` methods of a type that is reached. A type is also reached if a reached item mentions it, for example as
+//! the result of a function: whoever has a value can call its methods, even if no path to its type is public.
 
 use crate::parse::{Crate, Kind, Names};
 
@@ -10,7 +10,7 @@ use crate::parse::{Crate, Kind, Names};
 pub fn reached(krate: &Crate) -> Vec<bool> {
     let mut reached = vec![false; krate.items.len()];
     let mut work = public_items(krate, 0);
-    // a method whose type is not found counts as reached: rather one too many than one that is not checked
+    // a method whose type is not found counts as reached, so that no method goes unchecked
     work.extend(methods(krate, |types| types.is_empty()));
     while let Some(i) = work.pop() {
         if !std::mem::replace(&mut reached[i], true) {
@@ -26,7 +26,7 @@ fn public_items(krate: &Crate, module: usize) -> Vec<usize> {
     items.filter(|(_, item)| item.public && item.module == module).map(|(i, _)| i).collect()
 }
 
-/// The `pub` methods whose type is `wanted`. It is handed as the items that it may be.
+/// The `pub` methods whose type is `wanted`, which is asked about the items that the type may be.
 fn methods(krate: &Crate, wanted: impl Fn(&[usize]) -> bool) -> Vec<usize> {
     let items = krate.items.iter().enumerate();
     let is_wanted = |module, kind: &Kind| match kind {
@@ -52,8 +52,8 @@ fn leads_to(krate: &Crate, i: usize) -> Vec<usize> {
     found
 }
 
-/// The items that `path` may mean in `module`; none where it leads to another crate. `passed` has each `use` that is being
-/// followed, so that none is followed in a circle.
+/// The items that `path` may mean in `module`; none if it leads to another crate. `passed` contains each `use` that is
+/// being followed, so that none is followed in a circle.
 fn meant(krate: &Crate, module: usize, path: &[String], passed: &mut Vec<usize>) -> Vec<usize> {
     let Some((first, rest)) = path.split_first() else {
         return Vec::new();

@@ -1,11 +1,11 @@
-//! Reads the statements of a crate that no second outcome meets a promise, and whether they are proved.
+//! Reads a crate's statements that no second outcome meets a promise, and finds out whether they are proved.
 
 use crate::lex;
 use std::fs;
 use std::path::{Path, PathBuf};
 
-/// The record of the statements. It stands in specs/Unique.antt, each field on lines of its own: `pub NAME : ..`, two
-/// blanks in, and what goes on further in.
+/// The record of the statements in specs/Unique.antt. Each field begins on a line of its own, `pub NAME : ..`, indented by
+/// two blanks. Its further lines are indented more.
 const RECORD: &str = "OneOutcome";
 
 /// What a statement says of a predicate.
@@ -13,16 +13,16 @@ const ONCE: &str = "Once";
 
 /// The statements of one crate.
 pub struct Unique {
-    /// The file, as seen from the repository's root.
+    /// The file, as a path from the repository's root.
     file: PathBuf,
     fields: Vec<Field>,
-    /// Is there a proof, or nothing to prove since there is no file?
+    /// Is there a proof? Also true if there is no file, because there is then nothing to prove.
     proved: bool,
 }
 
 struct Field {
     line: usize,
-    /// Its name; where a line is not the beginning of a field, that line.
+    /// Its name; the whole line if the line does not begin a field.
     name: String,
     words: Vec<String>,
     /// Has a function asked for it?
@@ -30,7 +30,7 @@ struct Field {
 }
 
 impl Unique {
-    /// Reads them below `root/folder`, which is a crate's. Without a file there are none.
+    /// Reads the statements of the crate at `root/folder`. Without a file there are none.
     pub fn read(root: &Path, folder: &Path) -> Result<Unique, String> {
         let file = folder.join("specs/Unique.antt");
         if !root.join(&file).exists() {
@@ -41,8 +41,8 @@ impl Unique {
         Ok(Unique { file, fields, proved })
     }
 
-    /// What the statement about a function lacks, whose promise is this predicate. Two functions of the same name, in two
-    /// modules or of two types, share a statement: it shall say `Once` of the predicates of both.
+    /// What the statement about a function lacks, if the function promises this predicate. Two functions of the same name, in
+    /// two modules or of two types, share a statement, which must say `Once` of the predicates of both.
     pub fn asked(&mut self, function: &str, predicate: &str) -> Option<String> {
         let name = function.rsplit("::").next().unwrap_or_default().replace('_', "-");
         let Some(field) = self.fields.iter_mut().find(|field| field.name == name) else {
@@ -56,7 +56,7 @@ impl Unique {
         (!said).then(|| format!("its statement {name} does not say {ONCE} of {predicate}"))
     }
 
-    /// A line for each statement that no function asked for, and one where nothing proves them.
+    /// A line for each statement that no function asked for, and one more if the statements are not proved.
     pub fn faults(self) -> Vec<String> {
         let file = self.file.display();
         let stale = self.fields.iter().filter(|field| !field.asked);
@@ -87,7 +87,7 @@ fn fields(text: &str) -> Vec<Field> {
     for (line, text) in lines.skip_while(|(_, line)| !head(line)).skip(1).take_while(|(_, line)| inside(line)) {
         if !text.starts_with("   ") {
             let name = match text.split_whitespace().collect::<Vec<_>>().as_slice() {
-                // a name that is a word of the language stands between these marks
+                // a name that is also a keyword is written between these marks
                 ["pub", name, ":", ..] => name.trim_matches(['«', '»']).to_string(),
                 _ => text.trim().to_string(),
             };
@@ -105,8 +105,8 @@ fn words(text: &str) -> impl Iterator<Item = &str> {
     text.split(|c| !lex::in_name(c)).filter(|word| !word.is_empty())
 }
 
-/// Has a file of the folder `root/folder`, or of a folder in it, a line `pub NAME : OneOutcome`? It is not indented, so
-/// that it stands in no module that assumes something.
+/// Does a file in the folder `root/folder`, or in a folder below it, have a line `pub NAME : OneOutcome`? The line must not
+/// be indented, so that it is not in a module with assumptions.
 fn is_proved(root: &Path, folder: &Path) -> Result<bool, String> {
     let unreadable = |e| format!("{}: cannot be read: {e}", folder.display());
     if !root.join(folder).exists() {
@@ -126,7 +126,7 @@ fn is_proved(root: &Path, folder: &Path) -> Result<bool, String> {
     Ok(false)
 }
 
-/// Is it the line?
+/// Is it such a line?
 fn proves(line: &str) -> bool {
     let words: Vec<&str> = line.split_whitespace().collect();
     line.starts_with("pub") && matches!(words.as_slice(), ["pub", _, ":", RECORD])

@@ -23,7 +23,7 @@ impl Repo {
         repo
     }
 
-    /// Runs the lint on the repository: its status, what it prints, and what it prints as errors.
+    /// Runs the lint on the repository. Returns its status, what it prints, and what it prints as errors.
     fn lint(&self, words: &[&str]) -> (i32, String, String) {
         run(Command::new(env!("CARGO_BIN_EXE_lint")).arg(&self.0).args(words))
     }
@@ -41,7 +41,7 @@ fn run(command: &mut Command) -> (i32, String, String) {
     (done.status.code().expect("the lint ends by itself"), text(done.stdout), text(done.stderr))
 }
 
-/// Asserts that the lint finds `count` public functions in these files and prints just these faults.
+/// Asserts that the lint finds `count` public functions in these files and prints exactly these faults.
 #[track_caller]
 fn finds_in(files: &[(&str, &str)], count: usize, short: usize, faults: &[&str]) {
     let mut printed: String = faults.iter().map(|fault| format!("{fault}\n")).collect();
@@ -50,7 +50,7 @@ fn finds_in(files: &[(&str, &str)], count: usize, short: usize, faults: &[&str])
     assert_eq!(Repo::new(files).lint(&[]), (status, printed, String::new()));
 }
 
-/// The same, of a crate whose whole text is `text`. Each fault is a line's number and what follows it.
+/// The same for a crate whose whole text is `text`. Each fault is a line number and what follows it.
 #[track_caller]
 fn finds(text: &str, count: usize, short: usize, faults: &[&str]) {
     let faults: Vec<String> = faults.iter().map(|fault| format!("crates/a/src/lib.rt:{fault}")).collect();
@@ -64,7 +64,7 @@ const STATED: [(&str, &str); 2] = [
     ("crates/a/proofs/Unique.antt", "pub one : OneOutcome\none = record { f = p }\n"),
 ];
 
-/// As `finds`, of a crate that has this statement too.
+/// Like `finds`, for a crate that also has this statement.
 #[track_caller]
 fn finds_stated(text: &str, count: usize, short: usize, faults: &[&str]) {
     let faults: Vec<String> = faults.iter().map(|fault| format!("crates/a/src/lib.rt:{fault}")).collect();
@@ -72,7 +72,7 @@ fn finds_stated(text: &str, count: usize, short: usize, faults: &[&str]) {
     finds_in(&[("crates/a/src/lib.rt", text), STATED[0], STATED[1]], count, short, &faults);
 }
 
-/// Asserts that another crate can reach just these functions of the crate. None of them may have a contract.
+/// Asserts that another crate can reach exactly these functions of the crate. None of them may have a contract.
 #[track_caller]
 fn reaches(text: &str, names: &[&str]) {
     let (_, printed, errors) = Repo::new(&[("crates/a/src/lib.rt", text)]).lint(&[]);
@@ -84,7 +84,7 @@ fn reaches(text: &str, names: &[&str]) {
     assert_eq!(printed.lines().last(), Some(last.as_str()));
 }
 
-/// Asserts that the lint refuses to tell, with this error.
+/// Asserts that the lint refuses these files with this error.
 #[track_caller]
 fn refuses(files: &[(&str, &str)], error: &str) {
     assert_eq!(Repo::new(files).lint(&[]), (2, String::new(), format!("lint: {error}\n")));
@@ -278,7 +278,7 @@ const PREDICATE: (&str, &str) =
 /// A proof of its statements.
 const PROOF: (&str, &str) = ("crates/a/proofs/deep/Laws.antt", "-- A law.\npub one : OneOutcome\none = x\n");
 
-/// Asserts what the lint prints of that crate with this specs/Unique.antt.
+/// Asserts what the lint prints about that crate with this specs/Unique.antt.
 #[track_caller]
 fn says_of(unique: &str, faults: &[&str]) {
     let files = [PREDICATE, PROOF, ("crates/a/specs/Unique.antt", unique)];
@@ -339,7 +339,7 @@ fn statement_that_says_too_little_is_a_fault() {
     }
 }
 
-/// Asserts what the lint prints of the files, with faults in specs/Unique.antt alone.
+/// Asserts what the lint prints about the files, if all faults are in specs/Unique.antt.
 #[track_caller]
 fn finds_unique(files: &[(&str, &str)], count: usize, faults: &[&str]) {
     let mut printed: String = faults.iter().map(|fault| format!("crates/a/specs/Unique.antt{fault}\n")).collect();
@@ -526,15 +526,15 @@ fn method_is_reached_where_a_value_is_handed_out() {
     reaches("mod inner { impl Unknown { pub fn f(self) {} fn g(self) {} } }", &["Unknown::f"]);
 }
 
-// Libraries that are for tests alone.
+// Libraries that are only for tests.
 
-/// Two libraries: `a` in order, `t` with faults that a library for tests alone may have.
+/// Two libraries: `a` is in order, and `t` has faults that a library for tests may have.
 const TWO: [(&str, &str); 2] = [
     ("crates/a/src/lib.rt", "pub fn f() ensures { λ r. ⌜ r ≡ 1 ⌝ } {}"),
     ("crates/t/src/lib.rt", "pub fn read(out: &mut u8) ensures { a } {}\npub fn print() {}\n"),
 ];
 
-/// Asserts what the lint prints, and that it fails, with `TWO` and another file and this crates.txt.
+/// Asserts that the lint fails on `TWO`, another file and this crates.txt, and what it prints.
 #[track_caller]
 fn fails_listed(file: (&str, &str), crates: &str, tests: &str, printed: &str) {
     let repo = Repo::new(&[TWO[0], TWO[1], file, ("crates.txt", crates)]);

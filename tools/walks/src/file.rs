@@ -1,4 +1,4 @@
-//! The file of a proof.
+//! The text of a proof file.
 
 use crate::frame;
 use crate::param::{Kind, Param};
@@ -6,11 +6,11 @@ use crate::source::Call;
 use crate::text::{abbrev, capital, dash, joined, nest, spaced, step, tidy};
 use crate::uses::{callees, uses};
 
-/// What all is said over.
+/// The parameters that the definitions of a proof have in common.
 pub const LOGIC: &str = "{M : Type 1} (𝓤 : URA M) (H : Heap 𝓤) (A : Atoms 𝓤)";
 pub const RUN: &str = "(at-mem : Memory → SProp 𝓤) (run : Routine → Fun 𝓤)";
 
-/// What the function ensures, as the walk takes it.
+/// What the function ensures, in the form that the walk takes.
 pub const OUTER: &str = "outer.ended stayed";
 pub const CLAUSES: &str = "(outer.clauses 𝓤 H A at-mem run)";
 
@@ -25,19 +25,19 @@ pub fn proof(c: &Call) -> String {
     tidy(&format!("{first}{}\n{}\n", uses(c), parts.join("\n\n")))
 }
 
-/// What a proof has for each parameter, and is the same for all of a kind.
+/// The clauses that a proof has for each parameter. They depend on the parameter's kind.
 enum Clause {
-    /// What stays of it.
+    /// What is owned of the parameter at exit.
     Stays,
-    /// How it goes.
+    /// The law from what is owned of it at exit to what the contract says about its last value.
     Goes,
-    /// How it is spelled.
+    /// Its values in MIR.
     Spells,
-    /// How that tells it.
+    /// The law that its type relates it to these values.
     Tells,
 }
 
-/// A clause of all parameters.
+/// One clause for all parameters.
 fn clauses(c: &Call, clause: Clause) -> String {
     let refs = c.refs().len();
     nest(&c.params, |p| match clause {
@@ -84,7 +84,7 @@ fn tells(p: &Param) -> String {
     }
 }
 
-/// What stays, and the contracts of the core and the refuser.
+/// What is owned of the parameters at exit, and the contracts of the core and the refuser.
 fn contracts(c: &Call) -> String {
     let contract = |name: &str, of: &str| {
         let value = format!("tripleOf 𝓤 H A {of}.signature ({of}.spec 𝓤 H A at-mem run)");
@@ -102,7 +102,7 @@ fn triples(c: &Call, table: &str) -> String {
     })
 }
 
-/// Their names.
+/// The names of these triples.
 fn known(c: &Call) -> String {
     spaced(&callees(c), |(alias, _)| format!("known-{alias}"))
 }
@@ -128,7 +128,7 @@ fn walks(c: &Call) -> String {
     lines.join("\n")
 }
 
-/// A parameter, taken from all.
+/// The parts of one parameter, taken from the tuple of all parameters.
 fn taken(p: &Param) -> String {
     let (a, are) = (format!("a{}", step(p.index)), format!("are{}", step(p.index)));
     if p.is_ref() {
@@ -138,7 +138,7 @@ fn taken(p: &Param) -> String {
     }
 }
 
-/// The function meets its contract, over any tables.
+/// The function meets its contract with any tables.
 fn meets(c: &Call) -> String {
     let (triples, known, goes) = (triples(c, "𝓣 .C"), known(c), clauses(c, Clause::Goes));
     let code = "(WpFn 𝓤 H (𝓣 .C) (𝓣 .Λ) code.function)";
@@ -173,7 +173,7 @@ fn spec(c: &Call) -> String {
     .join("\n")
 }
 
-/// A callee's theorem, as the function calls it.
+/// A callee's theorem, in the form in which it is cited.
 fn cites(c: &Call, alias: &str, function: &str) -> String {
     let Call { crate_name, module, .. } = c;
     let contract = format!("({} 𝓤 H (𝓖 .A) (𝓜 .mem) (𝓡 .run))", capital(alias));

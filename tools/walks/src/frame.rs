@@ -1,4 +1,4 @@
-//! The part of a proof that is over the parameters: what is had of them at entry and at exit, and the walk between.
+//! The part of a proof about the parameters: what is owned of them at entry and at exit, and the walk between.
 
 use crate::file::{CLAUSES, LOGIC, OUTER, RUN};
 use crate::param::{owned, Param};
@@ -7,10 +7,10 @@ use crate::steps::{body, exit_steps, refuse_steps};
 use crate::text::{abbrev, capital, indented, list, nest, product, spaced};
 use crate::uses::callees;
 
-/// What is had at entry, as the walk has it.
+/// What is owned at entry, in the form that the walk takes.
 const ENTRY: &str = "(tokens ∷ ‵ (owns rows a vals) ∷ [])";
 
-/// The walk over the parameters, with all that it needs.
+/// The walk with the parameters bound, and all definitions that it needs.
 pub fn walked(c: &Call) -> String {
     let lifetimes = spaced(&c.refs(), |p| format!("({} : Lft) ({} : Share)", p.k, p.q));
     let head = format!("module _ {LOGIC} (W : Given 𝓤 H A) {RUN}\n    {lifetimes}\n    {} where", bound(c));
@@ -19,7 +19,7 @@ pub fn walked(c: &Call) -> String {
     format!("{head}\n{}", indented(&parts.join("\n\n"), "  "))
 }
 
-/// The parameters, as the proof is over them.
+/// The bound variables of the parameters.
 fn bound(c: &Call) -> String {
     spaced(&c.params, |p| {
         let Param { b, o, g, v, denot, room, row, is, of, .. } = p;
@@ -31,7 +31,7 @@ fn bound(c: &Call) -> String {
     })
 }
 
-/// What is owned of a parameter.
+/// The names for a parameter's value in MIR and, if it is a slice, for its reference and for what is owned of it.
 fn names(p: &Param) -> String {
     let Param { b, o, g, v, s, x, own, denot, of, .. } = p;
     if !p.is_ref() {
@@ -63,7 +63,7 @@ fn arg(p: &Param) -> String {
     }
 }
 
-/// What is had at entry and what is asked at exit.
+/// What is owned at entry and what is required at exit.
 fn frame(c: &Call) -> String {
     let refs = c.refs();
     let walk_of = format!("walkOf 𝓤 H A {OUTER} {CLAUSES}");
@@ -84,7 +84,7 @@ fn frame(c: &Call) -> String {
     .join("\n\n")
 }
 
-/// The way out with what was done.
+/// The exit after the call was done.
 fn exits(c: &Call) -> String {
     let Call { result, kind, .. } = c;
     let muts = c.muts();
@@ -113,7 +113,7 @@ fn exits(c: &Call) -> String {
     .join("\n")
 }
 
-/// The way out with nothing done.
+/// The exit after the call was refused and nothing was changed.
 fn refuses(c: &Call) -> String {
     let Call { result, kind, .. } = c;
     let seats = &c.seats().v;
@@ -133,7 +133,7 @@ fn refuses(c: &Call) -> String {
     .join("\n")
 }
 
-/// What the refuser and the core are handed.
+/// The arguments of the refuser and the core.
 fn handed(c: &Call) -> String {
     let (state, refs) = ([c.state()], c.core_refs());
     let spelled = |p: &Param| if p.is_seats { format!("rowVal {} ∷ []", p.v) } else { format!("{} ∷ []", p.s) };
@@ -154,7 +154,7 @@ fn handed(c: &Call) -> String {
     .join("\n\n")
 }
 
-/// The walk, over what the callees do.
+/// The walk, given what the callees do.
 fn walk(c: &Call) -> String {
     let known = spaced(&callees(c), |(alias, _)| {
         format!("(known-{alias} : Triple 𝓤 (C #{alias}) ({} 𝓤 H A at-mem run))", capital(alias))

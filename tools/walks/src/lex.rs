@@ -1,6 +1,6 @@
 //! Cuts Rattle code into tokens: words, strings with their quotes, and marks of one character.
 //!
-//! Comments and single characters in quotes leave no token.
+//! Comments and single characters in quotes have no tokens.
 
 /// The tokens of a text.
 pub fn tokens(text: &str) -> Vec<&str> {
@@ -23,7 +23,7 @@ fn in_word(c: char) -> bool {
     c.is_alphanumeric() || c == '_'
 }
 
-/// The length of what `text`, which begins with `first`, has there, and whether that is a token.
+/// The length of the first piece of `text`, and whether it is a token. `first` is the first character of `text`.
 fn piece(text: &str, first: char) -> (usize, bool) {
     if text.starts_with("//") {
         (text.find('\n').unwrap_or(text.len()), false)
@@ -40,7 +40,7 @@ fn piece(text: &str, first: char) -> (usize, bool) {
     }
 }
 
-/// The length of a comment in `/* */`, which may hold others.
+/// The length of a comment in `/* */`, which may contain other comments.
 fn comment(text: &str) -> usize {
     let mut depth = 0;
     let mut at = 0;
@@ -55,7 +55,7 @@ fn comment(text: &str) -> usize {
     at
 }
 
-/// The length of a character in quotes, as `'"'`, `'\''` and `'\x0d'`, if one begins here.
+/// The length of a character in quotes, such as `'"'`, `'\''` or `'\x0d'`, if one begins here.
 fn character(text: &str) -> Option<usize> {
     let inside = text.strip_prefix('\'')?;
     let first = inside.chars().next()?.len_utf8();

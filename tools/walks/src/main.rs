@@ -1,11 +1,11 @@
 //! Writes the proofs of the calls of a Rattle module that work on a lent row of seats.
 //!
 //! `walks ROOT CRATE MODULE` writes ROOT/crates/CRATE/proofs/MODULE/F/Proof.antt for each such call F of
-//! ROOT/crates/CRATE/src/MODULE.rt. With `--check` it writes nothing and says whether the files are what it writes.
-//! Exit status: 0 if it wrote them or they are as written, 1 if a file is not, 2 if it cannot tell.
+//! ROOT/crates/CRATE/src/MODULE.rt. With `--check` it writes nothing and says whether the files are what it would write.
+//! Exit status: 0 if it wrote the files or they are as it would write them, 1 if a file differs, 2 if it could not be run.
 //!
-//! The prover does not walk a function that takes a slice of structs, so the walks of such calls are written here.
-//! They differ only in the calls' parameters. A call is read from the source and has this form and no other:
+//! The prover does not walk a function that takes a slice of structs, so this program writes the walks of such calls. They
+//! differ only in the calls' parameters. A call is read from the source and must have exactly this form:
 //!
 //! ```text
 //! pub extern "C" fn F(seats: &mut [Seat], desk: Desk, cells: &mut [u8], frame: &[u8], ..) -> Answer
@@ -22,8 +22,8 @@
 //! ```
 //!
 //! A parameter is a struct, or a slice of structs, of `u8` or of `u32`. CORE ensures CoreX (each parameter at entry) r
-//! (each other `&mut` parameter at exit). The crate's proofs/LentLaws has `done-x`, from CoreX to XLent, and
-//! `refused-x`, XLent where the row is not of sixteen seats. proofs/Outs takes apart what CORE hands back.
+//! (each other `&mut` parameter at exit). The crate's proofs/LentLaws has two laws: `done-x` leads from CoreX to XLent, and
+//! `refused-x` proves XLent if the row does not have sixteen seats. proofs/Outs has laws on the parts of what CORE returns.
 
 mod file;
 mod frame;
@@ -53,7 +53,7 @@ fn main() -> ExitCode {
     })
 }
 
-/// A file that the program writes: its path, as seen from the root, and its text.
+/// A file that the program writes: its path from the root, and its text.
 struct Written {
     path: String,
     text: String,

@@ -1,6 +1,6 @@
-//! A parameter of a call: what it is, the names that its parts have in a proof, and the texts about it alone.
+//! A parameter of a call: what it is, the names of its parts in a proof, and the texts that are only about it.
 
-/// The numbers of which a slice may be.
+/// The number types that the elements of a slice may have.
 const NUMBERS: [&str; 2] = ["u8", "u32"];
 
 #[derive(Clone, Copy, Debug, PartialEq)]
@@ -16,7 +16,7 @@ pub enum Kind {
 pub struct Param {
     pub name: String,
     pub kind: Kind,
-    /// The struct that it is, or what its elements are.
+    /// The type of the struct, or of the slice's elements.
     pub of: String,
     /// Its place among the parameters.
     pub index: usize,
@@ -24,19 +24,19 @@ pub struct Param {
     pub lifetime: usize,
     /// Is it the row of seats that is loaded and stored?
     pub is_seats: bool,
-    /// Its value at entry and at exit, of a slice a list.
+    /// Its value at entry and at exit; a list if it is a slice.
     pub v: String,
     pub z: String,
     /// Its value in MIR.
     pub s: String,
-    /// That a struct's value is in its row; that a slice's elements have room; that a slice keeps its length.
+    /// The facts that a struct's value is in its row, that a slice's elements have room, and that a slice keeps its length.
     pub is: String,
     pub room: String,
     pub len: String,
-    /// The reference that a slice is, with a list, and what is owned of it.
+    /// The reference of a slice, which depends on a list, and what is owned of the slice.
     pub x: String,
     pub own: String,
-    /// The slice's lifetime and share of it, its ghost name, and its pointer's block and offset.
+    /// The slice's lifetime and the share of it, its ghost name, and its pointer's block and offset.
     pub k: String,
     pub q: String,
     pub g: String,
@@ -50,7 +50,7 @@ pub struct Param {
 }
 
 impl Param {
-    /// A parameter at these places; none if a call on lent seats has no such parameter.
+    /// A parameter at these places; none if a call on lent seats cannot have such a parameter.
     pub fn new(name: &str, kind: Kind, of: &str, index: usize, lifetime: usize) -> Option<Param> {
         let number = NUMBERS.contains(&of);
         let known = if number { kind != Kind::Value } else { of.starts_with(char::is_uppercase) };
@@ -92,12 +92,12 @@ impl Param {
         self.kind == Kind::Mut
     }
 
-    /// Is it of a type that the module declares or brings in?
+    /// Is it a struct or a slice of structs?
     pub fn is_of_struct(&self) -> bool {
         !NUMBERS.contains(&self.of.as_str())
     }
 
-    /// What is had of a slice at exit: what says its last list, or the slice that was only read.
+    /// What is owned of a slice at exit: for a slice that may change the fact about its last list, and otherwise the slice.
     pub fn had(&self) -> String {
         let Param { row, g, z, own, .. } = self;
         if self.changes() {
@@ -107,7 +107,7 @@ impl Param {
         }
     }
 
-    /// That its value in MIR has its type.
+    /// The proof that its value in MIR has its type.
     pub fn typed(&self) -> String {
         if self.is_ref() {
             format!("(tt, (tt, (record {{ fits = {} .0 }}, tt)))", self.room)
@@ -116,7 +116,7 @@ impl Param {
         }
     }
 
-    /// The step that makes a struct owned.
+    /// The step after which a struct is owned.
     pub fn owned(&self) -> String {
         owned(&self.of, &self.v, &self.is)
     }
@@ -133,12 +133,12 @@ impl Param {
     }
 }
 
-/// That the value of the struct `of` has its type in MIR.
+/// The proof that the value of the struct `of` has its type in MIR.
 pub fn lawful(of: &str, value: &str, is: &str) -> String {
     format!("(LL.lawful {of}D.the-type {of}L.the-laws 𝓤 H A W .typed {value} _ {is} .0)")
 }
 
-/// The step that makes a value of the struct `of` owned.
+/// The step after which a value of the struct `of` is owned.
 pub fn owned(of: &str, value: &str, is: &str) -> String {
     let makes = format!("(LL.makes {of}D.the-type {of}L.the-plain 𝓤 H A)");
     format!("owned ! {of}D.the-row (Is {of}D.the-row) {makes} {value} _ {is}")

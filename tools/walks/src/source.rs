@@ -3,7 +3,7 @@
 use crate::lex;
 use crate::param::{Kind, Param};
 
-/// The struct of which the lent row is.
+/// The struct of the elements of the lent row.
 const SEAT: &str = "Seat";
 
 /// A call on lent seats.
@@ -15,13 +15,13 @@ pub struct Call {
     pub result: String,
     /// The X of its XLent and CoreX.
     pub kind: String,
-    /// The function that answers where the row is not of sixteen seats, and the parameter that it takes.
+    /// The function that answers if the row does not have sixteen seats, and the place of the parameter that it takes.
     pub refuser: String,
     state: usize,
-    /// The call by value, and the struct that it makes.
+    /// The call by value, and the struct that it returns.
     pub core: String,
     pub made: String,
-    /// The structs that the call names, and where they stand, by name.
+    /// The structs that the call names, sorted by name, and where they are declared.
     pub homes: Vec<(String, Home)>,
 }
 
@@ -61,7 +61,7 @@ impl Call {
         self.kind.to_lowercase()
     }
 
-    /// The name that begins the laws of the struct that the call by value makes.
+    /// The beginning of the names of the laws about the struct that the call by value returns.
     pub fn out(&self) -> String {
         self.made.to_lowercase()
     }
@@ -71,12 +71,12 @@ impl Call {
 pub struct Home {
     crate_name: String,
     pub module: String,
-    /// Is that in the call's crate?
+    /// Is it declared in the call's crate?
     own: bool,
 }
 
 impl Home {
-    /// The place of the crate's `part`, which is `specs` or `proofs`.
+    /// The path of the crate's `part`, which is `specs` or `proofs`.
     pub fn part(&self, part: &str) -> String {
         let Home { crate_name, own, .. } = self;
         if *own {
@@ -87,7 +87,7 @@ impl Home {
     }
 }
 
-/// The calls on lent seats of a module, in their order; or what is wrong with one.
+/// The calls on lent seats of a module, in their order, or what is wrong with one.
 pub fn calls(crate_name: &str, module: &str, text: &str) -> Result<Vec<Call>, String> {
     let source = Source { crate_name, module, tokens: lex::tokens(text) };
     let starts = 0..source.tokens.len();
@@ -101,7 +101,7 @@ struct Source<'a> {
 }
 
 impl Source<'_> {
-    /// The name of the exported function that begins at `at`, if one does and is lent seats.
+    /// The name of the exported function that begins at `at`, if there is one and it is lent seats.
     fn call_at(&self, at: usize) -> Option<&str> {
         let ["pub", "extern", "\"C\"", "fn", name, rest @ ..] = &self.tokens[at..] else { return None };
         let signature = rest.split(|token| *token == "{").next()?;
@@ -132,7 +132,7 @@ impl Source<'_> {
         })
     }
 
-    /// The struct that the module's function `name` makes.
+    /// The struct that the module's function `name` returns.
     fn result_of(&self, name: &str) -> Option<&str> {
         let at = self.tokens.windows(2).position(|w| w == ["fn", name])?;
         let mut reader = Reader { rest: &self.tokens[at + 2..] };
@@ -141,7 +141,7 @@ impl Source<'_> {
         reader.structure()
     }
 
-    /// The structs of a call, by name, each once, and where they stand.
+    /// The structs of a call, sorted by name, each once, and where they are declared.
     fn homes(&self, form: &Form, made: &str) -> Vec<(String, Home)> {
         let of_params = form.params.iter().filter(|p| p.is_of_struct()).map(|p| p.of.as_str());
         let mut names: Vec<&str> = of_params.chain([form.result, made]).collect();
@@ -150,7 +150,7 @@ impl Source<'_> {
         names.into_iter().map(|name| (name.to_string(), self.home(name))).collect()
     }
 
-    /// Where the struct `name` is declared: where a `use` brings it from, or here.
+    /// Where the struct `name` is declared: where a `use` imports it from, or in this module.
     fn home(&self, name: &str) -> Home {
         let used = self.tokens.windows(9).find_map(|w| match w {
             ["use", from, ":", ":", module, ":", ":", last, ";"] if *last == name => Some((*from, *module)),
@@ -162,7 +162,7 @@ impl Source<'_> {
     }
 }
 
-/// What a call says, read from its text.
+/// The parts of a call, read from its text.
 struct Form<'a> {
     params: Vec<Param>,
     result: &'a str,
@@ -171,7 +171,7 @@ struct Form<'a> {
     /// The place of the parameter that the refuser takes.
     state: usize,
     core: &'a str,
-    /// What is handed to the core.
+    /// The arguments of the core.
     handed: Vec<String>,
 }
 
@@ -226,7 +226,8 @@ fn params(list: &[&[&str]]) -> Option<Vec<Param>> {
     Some(found)
 }
 
-/// What a call ensures of its parameters: each at entry, the result, and each that it may change at exit.
+/// The arguments of XLent in what a call ensures: each parameter at entry, the result, and at exit each parameter that it
+/// may change.
 fn said(params: &[Param]) -> String {
     let at = |p: &Param, time: &str| format!("( now ( {} . {time} ) )", p.name);
     let entry = params.iter().map(|p| if p.is_ref() { at(p, "entry") } else { p.name.clone() });
@@ -240,7 +241,7 @@ struct Reader<'a> {
 }
 
 impl<'a> Reader<'a> {
-    /// Reads these tokens, which blanks part; nothing if others stand there.
+    /// Reads these tokens, which are separated by blanks; nothing if the next tokens are others.
     fn all(&mut self, tokens: &str) -> Option<()> {
         tokens.split(' ').try_for_each(|token| self.next().filter(|next| *next == token).map(|_| ()))
     }
@@ -254,7 +255,7 @@ impl<'a> Reader<'a> {
         self.word().filter(|word| word.starts_with(char::is_uppercase))
     }
 
-    /// Reads a list in parentheses, parted at its commas. The last item may have a comma too.
+    /// Reads a list in parentheses, split at its commas. There may be a comma after the last item.
     fn list(&mut self) -> Option<Vec<&'a [&'a str]>> {
         self.all("(")?;
         let end = self.rest.iter().position(|token| *token == ")")?;

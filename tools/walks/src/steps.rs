@@ -1,4 +1,4 @@
-//! The steps of a call: from its entry to its two returns, and those of the two ways out.
+//! The steps of a call: from its entry to its two returns, and those of its two exits.
 
 use crate::param::{lawful, Kind, Param};
 use crate::source::Call;
@@ -20,7 +20,7 @@ pub fn body(c: &Call) -> String {
     steps.w.text()
 }
 
-/// The steps from what is had of each slice to what the parameters own at exit.
+/// The steps from what is owned of each slice to what the parameters own at exit.
 pub fn exit_steps(c: &Call) -> String {
     let names = c.refs().into_iter().map(|p| p.name.as_str());
     let mut w = Walk::new(0, &["true"].into_iter().chain(names).collect::<Vec<_>>());
@@ -36,7 +36,7 @@ pub fn exit_steps(c: &Call) -> String {
     w.text()
 }
 
-/// The steps from what is owned at entry to what is had of each slice where nothing was done.
+/// The steps from what is owned at entry to what is owned of each slice if nothing was changed.
 pub fn refuse_steps(c: &Call) -> String {
     let mut w = Walk::new(0, &["tokens", "owned"]);
     w.front(&["owned"]);
@@ -75,8 +75,8 @@ fn strs(names: &[String]) -> Vec<&str> {
     names.iter().map(String::as_str).collect()
 }
 
-/// The locals of a call, by the order in which the compiler makes them. A slice that is lent again has two: its pointer
-/// and itself.
+/// The locals of a call, in the order in which the compiler makes them. A slice that is lent again has two: one for its
+/// pointer and one for itself.
 struct Places {
     row: usize,
     out: usize,
@@ -89,7 +89,7 @@ struct Places {
     unit: usize,
     /// The seats, for the store.
     again: (usize, usize),
-    /// How many there are.
+    /// How many locals there are.
     all: usize,
 }
 
@@ -118,19 +118,19 @@ impl Places {
         p.index + 1
     }
 
-    /// The local that is handed to the core for a parameter.
+    /// The local that is passed to the core for a parameter.
     fn handed(&self, p: &Param) -> usize {
         let lent = self.lent.get(&p.index).map(|(_, slice)| *slice);
         lent.unwrap_or(if p.is_seats { self.row } else { self.of(p) })
     }
 }
 
-/// A call that was made, in the names of the proof.
+/// A call that was made, with the names that the proof uses.
 struct Made<'a> {
     callee: &'a str,
-    /// The struct that it makes.
+    /// The struct that it returns.
     result: &'a str,
-    /// The tokens that it gives back.
+    /// The tokens that it returns.
     tokens: &'a str,
     lifetimes: &'a str,
     args: &'a str,
@@ -165,7 +165,7 @@ impl Steps<'_> {
         w.line(&format!("guards ! {}", copy(w.cell(at.test))));
     }
 
-    /// The branch of a row that is not of sixteen seats.
+    /// The branch for a row that does not have sixteen seats.
     fn refused(&mut self) {
         let before = self.w.mark();
         self.calls_refuser();
@@ -210,7 +210,7 @@ impl Steps<'_> {
         });
     }
 
-    /// From the callee's post to its result r, the last lists zs, and the fact e that it ensures.
+    /// From the callee's postcondition to its result r, the last lists zs, and the fact e that it ensures.
     fn after_call(&mut self, made: &Made) {
         let Made { callee, result, tokens, lifetimes, args, lasts, said } = made;
         let w = &mut self.w;
@@ -235,7 +235,7 @@ impl Steps<'_> {
         w.binds(&format!("heard ! ({said}) (λ e."), 1, &[]);
     }
 
-    /// The parameters are taken apart, and the row is loaded.
+    /// Takes the parameters apart and loads the row.
     fn loads(&mut self) {
         let Steps { c, w, at } = self;
         let s = c.seats();
@@ -256,7 +256,7 @@ impl Steps<'_> {
         w.lands(at.row, &format!("(array-lawful 𝓤 H A W {laws} .typed {v} _ is-row .0)"));
     }
 
-    /// The core is handed each `&mut` slice for good, a copy of each `&` slice, the structs, and the tokens.
+    /// Passes the core each `&mut` slice itself, a copy of each `&` slice, the structs, and the tokens.
     fn hands_over(&mut self) {
         let Steps { c, w, at } = self;
         for p in c.core_muts() {
@@ -284,7 +284,7 @@ impl Steps<'_> {
         w.swap("use1 W (raw (Core 𝓤 H A at-mem run .pre to-core)) (∗emp 𝓤 _)", 1, &["entry"]);
     }
 
-    /// The core is called, and what it gives back is taken apart.
+    /// Calls the core and takes apart what it returns.
     fn calls(&mut self) {
         let Steps { c, w, at } = self;
         let handed: Vec<String> = c.params.iter().map(|p| copy(w.cell(at.handed(p)))).collect();
@@ -309,7 +309,7 @@ impl Steps<'_> {
         self.takes_back();
     }
 
-    /// The last lists and the result of the core.
+    /// Takes the last lists and the result of the core.
     fn takes_back(&mut self) {
         let Steps { c, w, at } = self;
         for p in &c.params {
@@ -333,7 +333,7 @@ impl Steps<'_> {
         w.say(&format!("rewrite ! {place} {cell} (ap only ({made}L.lowers .val-is r (w ∷ []) is)) refl $"));
     }
 
-    /// The row is stored.
+    /// Stores the row.
     fn stores(&mut self) {
         let Steps { c, w, at } = self;
         let s = c.seats();
@@ -341,7 +341,7 @@ impl Steps<'_> {
         w.reborrow(at.of(s), at.again, &s.typed());
         w.line("");
         w.front(&[&own(s), &token(s)]);
-        // one item less stands before the locals when the operands are read
+        // when the operands are read, there is one item less before the locals
         let handed = operands(&[copy(w.cell(at.again.1) - 1), field(w.cell(at.out) - 1, 0)]);
         let row_is = is_part(c, "row");
         w.line(&format!("stores {} (r .row) {row_is} ! fm known-store (λ i. {handed}) $", lent_seats(s)));
@@ -349,7 +349,7 @@ impl Steps<'_> {
         w.lands(at.unit, "(tt, tt)");
     }
 
-    /// The answer is returned.
+    /// Returns the answer.
     fn returns(&mut self) {
         let Steps { c, w, at } = self;
         let answer_is = is_part(c, "answer");
@@ -368,7 +368,8 @@ impl Steps<'_> {
     }
 }
 
-/// What is owned becomes an item for each parameter, and two for each `&` slice; the tokens become an item for each.
+/// Splits what is owned: into one item for each `&mut` slice and two for each `&` slice. What is owned of structs is
+/// dropped. Splits the tokens into one item for each slice.
 fn takes_apart(c: &Call, w: &mut Walk) {
     w.front(&["owned"]);
     w.split_all("fsplit", &named("own", &c.params), "true");
@@ -389,7 +390,7 @@ fn takes_apart(c: &Call, w: &mut Walk) {
     w.split_all("split", &named("token", c.refs()), "no token");
 }
 
-/// All tokens become one item, and what is had of each slice at exit comes after it.
+/// Joins all tokens into one item. What is owned of each slice at exit comes after it.
 fn gathers(c: &Call, w: &mut Walk) {
     w.front(&["tokens back"]);
     if c.core_refs().is_empty() {
@@ -402,23 +403,23 @@ fn gathers(c: &Call, w: &mut Walk) {
     w.keep(&strs(&kept));
 }
 
-/// The step from a struct that is owned to the fact that its value is in its row.
+/// The step from an owned struct to the fact that its value is in its row.
 fn facts(of: &str) -> String {
     format!("facts ! {of}D.the-row (Is {of}D.the-row) (shows 𝓤 H A {of}D.the-row) r (w ∷ []) (λ is.")
 }
 
-/// That a field of what the core made is in its row.
+/// The proof that a field of the struct that the core returned is in its row.
 fn is_part(c: &Call, field: &str) -> String {
     format!("({}-{field}-is r (w ∷ []) is)", c.out())
 }
 
-/// What the load and the store are told of the seats.
+/// The arguments about the seats for the load and the store.
 fn lent_seats(s: &Param) -> String {
     let Param { k, q, b, o, g, v, room, .. } = s;
     format!("𝓤 H A W at-mem run {k} {q} {b} {o} {g} {v} {room} full")
 }
 
-/// The step that makes the loaded row owned.
+/// The step after which the loaded row is owned.
 fn owned_row(s: &Param) -> String {
     let array = "(Array SeatD.the-row seatCount)";
     let seat = "(LL.makes SeatD.the-type SeatL.the-plain 𝓤 H A)";

@@ -1,4 +1,4 @@
-//! Pieces of text.
+//! Small functions that build text.
 
 /// `(a, (b, .. (z, tt)))`
 pub fn nest<T>(items: &[T], text: impl Fn(&T) -> String) -> String {
@@ -14,12 +14,12 @@ pub fn product<T>(items: &[T], text: impl Fn(&T) -> String) -> String {
     items.iter().rev().fold(None, product).unwrap_or("Unit {0}".to_string())
 }
 
-/// The way to the part `i` of nested pairs.
+/// The projections that lead to part `i` of nested pairs.
 pub fn step(i: usize) -> String {
     format!("{} .0", " .1".repeat(i))
 }
 
-/// The texts, parted by blanks.
+/// The texts, separated by blanks.
 pub fn spaced<T>(items: &[T], text: impl Fn(&T) -> String) -> String {
     joined(items, " ", text)
 }
@@ -29,7 +29,7 @@ pub fn list<T>(items: &[T], text: impl Fn(&T) -> String) -> String {
     format!("{} ∷ []", joined(items, " ∷ ", text))
 }
 
-/// The texts, parted by `mark`.
+/// The texts, separated by `mark`.
 pub fn joined<T>(items: &[T], mark: &str, text: impl Fn(&T) -> String) -> String {
     items.iter().map(text).collect::<Vec<_>>().join(mark)
 }
@@ -39,13 +39,13 @@ pub fn dash(name: &str) -> String {
     name.replace('_', "-")
 }
 
-/// A name with its first letter large.
+/// A name with its first letter in upper case.
 pub fn capital(name: &str) -> String {
     let mut letters = name.chars();
     letters.next().map_or(String::new(), |first| first.to_uppercase().chain(letters).collect())
 }
 
-/// A definition that is unfolded on sight. `left` is its name and its parameters.
+/// An `abbrev` definition. `left` is its name and its parameters.
 pub fn abbrev(left: &str, kind: &str, value: &str) -> String {
     let name = left.split(' ').next().unwrap_or(left);
     format!("abbrev {name} : {kind}\n{left} = {value}")
@@ -56,7 +56,7 @@ pub fn indented(text: &str, blanks: &str) -> String {
     joined(&text.lines().collect::<Vec<_>>(), "\n", |line| format!("{blanks}{line}"))
 }
 
-/// The text with one blank where there are several between two words, and none at the end of a line.
+/// The text with one blank in place of several between two words, and no blanks at the end of a line.
 pub fn tidy(text: &str) -> String {
     let tidy = |line: &str| {
         let words: Vec<&str> = line.split(' ').filter(|word| !word.is_empty()).collect();

@@ -1,8 +1,8 @@
-//! What a proof uses.
+//! The `use` lines of a proof.
 
 use crate::source::Call;
 
-/// What the proofs of all calls use.
+/// The `use` lines that are the same for all calls.
 const HEAD: &str = "\
 use mathlib.Core.Path.{_≡_, refl, sym, ap, subst, _∙_}
 use mathlib.Core.Bool.{true, false}
@@ -51,12 +51,12 @@ use denote.Signature.{plain}
 use Rattle.desk.specs.Limits.{seatCount}
 ";
 
-/// The functions that a call calls, in their order: the name that each has in the proof, and its own.
+/// The functions that a call calls, in their order: the name of each in the proof, and its own name.
 pub fn callees(c: &Call) -> [(&str, &str); 4] {
     [("refused", &c.refuser), ("load", "load"), ("core", &c.core), ("store", "store")]
 }
 
-/// The lines of the uses.
+/// All `use` lines of a call's proof.
 pub fn uses(c: &Call) -> String {
     let Call { crate_name, module, name, .. } = c;
     let own = format!("Rattle.{crate_name}.proofs.{module}.{name}");

@@ -1,7 +1,7 @@
-//! A walk of MIR: its text, and what is had at each of its steps.
+//! A walk of MIR: its text, and the items in the context at each of its steps.
 //!
-//! The context is a list of names, the head first. Of the local `k` it has `Lk`, its cell, and `Dk`, the right to free
-//! it.
+//! The context is a list of names with the head first. For the local `k` it has `Lk`, its cell, and `Dk`, the right to
+//! free it.
 
 use crate::text::{list, spaced};
 use std::collections::BTreeSet;
@@ -9,7 +9,7 @@ use std::collections::BTreeSet;
 pub struct Walk {
     locals: usize,
     context: Vec<String>,
-    /// The locals that hold a value.
+    /// The locals that have a value.
     full: BTreeSet<usize>,
     /// How many parentheses are open.
     parens: usize,
@@ -25,14 +25,14 @@ pub struct Mark {
 
 /// The text.
 impl Walk {
-    /// A walk with so many locals and these other items.
+    /// A walk with this number of locals and these other items.
     pub fn new(locals: usize, items: &[&str]) -> Walk {
         let locals_first = (0..locals).rev().flat_map(|k| [format!("L{k}"), format!("D{k}")]);
         let context = locals_first.chain(items.iter().map(|item| item.to_string())).collect();
         Walk { locals, context, full: BTreeSet::new(), parens: 0, lines: vec![String::new()] }
     }
 
-    /// Goes on in the line.
+    /// Adds text to the current line.
     pub fn say(&mut self, text: &str) {
         let line = self.lines.last_mut().expect("a walk has a line");
         if !line.is_empty() {
@@ -41,18 +41,18 @@ impl Walk {
         line.push_str(text);
     }
 
-    /// Begins a line.
+    /// Begins a new line.
     pub fn line(&mut self, text: &str) {
         self.lines.push(text.to_string());
     }
 
-    /// Begins a line that ends in an open `(λ x.`
+    /// Begins a new line that ends in an open `(λ x.`
     pub fn opens(&mut self, text: &str) {
         self.line(text);
         self.parens += 1;
     }
 
-    /// The last line of a branch. It closes the parentheses that were opened since there were `parens`.
+    /// Writes the last line of a branch. It closes parentheses until only `parens` are open.
     pub fn ends(&mut self, text: &str, parens: usize) {
         self.line(&format!("{text}{}", ")".repeat(self.parens - parens)));
         self.parens = parens;
@@ -93,7 +93,7 @@ impl Walk {
         self.take(0, names);
     }
 
-    /// A step that takes the first items and gives others in their place.
+    /// Writes a step that replaces the first items by others.
     pub fn swap(&mut self, text: &str, taken: usize, given: &[&str]) {
         self.say(&format!("{text} $"));
         self.take(taken, given);
@@ -117,8 +117,8 @@ impl Walk {
         assert!(twice.is_none(), "{twice:?} is in the context twice: {:?}", self.context);
     }
 
-    /// The head is the first part and a rest, that is the next part and a rest, and so on. Leaves the last rest at the
-    /// head.
+    /// Splits the head into the first part and a rest, the rest into the next part and a rest, and so on. The last rest is
+    /// then at the head.
     pub fn split_all(&mut self, step: &str, parts: &[String], rest: &str) {
         for (i, part) in parts.iter().enumerate() {
             let after = if i + 1 == parts.len() { rest.to_string() } else { format!("{rest}/{i}") };
@@ -127,7 +127,7 @@ impl Walk {
         }
     }
 
-    /// The reverse: the parts and the rest become one item, which is named for what it is of. Gives its name.
+    /// The reverse: joins the parts and the rest into one item. Returns its name, which begins with `of`.
     pub fn join_all(&mut self, step: &str, parts: &[String], rest: &str, of: &str) -> String {
         parts.iter().rev().fold(rest.to_string(), |rest, part| {
             self.front(&[part, &rest]);
@@ -160,7 +160,7 @@ impl Walk {
         self.parens += self.locals;
     }
 
-    /// A local gets its value, which `typed` says has its type.
+    /// The step by which a local gets its value. `typed` is the proof that the value has the local's type.
     pub fn init(&mut self, k: usize, typed: &str) -> String {
         self.full.insert(k);
         format!("(init ! {} refl {typed})", self.cell(k))
@@ -171,13 +171,13 @@ impl Walk {
         self.line(&format!("assigns ! {value} (from ! (stop !)) {init} $"));
     }
 
-    /// A call's result comes to a local.
+    /// Writes the step by which a call's result gets into a local.
     pub fn lands(&mut self, k: usize, typed: &str) {
         let init = self.init(k, typed);
         self.line(&format!("land ! (from ! (stop !)) {init} $"));
     }
 
-    /// The slice of one local is lent again: a local for its pointer, and one for it.
+    /// Lends the slice of one local again. It uses two locals, one for the pointer and one for the slice.
     pub fn reborrow(&mut self, source: usize, (pointer, slice): (usize, usize), typed: &str) {
         let inside = format!("(look-in ! {} (sub ! 0 refl (whole !)))", self.cell(source));
         self.assign(pointer, &format!("(addr ! (from ! (fld ! refl (hop ! {inside} (stop !)))))"), "(tt, tt)");
@@ -204,12 +204,12 @@ pub fn local(k: usize) -> String {
     format!("l{}", k.to_string().chars().map(low).collect::<String>())
 }
 
-/// What the cell at a place holds.
+/// The value in the cell at a place.
 pub fn copy(place: usize) -> String {
     format!("(load ! (from ! (stop !)) (look ! {place} refl))")
 }
 
-/// A field of what the cell at a place holds.
+/// A field of the value in the cell at a place.
 pub fn field(place: usize, field: usize) -> String {
     format!("(load ! (from ! (fld ! refl (stop !))) (look-in ! {place} (sub ! {field} refl (whole !))))")
 }

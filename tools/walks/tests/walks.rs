@@ -1,11 +1,11 @@
-//! Runs the program on the repository's module, and on small modules that have the form of a call or do not.
+//! Runs the program on the repository's module, and on small modules whose calls have the right form or do not.
 
 use std::path::{Path, PathBuf};
 use std::process::Command;
 use std::sync::atomic::{AtomicUsize, Ordering};
 use std::{env, fs, process};
 
-/// A module with two calls that have the form.
+/// A module with two calls that have the right form.
 const MODULE: &str = r#"// Calls, with one in a comment: pub extern "C" fn rei2_said(seats: &mut [Seat]) {}
 use crate::answers::Answer;
 use desk::state::Desk;
@@ -62,11 +62,11 @@ pub extern "C" fn rei2_count(seats: &[Seat]) -> u32 {
 }
 "#;
 
-/// A repository in a temporary folder, which is removed with it.
+/// A repository in a temporary folder, which is removed at the end of the test.
 struct Repo(PathBuf);
 
 impl Repo {
-    /// A repository with the module `rei2::lent` of this text.
+    /// A repository whose module `rei2::lent` has this text.
     fn new(module: &str) -> Repo {
         static MADE: AtomicUsize = AtomicUsize::new(0);
         let number = MADE.fetch_add(1, Ordering::Relaxed);
@@ -77,7 +77,7 @@ impl Repo {
         repo
     }
 
-    /// Runs the program on the module: its status, what it prints, and what it prints as errors.
+    /// Runs the program on the module. Returns its status, what it prints, and what it prints as errors.
     fn walks(&self, flags: &[&str]) -> (i32, String, String) {
         walks(&self.0, flags)
     }
@@ -120,7 +120,7 @@ fn read(path: &Path) -> String {
     fs::read_to_string(path).unwrap_or_else(|e| panic!("{}: {e}", path.display()))
 }
 
-/// The module with `old`, which stands there once, replaced by `new`.
+/// The module with `old` replaced by `new`. `old` must occur in it exactly once.
 #[track_caller]
 fn edited(old: &str, new: &str) -> String {
     assert_eq!(MODULE.matches(old).count(), 1, "the text stands once: {old}");
@@ -230,7 +230,7 @@ fn a_module_without_calls() {
     refuses("fn f() {}\n", "crates/rei2/src/lent.rt has no call on lent seats");
 }
 
-// ---- calls that do not have the form
+// ---- calls that do not have the right form
 
 #[test]
 fn the_guard_is_missing_or_another() {

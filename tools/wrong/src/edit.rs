@@ -1,6 +1,6 @@
-//! Wrong programs in the form of rt's must-fail edits: lines `file: `, `old: `, `new: `, and anything else is a comment.
+//! Wrong programs in the form of rt's must-fail edits: lines `file: `, `old: ` and `new: `. Any other line is a comment.
 //!
-//! A `file:` line holds for the pairs after it. The old text stands in its file just once.
+//! A `file:` line applies to the pairs after it. The old text must occur in its file exactly once.
 
 use std::fs;
 use std::path::Path;
@@ -12,7 +12,7 @@ pub struct Replacement {
     new: String,
 }
 
-/// The replacements of an edit, in its order.
+/// The replacements of an edit, in order.
 pub fn read(text: &str) -> Result<Vec<Replacement>, String> {
     let (mut file, mut old, mut found) = ("", None, Vec::new());
     for line in text.lines() {
@@ -35,7 +35,7 @@ pub fn read(text: &str) -> Result<Vec<Replacement>, String> {
     Ok(found)
 }
 
-/// Proofs are not edited: a proof that fails shows nothing of what it proves.
+/// Is it a file under src/ or specs/? Proofs are not edited: an edited proof that fails says nothing about what it proves.
 fn is_of_crate(file: &str) -> bool {
     (file.starts_with("src/") || file.starts_with("specs/")) && !file.split('/').any(|part| part == "..")
 }

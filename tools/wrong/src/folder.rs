@@ -1,14 +1,14 @@
-//! Folders: copied, linked file by file, and made for a run.
+//! Copies folders, links them file by file, and makes folders for a run.
 
 use std::fs;
 use std::path::{Path, PathBuf};
 
-/// A copy of a folder and all below it.
+/// Copies a folder and everything below it.
 pub fn copy(from: &Path, to: &Path) -> Result<(), String> {
     each_file(from, to, &|a, b| fs::copy(a, b).map(drop))
 }
 
-/// The same with hard links in place of copies: a check replaces the files of its folder and writes into none.
+/// The same with hard links instead of copies. This is safe because a check replaces files and never writes into one.
 pub fn link(from: &Path, to: &Path) -> Result<(), String> {
     each_file(from, to, &|a, b| fs::hard_link(a, b))
 }
@@ -31,7 +31,7 @@ fn each_file(from: &Path, to: &Path, put: &dyn Fn(&Path, &Path) -> std::io::Resu
     Ok(())
 }
 
-/// A copy of what a check reads of a crate.
+/// Copies the part of a crate that a check reads.
 pub fn copy_crate(from: &Path, to: &Path) -> Result<(), String> {
     for part in ["src", "specs", "proofs"] {
         if from.join(part).is_dir() {
@@ -41,7 +41,7 @@ pub fn copy_crate(from: &Path, to: &Path) -> Result<(), String> {
     Ok(())
 }
 
-/// A folder that is made empty, and removed when it is no longer held.
+/// A folder that is empty when it is made, and is removed when this value is dropped.
 pub struct Room(PathBuf);
 
 impl Room {
@@ -61,7 +61,7 @@ impl Room {
 
 impl Drop for Room {
     fn drop(&mut self) {
-        // what cannot be removed lies below target/ and is removed by the next run
+        // the folder is below target/; if it cannot be removed now, the next run removes it
         let _ = fs::remove_dir_all(&self.0);
     }
 }

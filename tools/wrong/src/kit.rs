@@ -1,4 +1,4 @@
-//! The Rattle kit on the PATH, and a check of one crate with the words that `rt` uses.
+//! The Rattle kit on the PATH, and a check of one crate with the arguments that `rt` uses.
 
 use crate::repo::Repo;
 use std::fs::{self, File};
@@ -6,7 +6,7 @@ use std::path::{Path, PathBuf};
 use std::process::{Command, ExitStatus, Stdio};
 use std::time::{Duration, Instant};
 
-/// Where the kit stands, and the part of it that is for this kind of machine.
+/// Where the kit is, and where its part for this kind of machine is.
 pub struct Kit {
     home: PathBuf,
     own: PathBuf,
@@ -14,13 +14,13 @@ pub struct Kit {
 
 /// What a check ended with, and all that it printed.
 pub struct Checked {
-    /// None where it was killed, or ended by the time limit.
+    /// None if it was killed, or stopped at the time limit.
     pub status: Option<i32>,
     pub text: String,
 }
 
 impl Checked {
-    /// How many of the crate's modules were checked and not loaded.
+    /// How many of the crate's modules were checked rather than loaded.
     pub fn modules(&self) -> Option<usize> {
         let line = self.text.lines().find(|line| line.starts_with("crate "))?;
         let count = line.split("checked=").nth(1)?;
@@ -33,7 +33,7 @@ impl Checked {
 }
 
 impl Kit {
-    /// The kit that `rt` of the PATH belongs to; RATTLE_HOME names another.
+    /// The kit at RATTLE_HOME if that is set, otherwise the one to which the `rt` on the PATH belongs.
     pub fn found() -> Result<Kit, String> {
         let home = match std::env::var_os("RATTLE_HOME") {
             Some(home) => PathBuf::from(home),
@@ -46,7 +46,7 @@ impl Kit {
         Ok(Kit { home, own })
     }
 
-    /// Checks the crate `name` of `repo` as it stands in `folder`, over the incremental folder `over` if there is one.
+    /// Checks the copy in `folder` of the crate `name` of `repo`, with the incremental folder `over` if there is one.
     pub fn check(
         &self,
         repo: &Repo,
@@ -101,10 +101,10 @@ fn home_of_rt() -> Result<PathBuf, String> {
     let rt = path.split(':').map(|folder| Path::new(folder).join("rt")).find(|rt| rt.is_file());
     let rt = rt.ok_or("rt is not on the PATH")?;
     let rt = fs::canonicalize(&rt).map_err(|e| format!("{}: {e}", rt.display()))?;
-    rt.parent().and_then(Path::parent).map(Path::to_path_buf).ok_or(format!("{} stands in no kit", rt.display()))
+    rt.parent().and_then(Path::parent).map(Path::to_path_buf).ok_or(format!("{} is not in a kit", rt.display()))
 }
 
-/// Runs a command to its end, or kills it at the limit and gives None.
+/// Runs a command to its end. At the time limit it is killed, and the answer is None.
 fn ended(mut command: Command, limit: Duration) -> std::io::Result<Option<ExitStatus>> {
     let mut child = command.spawn()?;
     let began = Instant::now();

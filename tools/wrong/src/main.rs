@@ -1,22 +1,22 @@
-//! Tries wrong programs: each is a change of a crate's code or definitions, and the prover must refuse it, at a fact.
+//! Tries wrong programs. Each changes a crate's code or definitions, and the prover must refuse it at a fact.
 //!
-//! `wrong ROOT` tries ROOT/crates/NAME/wrong/*.edit, in the form of rt's must-fail edits. Each is checked over a copy of the crate's
-//! checked modules, so that it costs what it changes. The crates that it stands on are proved before (`rt check`).
+//! `wrong ROOT` tries ROOT/crates/NAME/wrong/*.edit, in the form of rt's must-fail edits. Each is checked with a copy of the crate's
+//! checked modules, so that only what it changes is checked again. The crates that it depends on must be proved first (`rt check`).
 //!
-//!     --crates A,B     of these crates alone
-//!     --only A,B       these edits alone
-//!     --folder NAME    edits from another folder than wrong
-//!     --jobs N         so many at a time; 2
-//!     --wait FILE      waits for each crate until rt has proved it, or until FILE is there
-//!     --full           from nothing, as rt does
-//!     --twice          both ways; fails where the verdicts differ
-//!     --limit S        ends a check after S seconds; 900
-//!     --keep           leaves what each check printed in target/wrong-logs
+//!     --crates A,B     only these crates
+//!     --only A,B       only these edits
+//!     --folder NAME    takes the edits from this folder; default wrong
+//!     --jobs N         tries N at a time; default 2
+//!     --wait FILE      waits for each crate until rt has proved it, or until FILE exists
+//!     --full           checks from nothing, as rt does
+//!     --twice          checks both ways, and fails if the verdicts differ
+//!     --limit S        stops a check after S seconds; default 900
+//!     --keep           keeps the output of each check in target/wrong-logs
 //!
-//! `wrong ROOT --mutants N [--seed S] [--specs | --both]` makes N wrong programs from the crates' code by itself (--specs: from the
-//! definitions; --both: in code and definition together) and counts what became of them. `--list` only prints them.
+//! `wrong ROOT --mutants N [--seed S] [--specs | --both]` makes N wrong programs by itself and counts their verdicts. They change the
+//! crates' code, with --specs the definitions, or with --both code and definition together. `--list` only prints the programs.
 //!
-//! Exit status: 0 each edit was refused at a fact, or no mutant is still proved; 1 some was not; 2 it could not be run.
+//! Exit status: 0 if each edit was refused at a fact, or if no mutant is still proved; 1 otherwise; 2 if it could not be run.
 
 mod edit;
 mod folder;
@@ -48,7 +48,7 @@ fn main() -> ExitCode {
     }
 }
 
-/// Does what the words ask for: is each outcome as it should be?
+/// Does what the command line asks for. Returns whether each outcome is as it should be.
 fn run(words: &Words) -> Result<bool, String> {
     let repo = Repo::read(&words.root)?;
     let names = chosen(&repo, &words.crates)?;
@@ -75,7 +75,7 @@ fn run(words: &Words) -> Result<bool, String> {
     })
 }
 
-/// The crates that are named, or all, each after those that it stands on.
+/// The named crates, or all of them if none is named. Each comes after those that it depends on.
 fn chosen<'a>(repo: &'a Repo, named: &[String]) -> Result<Vec<&'a str>, String> {
     if let Some(unknown) = named.iter().find(|name| !repo.has(name)) {
         return Err(format!("crates.txt lists no {unknown}"));
@@ -101,7 +101,7 @@ fn edits(repo: &Repo, names: &[&str], words: &Words) -> Result<Vec<Try>, String>
     Ok(found)
 }
 
-/// The edits in a folder, which need not be there.
+/// The edits in a folder; none if there is no such folder.
 fn edit_files(folder: &Path) -> Result<Vec<PathBuf>, String> {
     if !folder.exists() {
         return Ok(Vec::new());
@@ -118,7 +118,7 @@ fn edit_files(folder: &Path) -> Result<Vec<PathBuf>, String> {
     Ok(files)
 }
 
-/// As many mutants as are asked for, each crate having its share. Crates that define nothing are left out: they promise nothing.
+/// As many mutants as are asked for, shared out among the crates. A crate without definitions is left out: it promises nothing.
 fn mutants(repo: &Repo, names: &[&str], made: &Made) -> Result<Vec<Try>, String> {
     let mut pools = Vec::new();
     for name in names.iter().filter(|name| repo.folder(name).join("specs").is_dir()) {

@@ -1,8 +1,8 @@
 //! Wrong programs, each made from a crate's own sources by one small change.
 //!
-//! A mutant of the code changes a function's body or a constant, and one of the definitions the right side of an
-//! equation or a number or letter of a statement. Contracts, comments, signatures and declarations stay as they are. What
-//! could plainly not be compiled and what would plainly be the same program is left out.
+//! A mutant of the code changes a function's body or a constant. A mutant of the definitions changes the right side of an
+//! equation, or a number or letter of a statement. Contracts, comments, signatures and declarations stay as they are. A
+//! change is left out if it clearly cannot be compiled or clearly leaves the program the same.
 
 mod both;
 mod clauses;
@@ -26,12 +26,12 @@ use std::fmt;
 use std::fs;
 use std::path::Path;
 
-/// One line of a file as it is, and as the mutant has it.
+/// One line of a file as it is, and as it is in the mutant.
 #[derive(Clone, Debug, PartialEq, Eq)]
 pub struct Change {
-    /// From the crate's folder, as `src/lib.rt`.
+    /// The path from the crate's folder, such as `src/lib.rt`.
     pub file: String,
-    /// From 1.
+    /// Counted from 1.
     pub line: usize,
     pub old: String,
     pub new: String,
@@ -64,7 +64,7 @@ pub fn all(folder: &Path, krate: &str, at: Where) -> Result<Vec<Mutant>, String>
 }
 
 impl Mutant {
-    /// A label that can name a file: where the first change is, its kind, and a number made from all changes.
+    /// A label that can be used as a file name: the place of the first change, its kind, and a number made from all changes.
     pub fn name(&self) -> String {
         let first = self.changes.first();
         let file = first.map_or("", |change| change.file.as_str());
@@ -82,14 +82,14 @@ impl Mutant {
             let mut lines: Vec<&str> = text.split('\n').collect();
             match lines.get_mut(change.line - 1) {
                 Some(line) if *line == change.old => *line = &change.new,
-                _ => return Err(format!("{}:{}: the line is another one", change.file, change.line)),
+                _ => return Err(format!("{}:{}: the line has changed", change.file, change.line)),
             }
             fs::write(&path, lines.join("\n")).map_err(|e| format!("{}: {e}", change.file))?;
         }
         Ok(())
     }
 
-    /// A number that differs where the changes differ, as good as always.
+    /// A hash of the changes.
     fn mark(&self) -> u64 {
         let places = self.changes.iter().map(|change| format!("{}\n{}\n{}\n", change.file, change.line, change.new));
         let bytes = places.collect::<String>().into_bytes();

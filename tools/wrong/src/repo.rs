@@ -1,4 +1,4 @@
-//! The crates of a repository, as its crates.txt lists them.
+//! The crates of a repository, as crates.txt lists them.
 
 use std::fs;
 use std::path::{Path, PathBuf};
@@ -16,7 +16,7 @@ impl Repo {
         Ok(Repo { root, crates: listed(&text)? })
     }
 
-    /// A folder that holds one crate, which stands on nothing.
+    /// A folder with one crate, which depends on no other.
     pub fn alone(root: &Path, name: &str) -> Repo {
         Repo { root: root.to_path_buf(), crates: vec![(name.to_string(), Vec::new())] }
     }
@@ -25,19 +25,19 @@ impl Repo {
         self.crates.iter().any(|(listed, _)| listed == name)
     }
 
-    /// What a crate depends on, libraries of the kit too.
+    /// What a crate depends on, including libraries of the kit.
     pub fn dependencies(&self, name: &str) -> &[String] {
         self.crates.iter().find(|(listed, _)| listed == name).map_or(&[], |(_, on)| on)
     }
 
-    /// All crates, each after those that it stands on.
+    /// All crates, each after those that it depends on.
     pub fn in_order(&self) -> Vec<&str> {
         let mut names: Vec<&str> = self.crates.iter().map(|(name, _)| name.as_str()).collect();
         names.sort_by_key(|name| self.level(name, self.crates.len()));
         names
     }
 
-    /// How many crates stand one on the other below this one. `most` ends the walk where they stand on each other in a circle.
+    /// The length of the longest chain of dependencies below this crate. `most` ends the search if the chain is a circle.
     fn level(&self, name: &str, most: usize) -> usize {
         if most == 0 {
             return 0;
@@ -65,7 +65,7 @@ impl Repo {
         self.root.join("target/stamp").join(name)
     }
 
-    /// Where what checks printed is kept.
+    /// Where the output of the checks is kept.
     pub fn logs(&self) -> PathBuf {
         self.root.join("target/wrong-logs")
     }

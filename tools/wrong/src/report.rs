@@ -1,9 +1,9 @@
-//! What is printed of the outcomes.
+//! Prints the outcomes.
 
 use crate::tries::{Outcome, Program, Try};
 use crate::verdict::{Verdict, ALL};
 
-/// A program that is to be tried.
+/// Prints a program that is to be tried.
 pub fn list(one: &Try) {
     println!("{}/{}", one.krate, one.label);
     if let Program::Mutant(mutant) = &one.program {
@@ -11,7 +11,7 @@ pub fn list(one: &Try) {
     }
 }
 
-/// A line for each outcome, as it comes.
+/// Prints the line of an outcome.
 pub fn show(outcome: &Outcome) {
     let name = format!("wrong {}/{}", outcome.tried.krate, outcome.tried.label);
     match &outcome.judged {
@@ -29,7 +29,7 @@ fn count(outcomes: &[Outcome], krate: Option<&str>, verdict: Option<Verdict>) ->
     outcomes.iter().filter(of_crate).filter(as_judged).count()
 }
 
-/// Names each edit that was not refused at a fact, and counts: is there none?
+/// Prints each edit that was not refused at a fact, and the counts. Returns whether all were refused at a fact.
 pub fn edits(outcomes: &[Outcome], seconds: f64) -> bool {
     let refused = count(outcomes, None, Some(Verdict::Fact));
     for outcome in outcomes.iter().filter(|outcome| !is_refused(outcome)) {
@@ -43,7 +43,7 @@ fn is_refused(outcome: &Outcome) -> bool {
     outcome.judged.as_ref().is_ok_and(|judged| judged.verdict == Verdict::Fact)
 }
 
-/// Names each mutant that is still proved, and counts by crate: is there none?
+/// Prints each mutant that needs a look, and the counts by crate. Returns whether no mutant is still proved.
 pub fn mutants(outcomes: &[Outcome], seconds: f64) -> bool {
     for outcome in outcomes.iter().filter(|outcome| !is_settled(outcome)) {
         show(outcome);
@@ -62,13 +62,13 @@ pub fn mutants(outcomes: &[Outcome], seconds: f64) -> bool {
     count(outcomes, None, Some(Verdict::Proved)) == 0
 }
 
-/// Refused by proof or compiler: nothing to look at.
+/// Was it refused by the prover or the compiler, so that it needs no look?
 fn is_settled(outcome: &Outcome) -> bool {
     let settled = [Verdict::Fact, Verdict::Mixed, Verdict::Unfit, Verdict::NotCompiled];
     outcome.judged.as_ref().is_ok_and(|judged| settled.contains(&judged.verdict))
 }
 
-/// How many had which verdict; a verdict that none had is left out.
+/// How many programs had each verdict. A verdict that none had is left out.
 fn tally(outcomes: &[Outcome], krate: Option<&str>) -> String {
     let tried = outcomes.iter().filter(|outcome| krate.is_none_or(|name| outcome.tried.krate == name)).count();
     let mut text = format!("{tried} tried");

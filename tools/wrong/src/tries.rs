@@ -1,4 +1,4 @@
-//! Tries wrong programs, several at a time, each crate's as soon as the crate is proved.
+//! Tries wrong programs, several at a time. A crate's programs are tried as soon as the crate is proved.
 
 use crate::edit;
 use crate::folder;
@@ -12,7 +12,7 @@ use std::path::{Path, PathBuf};
 use std::sync::Mutex;
 use std::time::{Duration, Instant};
 
-/// Over the checked modules, from nothing, or both, where the verdicts must agree.
+/// How a program is checked: with the checked modules, from nothing, or both. With both, the verdicts must agree.
 #[derive(Clone, Copy, PartialEq, Eq, Debug)]
 pub enum Way {
     Warm,
@@ -24,11 +24,11 @@ pub enum Way {
 pub struct Plan {
     pub jobs: usize,
     pub way: Way,
-    /// Crates are waited for until this file is there.
+    /// Crates are waited for until this file exists.
     pub wait: Option<PathBuf>,
     /// The longest that a check may take.
     pub limit: Duration,
-    /// Whether what the checks printed is kept.
+    /// Whether the output of the checks is kept.
     pub keep: bool,
 }
 
@@ -46,7 +46,7 @@ pub struct Try {
     pub program: Program,
 }
 
-/// What came of it: a verdict, or why there is none.
+/// What happened when it was tried: a verdict, or why there is none.
 pub struct Outcome {
     pub tried: Try,
     pub judged: Result<Judged, String>,
@@ -54,7 +54,7 @@ pub struct Outcome {
     pub modules: Option<usize>,
 }
 
-/// The wrong programs of one crate, and how far it is.
+/// The wrong programs of one crate, and whether they can be tried yet.
 struct Batch {
     krate: String,
     state: State,
@@ -62,11 +62,11 @@ struct Batch {
 }
 
 enum State {
-    /// Not proved yet, or not looked at.
+    /// Not proved yet, or not looked at yet.
     Waiting,
     /// Its folder of checked modules is being made.
     Warming,
-    /// With that folder, if the way has one.
+    /// The programs can be tried, with this folder if checked modules are used.
     Ready(Option<PathBuf>),
     /// Its programs cannot be tried.
     Lost(String),
@@ -105,12 +105,12 @@ impl<'a> Runner<'a> {
                 None => batches.push(Batch { krate: one.krate.clone(), state: State::Waiting, left: vec![one] }),
             }
         }
-        // the tries came from the last to the first, so that each batch is taken from its end
+        // the tries were added from the last to the first, because a batch is taken from its end
         batches.reverse();
         Ok(Runner { kit, repo, plan, room, own, batches: Mutex::new(batches) })
     }
 
-    /// Tries all, and shows each outcome as it comes.
+    /// Tries all programs, and shows each outcome as soon as it is known.
     pub fn run(&self, show: &(dyn Fn(&Outcome) + Sync)) -> Vec<Outcome> {
         let outcomes = Mutex::new(Vec::new());
         std::thread::scope(|scope| {
@@ -137,7 +137,7 @@ impl<'a> Runner<'a> {
         }
     }
 
-    /// A program of a crate that is ready; or a crate to make ready; or nothing yet, or nothing any more.
+    /// What to do next: try a program of a crate that is ready, or make a crate ready, or wait, or end.
     fn next(&self) -> Step {
         let mut batches = self.batches.lock().expect("no worker panics");
         for batch in batches.iter_mut() {
@@ -151,7 +151,7 @@ impl<'a> Runner<'a> {
             }
         }
         for batch in batches.iter_mut().filter(|batch| matches!(batch.state, State::Waiting)) {
-            // looked at before the stamp, which may be written in between
+            // the file is looked for before the stamp, because the stamp may be written in between
             let ended = self.plan.wait.as_ref().map_or(true, |file| file.exists());
             if self.may_begin(&batch.krate) {
                 batch.state = State::Warming;
@@ -181,7 +181,7 @@ impl<'a> Runner<'a> {
         }
     }
 
-    /// A crate can be tried once it is proved; where nothing proves it meanwhile, once all that it stands on is.
+    /// A crate can be tried once it is proved. Without `--wait` it is enough that all crates that it depends on are proved.
     fn may_begin(&self, krate: &str) -> bool {
         let proved = |name: &str| self.repo.stamp(name).exists();
         let below = self.repo.dependencies(krate).iter().filter(|on| self.repo.has(on));
@@ -197,7 +197,7 @@ impl<'a> Runner<'a> {
             Ok(None) => State::Ready(None),
             Ok(Some((over, source))) => {
                 if source == Source::OwnCheck {
-                    println!("wrong: {krate}: what rt left does not serve, so the crate was checked here");
+                    println!("wrong: {krate}: what rt left cannot be used, so the crate was checked here");
                 }
                 State::Ready(Some(over))
             }
@@ -231,7 +231,7 @@ impl<'a> Runner<'a> {
         Ok((judged, first))
     }
 
-    /// Checks a copy of the crate with the program's changes, over links to the checked modules or from nothing.
+    /// Checks a copy of the crate with the program's changes, with links to the checked modules or from nothing.
     fn checked(&self, tried: &Try, over: Option<&Path>) -> Result<Checked, String> {
         let folder = self.room.join("tried").join(&tried.krate).join(&tried.label);
         folder::copy_crate(&self.repo.folder(&tried.krate), &folder)?;

@@ -1,7 +1,7 @@
-//! What a check says of a wrong program.
+//! The verdict of a check on a wrong program.
 //!
-//! That the crate is not proved is not enough. A fact that is stated and that its proof does not prove is what a wrong program should run into;
-//! a proof that speaks of a need or a name that is no longer there only shows that the code has another shape.
+//! It is not enough that the crate is not proved. The wrong program should be refused because a stated fact is not proved.
+//! If a proof refers to a need or a name that no longer exists, this shows only that the code has another shape.
 
 use crate::kit::Checked;
 use std::fmt;
@@ -15,11 +15,11 @@ pub enum Verdict {
     Mixed,
     /// A proof does not fit, and no stated fact fails.
     Unfit,
-    /// Refused with words that are not known here.
+    /// Refused with a message that is not known here.
     Unknown,
-    /// The compiler turns it away before anything is proved.
+    /// The compiler refuses it before anything is proved.
     NotCompiled,
-    /// The prover could not tell, failed, or took too long.
+    /// The prover could not decide, failed, or took too long.
     NoVerdict,
     /// The crate is still proved.
     Proved,
@@ -49,7 +49,7 @@ impl Verdict {
     }
 }
 
-/// A verdict and the place of the first error of its kind, or what was said in place of one.
+/// A verdict with the place of the first error of its kind, or with the message if there is no place.
 #[derive(Clone, PartialEq, Eq, Debug)]
 pub struct Judged {
     pub verdict: Verdict,
@@ -67,10 +67,10 @@ impl fmt::Display for Judged {
     }
 }
 
-/// An error that only follows from another one.
+/// Words of an error that only follows from another one.
 const FOLLOWS: [&str; 4] = ["was not admitted", "were not admitted", "not admitted yet", "cannot be checked"];
 
-/// A need, a name or a pattern of the proof is not there any more; said in an error's first line.
+/// Words in an error's first line which say that a need, a name or a pattern of the proof no longer exists.
 const UNFIT: [&str; 9] = [
     "that can be named from here",
     "this pattern needs",
@@ -83,7 +83,7 @@ const UNFIT: [&str; 9] = [
     "too many arguments",
 ];
 
-/// A fact is stated, and its proof is not one.
+/// Words of an error which says that a stated fact is not proved.
 const FACT: [&str; 17] = [
     "`omega`",
     "`search`",
@@ -140,7 +140,7 @@ enum Sort {
     Other,
 }
 
-/// None for an error that follows from another one.
+/// The sort of an error; none if it follows from another one.
 fn sort(error: &Error) -> Option<Sort> {
     let has = |text: &str, words: &[&str]| words.iter().any(|word| text.contains(word));
     let head = error.text.lines().next().unwrap_or("");
@@ -155,7 +155,7 @@ fn sort(error: &Error) -> Option<Sort> {
     }
 }
 
-/// The errors with their lines of detail, and the facts that the prover's own search leaves.
+/// The errors with their lines of detail, and the facts that the prover's own search did not prove.
 fn errors(text: &str) -> Vec<Error> {
     let mut found: Vec<Error> = Vec::new();
     let mut detail = false;
@@ -176,7 +176,8 @@ fn errors(text: &str) -> Vec<Error> {
     found
 }
 
-/// A function with no proof file is proved by the prover's own search, which says so where a fact is left.
+/// The place and the fact of a line that reports a fact as not proved. The prover's own search, which proves a function
+/// without a proof file, prints such lines.
 fn left_by_search(line: &str) -> Option<(&str, &str)> {
     line.strip_prefix("note: ")?.split_once(": it is not proved that ")
 }

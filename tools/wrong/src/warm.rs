@@ -1,7 +1,7 @@
-//! The folder of a crate's checked modules, from which an edited copy of the crate takes all that the edit does not reach.
+//! The folder of a crate's checked modules. A check of an edited copy of the crate loads from it all modules that the edit does not affect.
 //!
-//! A proved library holds its checked modules in the form that `rattle check --incremental` keeps them in, so a copy of them under the
-//! right name is such a folder. Whether it is shows at once: over it the unedited crate is proved and no module is checked.
+//! A proved library contains its checked modules in the form in which `rattle check --incremental` keeps them. A copy of them under the
+//! right name is therefore such a folder. This is tested: with it the unedited crate must be proved without checking any module.
 
 use crate::folder;
 use crate::kit::Kit;
@@ -10,7 +10,7 @@ use std::fs;
 use std::path::{Path, PathBuf};
 use std::time::Duration;
 
-/// The name that this build of rattle gives its folder, from a check of a crate of one function.
+/// The name that this build of rattle gives its folder, found by checking a crate of one function.
 pub fn folder_name(kit: &Kit, room: &Path, limit: Duration) -> Result<String, String> {
     let fails = |e: std::io::Error| format!("{}: {e}", room.display());
     let small = room.join("small");
@@ -28,14 +28,14 @@ pub fn folder_name(kit: &Kit, room: &Path, limit: Duration) -> Result<String, St
     Ok(entry.file_name().to_string_lossy().into_owned())
 }
 
-/// How a folder was had.
+/// Where a folder comes from.
 #[derive(Clone, Copy, PartialEq, Eq, Debug)]
 pub enum Source {
     Library,
     OwnCheck,
 }
 
-/// Makes the folder of a crate: from its proved library, or else by a check of the crate.
+/// Makes the folder of a crate: from its proved library, and if that is not possible by a check of the crate.
 pub fn make(
     kit: &Kit,
     repo: &Repo,

@@ -1,4 +1,4 @@
-//! The words of the command line.
+//! Reads the command line.
 
 use crate::mutants::Where;
 use crate::tries::{Plan, Way};

@@ -1,11 +1,11 @@
-//! The whole tool on small repositories, with a stand-in for rattle (tests/rattle) that goes by words in the sources.
+//! Runs the whole tool on small repositories. A stand-in for rattle (tests/rattle) gives a verdict by words in the sources.
 
 use std::fs;
 use std::path::{Path, PathBuf};
 use std::process::{Command, Output};
 use std::time::Duration;
 
-/// A kit and a repository of one proved crate `a`, whose code is the line `good`; removed at the end.
+/// A kit and a repository with one proved crate `a`, whose code is the line `good`. Both are removed at the end.
 struct Place(PathBuf);
 
 impl Place {
@@ -26,7 +26,7 @@ impl Place {
         fs::write(path, text).expect("a file");
     }
 
-    /// Leaves what rt leaves of a proved library.
+    /// Writes the files that rt leaves for a proved library.
     fn prove(&self, name: &str) {
         let code = fs::read_to_string(self.0.join(format!("crates/{name}/src/lib.rt"))).expect("a file");
         self.put(&format!("target/rlib/{name}.rlib/toolchain/checked/module"), &code);
@@ -139,7 +139,7 @@ fn a_crate_that_changed_since_is_checked_here() {
     place.put("target/rlib/a.rlib/toolchain/checked/module", "older\n");
     let (status, text) = place.run(&[]);
     assert_eq!(status, 0, "{text}");
-    assert!(text.contains("wrong: a: what rt left does not serve, so the crate was checked here"), "{text}");
+    assert!(text.contains("wrong: a: what rt left cannot be used, so the crate was checked here"), "{text}");
 }
 
 #[test]

@@ -1,6 +1,6 @@
 use super::*;
 
-/// What an item is: a name, or a pair as `split` takes it apart and `join` makes it.
+/// An item is a name, or a pair that `split` takes apart and `join` makes.
 #[derive(Clone, Debug, PartialEq)]
 enum Item {
     One(&'static str),
@@ -13,7 +13,7 @@ fn pair(a: Item, b: Item) -> Item {
     Item::Pair(Box::new(a), Box::new(b))
 }
 
-/// Does the steps of a text to these items, by the places that the text names and not by a walk's context.
+/// Applies the steps of a text to these items. It uses the places that the text names, not the context of a walk.
 fn done(text: &str, mut items: Vec<Item>) -> Vec<Item> {
     for step in text.split(" $").map(str::trim).filter(|step| !step.is_empty()) {
         let places: Vec<usize> = step.split(|c: char| !c.is_ascii_digit()).filter_map(|n| n.parse().ok()).collect();

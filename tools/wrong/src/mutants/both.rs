@@ -1,5 +1,4 @@
-//! Mutants that change the code and the definitions together, in the same way: what the one calls 12 and the other too
-//! becomes 13 in both.
+//! Mutants that change the code and the definitions in the same way: a number that is 12 in both becomes 13 in both.
 
 use super::definitions::{self, Library};
 use super::edit::Edit;
@@ -15,11 +14,11 @@ use std::path::Path;
 /// How many lines of the definitions are tried with one line of the code.
 const PARTNERS: usize = 3;
 
-/// A number from here on is the same thing in code and definitions; a smaller one, and the code of a letter, only beside
-/// the same word.
+/// From this number on, equal numbers in code and definitions are taken to mean the same thing. A smaller number, or the
+/// code of a letter, is taken to only if the same word is beside it.
 const TELLING: u128 = 10;
 
-/// What a place says.
+/// The value at a place.
 #[derive(Clone, Copy, Debug, PartialEq, Eq)]
 enum Value {
     Number(u128),
@@ -35,19 +34,20 @@ enum Side {
 /// A number or a letter of a file.
 struct Spot {
     value: Value,
-    /// Is it written as a number, or as a letter?
+    /// "constant" if it is written as a number, "letter" if as a letter.
     kind: &'static str,
     line: usize,
-    /// The line as it becomes.
+    /// The changed line.
     change: Change,
-    /// Of a letter in a text, the text and where the letter stands in it.
+    /// For a letter in a text: the text, and the place of the letter in it.
     text: Option<(String, usize)>,
     /// The word before it.
     before: Option<String>,
-    /// The words beside it, told apart by their side, and those of its line and of the function that it is in.
+    /// The words beside it, each with its side.
     near: BTreeSet<(Side, String)>,
+    /// The words of its line, and the name of the function or statement that it is in.
     words: BTreeSet<String>,
-    /// The file's name without folder, ending and `_`, in small letters.
+    /// The file's name without folder, ending and `_`, in lower case.
     stem: String,
 }
 
@@ -69,7 +69,7 @@ pub fn all(folder: &Path, krate: &str) -> Result<Vec<Mutant>, String> {
 
 // ---- pairs
 
-/// How well two places fit: by the names of their files, the word before them, the words beside them and the words of
+/// How well two places match: by the names of their files, the word before them, the words beside them and the words of
 /// their lines.
 fn rank(code: &Spot, defined: &Spot) -> (bool, bool, usize, usize) {
     let before = code.before.is_some() && code.before == defined.before;
@@ -77,7 +77,7 @@ fn rank(code: &Spot, defined: &Spot) -> (bool, bool, usize, usize) {
     (code.stem == defined.stem, before, near, code.words.intersection(&defined.words).count())
 }
 
-/// Do two places say the same?
+/// May two places be taken to mean the same?
 fn fit(code: &Spot, defined: &Spot) -> bool {
     match (code.value, defined.value) {
         (Value::Number(a), Value::Number(b)) if a == b => {
@@ -87,14 +87,15 @@ fn fit(code: &Spot, defined: &Spot) -> bool {
     }
 }
 
-/// A letter in a text of the code is that of a text of the definitions only if the whole of that text stands there.
+/// A letter in a text of the code matches a letter in a text of the definitions only if the whole of that text is in the
+/// code's text, with the letter at the same place.
 fn holds(code: &Spot, defined: &Spot) -> bool {
     let (Some((text, at)), Some((part, inner))) = (&code.text, &defined.text) else { return code.text.is_none() };
     let start = at.checked_sub(*inner);
     part.len() > 1 && start.and_then(|start| text.get(start..)).is_some_and(|rest| rest.starts_with(part.as_str()))
 }
 
-/// The mutants of one line of the code with the lines of the definitions that fit best.
+/// The mutants of one line of the code with the lines of the definitions that match best.
 fn with_partners(krate: &str, own: &[&Spot], defined: &[Spot]) -> Vec<Mutant> {
     let pairs = own.iter().flat_map(|code| defined.iter().filter(|d| fit(code, d)).map(|d| (*code, d)));
     let mut pairs: Vec<(&Spot, &Spot)> = pairs.collect();
@@ -120,7 +121,7 @@ fn pair(krate: &str, code: &Spot, defined: &Spot) -> Mutant {
 
 // ---- places
 
-/// Where places stand, whatever the language.
+/// A file of code or of definitions, in which places are found.
 struct Page<'a> {
     name: &'a str,
     lines: &'a [String],
@@ -128,7 +129,7 @@ struct Page<'a> {
 }
 
 impl Page<'_> {
-    /// The place of a token that an edit changes, in what the `owner` says.
+    /// The place of a token that an edit changes, inside the function or statement `owner`.
     fn spot(&self, value: Value, at: usize, edit: &Edit, owner: &str) -> Option<Spot> {
         let line = self.tokens[at].line;
         let change = edit.changes(self.name, self.lines).into_iter().next()?;
@@ -162,7 +163,7 @@ fn plain(name: &str) -> String {
     name.chars().filter(|c| c.is_alphanumeric()).flat_map(char::to_lowercase).collect()
 }
 
-/// A name that tells something.
+/// The plain form of a name; none if it is too short or too common to mean something.
 fn telling(name: &str) -> Option<String> {
     const COMMON: [&str; 16] = [
         "let", "mut", "if", "else", "return", "while", "as", "record", "cond", "in", "const", "pub", "usize", "match",
@@ -187,7 +188,7 @@ fn spots_of_code(world: &World, file: &File) -> Vec<Spot> {
     regions.iter().flat_map(of_region).collect()
 }
 
-/// What a token of the code says, and how it is changed.
+/// The values of a token of the code, each with the edit that changes it.
 fn values_in_code(region: &Region, at: usize) -> Vec<(Value, Edit)> {
     let token = region.token(at);
     match token.sort {
@@ -198,7 +199,7 @@ fn values_in_code(region: &Region, at: usize) -> Vec<(Value, Edit)> {
     }
 }
 
-/// A number is one more; as the code of a letter it becomes that of the next.
+/// A number becomes one more. If it can be the code of a letter, it also becomes the code of the next letter.
 fn numbers_in_code(region: &Region, at: usize) -> Vec<(Value, Edit)> {
     let token = region.token(at);
     let numeral = Numeral::parse(&token.text).filter(|n| n.is_decimal() && values::is_free(region, at));
@@ -214,7 +215,7 @@ fn code_of(letter: char) -> u128 {
     u128::from(u32::from(letter))
 }
 
-/// Is a number a letter's code? So it is if it is tested for being equal, or handed to a parameter of one byte.
+/// Can a number be a letter's code? It can if it is compared by `==` or `!=`, or passed to a parameter of type `u8`.
 fn is_letter_code(region: &Region, at: usize) -> bool {
     let test = |at: usize| region.is(at, "==") || region.is(at, "!=");
     let starts = (region.range.start..at).rev().filter(|i| region.is(*i + 1, "("));
@@ -226,12 +227,12 @@ fn is_letter_code(region: &Region, at: usize) -> bool {
     (at > region.range.start && test(at - 1)) || test(at + 1) || handed.into_iter().next().unwrap_or(false)
 }
 
-/// A letter by itself, and by its code.
+/// A letter as a letter, and as its code.
 fn letter_in_code(token: &Token) -> Option<Vec<(Value, Edit)>> {
     let letter = letter_of(token)?;
     let next = next_letter(letter)?;
     let edit = values::with_letter(token, next);
-    // A number of the definitions becomes one more, so the letter has to do the same.
+    // A number in the definitions becomes one more, so the letter's code must become one more too.
     let by_code = (code_of(next) == code_of(letter) + 1).then(|| (Value::Number(code_of(letter)), edit.clone()));
     Some([(Value::Letter(letter), edit)].into_iter().chain(by_code).collect())
 }
@@ -253,7 +254,7 @@ fn spots_of_definitions(file: &definitions::File) -> Vec<Spot> {
     spots
 }
 
-/// What a token of the definitions says, and how it is changed.
+/// The values of a token of the definitions, each with the edit that changes it.
 fn values_in_definitions(token: &Token) -> Vec<(Value, Edit)> {
     if token.sort == Sort::Text {
         return letters_in_text(token, &plain_letters(token));

@@ -1,4 +1,4 @@
-//! The statements of a file of definitions, by their layout: what each is, and what of it may be changed.
+//! Finds the statements of a file of definitions by their layout: what each one is, and what part of it may be changed.
 
 use super::items::find;
 use super::lexer::{closing, depth_of, Token};
@@ -7,15 +7,15 @@ use std::ops::Range;
 /// What a statement is.
 #[derive(Clone, Copy, Debug, PartialEq, Eq)]
 pub enum Form {
-    /// A `use`, or what begins a module, a record or a type.
+    /// A `use`, or the head of a module, a record or a type.
     Head,
     Signature,
-    /// A field of a record or a constructor of a type: what it says after its colon.
+    /// A field of a record or a constructor of a type.
     Field,
     Equation,
 }
 
-/// A module that a statement is in: where it begins, and the types of its parameters that a caller outside gives.
+/// A module that contains a statement: where it begins, and the types of the parameters that a caller outside it passes.
 #[derive(Clone, Debug, PartialEq, Eq)]
 pub struct Module {
     at: usize,
@@ -26,9 +26,9 @@ pub struct Module {
 pub struct Statement {
     pub form: Form,
     pub name: String,
-    /// Of an equation, what stands between the name and the `=`.
+    /// Of an equation: what is between the name and the `=`.
     pub patterns: Range<usize>,
-    /// What stands after the `=` or the colon.
+    /// What is after the `=` or the colon.
     pub body: Range<usize>,
     pub modules: Vec<Module>,
 }
@@ -36,7 +36,7 @@ pub struct Statement {
 /// A block of statements that begin at the same column.
 struct Block {
     column: usize,
-    /// Of a record or a type?
+    /// Does it belong to a record or a type?
     declares: bool,
     modules: Vec<Module>,
 }
@@ -63,7 +63,7 @@ pub fn statements(tokens: &[Token]) -> Vec<Statement> {
     found
 }
 
-/// Where the statement ends that begins at a token: after a `where`, or before a line that begins no further right.
+/// Where the statement that begins at a token ends: after a `where`, or before a line that is not indented further.
 fn end_of(tokens: &[Token], at: usize, column: usize) -> usize {
     let mut depth = depth_of(&tokens[at]);
     for i in at + 1..tokens.len() {
@@ -107,7 +107,7 @@ fn inner_block(tokens: &[Token], range: Range<usize>, block: &Block, statement: 
     (next.start > block.column).then_some(Block { column: next.start, declares, modules })
 }
 
-/// The types of the groups `(a b : T)` of a range, as often as each has names. What is in braces is left out.
+/// The types of the groups `(a b : T)` of a range, each once for every name in its group. Groups in braces are left out.
 fn grouped_types(tokens: &[Token], range: Range<usize>) -> Vec<String> {
     let mut types = Vec::new();
     let mut at = range.start;
@@ -126,7 +126,7 @@ fn joined(tokens: &[Token]) -> String {
     tokens.iter().map(|token| token.text.as_str()).collect::<Vec<_>>().join(" ")
 }
 
-/// The types of what a signature takes, from what it says after its colon.
+/// The types that a signature takes, read from the part after its colon.
 pub fn taken(tokens: &[Token], body: Range<usize>) -> Vec<String> {
     let mut types = Vec::new();
     let mut start = body.start;
@@ -148,7 +148,7 @@ pub struct Application {
     pub arguments: Vec<Range<usize>>,
 }
 
-/// The applications of a range, those in brackets too.
+/// The applications in a range, including those in brackets.
 pub fn applications(tokens: &[Token], range: Range<usize>) -> Vec<Application> {
     let mut found = Vec::new();
     let mut current: Option<Application> = None;
@@ -177,8 +177,8 @@ pub fn applications(tokens: &[Token], range: Range<usize>) -> Vec<Application> {
     found
 }
 
-/// The atom that begins at a token: a bracket with what is inside, a `.field`, a `λ` with its names, or one token. What is
-/// inside of a bracket that only names things is left out.
+/// The atom that begins at a token: a bracket with its contents, a `.field`, a `λ` with its names, or one token. For a
+/// bracket the contents are returned too, unless it is a group of names such as `(a b : T)`.
 fn atom_at(tokens: &[Token], at: usize, end: usize) -> (Range<usize>, Option<Range<usize>>) {
     if depth_of(&tokens[at]) > 0 {
         let close = closing(tokens, at).min(end - 1);

@@ -11,9 +11,9 @@ use std::collections::BTreeSet;
 use std::ops::Range;
 use std::path::Path;
 
-/// A name that a file takes from elsewhere, and the name that it has here.
+/// A name that a file imports, and the name that it has in this file.
 struct Import {
-    /// The crate of the repository that it is from, if it is from one.
+    /// The crate of the repository that it comes from, if it comes from one.
     krate: Option<String>,
     /// The last part of the path: the name of the file.
     file: String,
@@ -24,7 +24,7 @@ struct Import {
 /// A file of definitions.
 pub struct File {
     krate: String,
-    /// From the crate's folder.
+    /// The path from the crate's folder.
     pub name: String,
     pub lines: Vec<String>,
     pub tokens: Vec<Token>,
@@ -32,7 +32,7 @@ pub struct File {
     imports: Vec<Import>,
 }
 
-/// A crate's own files first, and then those of the crates that it takes names from.
+/// A crate's own files first, and then those of the crates from which it imports names.
 pub struct Library {
     files: Vec<File>,
     own: usize,
@@ -71,14 +71,14 @@ impl File {
         name.strip_suffix(".antt").unwrap_or(name)
     }
 
-    /// Can this name be used here? Operators are named without their `_`.
+    /// Can this name be used in this file? An operator is given without its `_`.
     fn names(&self, name: &str) -> bool {
         let operator = format!("_{name}_");
         let imported = self.imports.iter().any(|import| import.here == name || import.here == operator);
         imported || self.statements.iter().any(|s| s.form == Form::Signature && (s.name == name || s.name == operator))
     }
 
-    /// The types that a name of this file takes, as it is seen from a statement of the same file, or from another file.
+    /// The types that a name of this file takes, as seen from a statement of the same file, or from another file.
     fn signature(&self, name: &str, from: Option<&Statement>) -> Option<Vec<String>> {
         let found = self.statements.iter().find(|s| s.form == Form::Signature && s.name == name)?;
         let inside = |module| from.is_some_and(|from| from.modules.contains(module));
@@ -87,7 +87,7 @@ impl File {
     }
 }
 
-/// The names that a file takes by `use path.{..}`.
+/// The names that a file imports by `use path.{..}`.
 fn imports(tokens: &[Token]) -> Vec<Import> {
     let mut imports = Vec::new();
     for at in (0..tokens.len()).filter(|at| tokens[*at].is("use")) {
@@ -125,7 +125,7 @@ impl Library {
         &self.files[..self.own]
     }
 
-    /// The types that a name takes, as it is seen from a statement of a file.
+    /// The types that a name takes, as seen from a statement of a file.
     fn signature(&self, file: &File, from: &Statement, name: &str) -> Option<Vec<String>> {
         let import = || file.imports.iter().find(|import| import.here == name);
         file.signature(name, Some(from)).or_else(|| {
@@ -142,8 +142,8 @@ impl Library {
     }
 }
 
-/// The types that names of the base library take, as far as they are needed. Functions that do not go by the order of their
-/// arguments are left out.
+/// The types that names of the base library take, as far as they are needed. Functions for which the order of the
+/// arguments does not matter are left out.
 fn of_base(name: &str) -> Option<Vec<String>> {
     let types: &[&str] = match name {
         "leb" | "ltb" => &["ℕ", "ℕ"],
@@ -172,7 +172,7 @@ fn edits(library: &Library, file: &File) -> Vec<Edit> {
     edits
 }
 
-/// The numbers and texts of a statement that may be changed: what an equation or a field says.
+/// The numbers and texts that may be changed in a statement: those in the body of an equation or a field.
 pub fn values(file: &File, statement: &Statement) -> Vec<usize> {
     if statement.form != Form::Equation && statement.form != Form::Field {
         return Vec::new();
@@ -181,14 +181,14 @@ pub fn values(file: &File, statement: &Statement) -> Vec<usize> {
     statement.body.clone().filter(|at| is_value(&file.tokens, *at) && !unmet.contains(at)).collect()
 }
 
-/// Is it a text, or a number that is no level of a type?
+/// Is it a text, or a number that is not the level of a type?
 fn is_value(tokens: &[Token], at: usize) -> bool {
     let braced = |at: usize| tokens[at - 1].is("{") && tokens.get(at + 1).is_some_and(|token| token.is("}"));
     let level = at > 0 && (tokens[at - 1].is("Type") || braced(at));
     tokens[at].sort == Sort::Text || (tokens[at].sort == Sort::Number && !level)
 }
 
-/// The last arguments of `getD`: what stands for an element past the end, which is as good as never met.
+/// The third arguments of `getD`: the values for an element past the end. They are almost never used.
 fn past_the_end(file: &File, statement: &Statement) -> Vec<usize> {
     let found = applications(&file.tokens, statement.body.clone()).into_iter();
     let last = found.filter(|a| file.tokens[a.head].is("getD")).filter_map(|a| a.arguments.get(2).cloned());
@@ -206,20 +206,20 @@ fn number_or_letter(file: &File, statement: &Statement, at: usize) -> Vec<Edit> 
     more.into_iter().chain(less).map(|value| Edit::token("constant", token, &value.to_string())).collect()
 }
 
-/// Does a statement say less with one more or one less of a bound? What follows from the rest stays true with a wider bound,
-/// and what the rest follows from with a narrower one.
+/// Would a statement only say less with the bound one more or one less? It does if the bound of a conclusion becomes wider,
+/// or the bound of a premise narrower.
 fn is_weaker(file: &File, statement: &Statement, at: usize, more: bool) -> bool {
     let is_mark = |at: usize| file.tokens[at].is("≤") || file.tokens[at].is("<");
     let (above, below) = (is_mark(at - 1), at + 1 < statement.body.end && is_mark(at + 1));
     (above || below) && (more == above) != is_premise(file, statement, at)
 }
 
-/// Does an arrow follow a token, outside of brackets that are closed before it?
+/// Does an arrow follow a token within the same brackets?
 fn is_premise(file: &File, statement: &Statement, at: usize) -> bool {
     find(&file.tokens, at..statement.body.end, &["→"]).is_some()
 }
 
-/// A text with a letter changed, or its last one dropped.
+/// Changes a letter of a text, or drops its last one.
 fn letters(token: &Token) -> Vec<Edit> {
     let plain = plain_letters(token);
     let changed = chosen(&plain).into_iter().filter_map(|(at, c)| replaced(token, at, next_letter(c)?));
@@ -231,7 +231,7 @@ fn letters(token: &Token) -> Vec<Edit> {
     changed.chain(dropped).collect()
 }
 
-/// What stands in the place of a name or an operator, where both can be named.
+/// The kind of the edit, a name or an operator, and what replaces it if the file can name that.
 const OTHER: [(&str, &str, &str); 13] = [
     ("operator", "leb", "ltb"),
     ("operator", "ltb", "leb"),
@@ -255,7 +255,7 @@ fn other_name(file: &File, statement: &Statement, at: usize) -> Option<Edit> {
     (file.names(other) && !weaker).then(|| Edit::token(kind, token, other))
 }
 
-/// Neighbouring arguments that are a name or a number each, where both have the same type.
+/// Exchanges two neighbouring arguments of the same type, if each is a name or a number.
 fn arguments(library: &Library, file: &File, from: &Statement, application: &Application) -> Vec<Edit> {
     let head = &file.tokens[application.head];
     let Some(types) = library.signature(file, from, &head.text).filter(|_| !head.is("cond")) else { return Vec::new() };
@@ -267,8 +267,8 @@ fn arguments(library: &Library, file: &File, from: &Statement, application: &App
     pairs.filter_map(|(_, pair)| exchange(file, "argument", &pair[0], &pair[1])).collect()
 }
 
-/// Is a name bound by the statement's own right side, as in `(a b : T) →`, and used nowhere else? Two such names can be
-/// exchanged and the statement is the same.
+/// Is a name bound on the statement's own right side, as in `(a b : T) →`, and used only here? If two such names are
+/// exchanged, the statement stays the same.
 fn is_used_once(file: &File, statement: &Statement, at: usize) -> bool {
     let name = &file.tokens[at].text;
     let count = file.tokens[statement.body.clone()].iter().filter(|token| token.is(name)).count();
@@ -276,7 +276,7 @@ fn is_used_once(file: &File, statement: &Statement, at: usize) -> bool {
     count == 2 && find(&file.tokens, first..statement.body.end, &[":"]).is_some()
 }
 
-/// The two branches of a `cond` exchanged.
+/// Exchanges the two branches of a `cond`.
 fn branches(file: &File, application: &Application) -> Option<Edit> {
     let two = application.arguments.get(1..3).filter(|_| file.tokens[application.head].is("cond"))?;
     exchange(file, "branch", &two[0], &two[1])
@@ -287,7 +287,8 @@ fn exchange(file: &File, kind: &'static str, a: &Range<usize>, b: &Range<usize>)
     Edit::exchange(kind, &file.lines, a, b).filter(|_| !same(a, b))
 }
 
-/// The right sides of two neighbouring clauses exchanged, if each clause is on one line and knows the names of the other.
+/// Exchanges the right sides of two neighbouring clauses, if each clause is on one line and has the names that the other
+/// uses.
 fn clauses(file: &File, a: &Statement, b: &Statement) -> Option<Edit> {
     let both = a.form == Form::Equation && b.form == Form::Equation && a.name == b.name && a.modules == b.modules;
     let one_line = |s: &Statement| file.tokens[s.patterns.start].line == file.tokens[s.body.end - 1].line;
@@ -307,7 +308,7 @@ fn count(tokens: &[Token], range: &Range<usize>) -> usize {
     count
 }
 
-/// Has a clause all the names that another one's right side takes from its patterns?
+/// Does a clause have all the names that another one's right side takes from its own patterns?
 fn knows(file: &File, clause: &Statement, other: &Statement) -> bool {
     let has = |range: &Range<usize>, text: &str| file.tokens[range.clone()].iter().any(|token| token.is(text));
     let words = file.tokens[other.body.clone()].iter().filter(|token| token.is_word());

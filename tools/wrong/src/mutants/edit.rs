@@ -3,7 +3,7 @@
 use super::lexer::Token;
 use super::{Change, Mutant};
 
-/// A piece of a line, from 0 and in bytes, and what stands there instead.
+/// A piece of a line, and its replacement. Lines and places count from 0, and places are in bytes.
 #[derive(Clone, Debug)]
 pub struct Piece {
     pub line: usize,
@@ -20,32 +20,32 @@ pub struct Edit {
 }
 
 impl Piece {
-    /// All of the tokens from one to another, which are of one line.
+    /// The piece from one token to another on the same line.
     pub fn of(first: &Token, last: &Token, new: &str) -> Piece {
         Piece { line: first.line, start: first.start, end: last.end, new: new.to_string() }
     }
 }
 
 impl Edit {
-    /// One token replaced.
+    /// Replaces one token.
     pub fn token(kind: &'static str, token: &Token, new: &str) -> Edit {
         Edit { kind, pieces: vec![Piece::of(token, token, new)] }
     }
 
-    /// Two runs of tokens exchanged, each of one line.
+    /// Exchanges two runs of tokens, each of one line.
     pub fn exchange(kind: &'static str, lines: &[String], a: &[Token], b: &[Token]) -> Option<Edit> {
         let (old_a, old_b) = (text_of(lines, a)?, text_of(lines, b)?);
         let pieces = vec![Piece::of(a.first()?, a.last()?, &old_b), Piece::of(b.first()?, b.last()?, &old_a)];
         Some(Edit { kind, pieces })
     }
 
-    /// The mutant that it makes of a file; none where nothing differs.
+    /// The mutant that the edit makes of a file; none if no line changes.
     pub fn mutant(&self, krate: &str, file: &str, lines: &[String]) -> Option<Mutant> {
         let changes = self.changes(file, lines);
         (!changes.is_empty()).then(|| Mutant { krate: krate.to_string(), kind: self.kind, changes })
     }
 
-    /// The lines that differ, in their order.
+    /// The lines that change, in order.
     pub fn changes(&self, file: &str, lines: &[String]) -> Vec<Change> {
         let mut pieces = self.pieces.clone();
         pieces.sort_by_key(|piece| (piece.line, piece.start));
@@ -66,18 +66,18 @@ impl Edit {
     }
 }
 
-/// The text of tokens as it stands in its line; none where they are of more than one line.
+/// The text of tokens as it is in their line; none if they are on more than one line.
 pub fn text_of(lines: &[String], tokens: &[Token]) -> Option<String> {
     let (first, last) = (tokens.first()?, tokens.last()?);
     (first.line == last.line).then(|| lines[first.line][first.start..last.end].to_string())
 }
 
-/// Do two runs of tokens say the same?
+/// Do two runs of tokens have the same text?
 pub fn same(a: &[Token], b: &[Token]) -> bool {
     a.len() == b.len() && a.iter().zip(b).all(|(x, y)| x.text == y.text)
 }
 
-/// The mutants that edits of a file make, by place, each once.
+/// The mutants that edits of a file make, in order of their places, each once.
 pub fn mutants(mut edits: Vec<Edit>, krate: &str, file: &str, lines: &[String]) -> Vec<Mutant> {
     let place = |edit: &Edit| edit.pieces.iter().map(|piece| (piece.line, piece.start)).min();
     edits.sort_by_key(place);

@@ -1,16 +1,16 @@
-//! The items of a file of code: functions, constants, structs, enums and what it uses.
+//! The items of a file of code: functions, constants, structs, enums and imports.
 
 use super::lexer::{closing, depth_of, Token};
 use std::ops::Range;
 
-/// A name and its type, as it is written but for spaces.
+/// A name and its type, as written but without spaces.
 pub type Typed = (String, String);
 
 #[derive(Clone, Debug)]
 pub struct Function {
     pub name: String,
     pub params: Vec<Typed>,
-    /// Empty where there is none.
+    /// The type of the result; empty if there is none.
     pub result: String,
     /// The tokens inside its braces.
     pub body: Range<usize>,
@@ -26,9 +26,9 @@ pub struct Constant {
 #[derive(Clone, Debug)]
 pub struct Variant {
     pub name: String,
-    /// The types of what it holds without names.
+    /// The types of its unnamed values.
     pub holds: Vec<String>,
-    /// Does it hold nothing?
+    /// Does it have no values?
     pub plain: bool,
 }
 
@@ -38,7 +38,7 @@ pub struct Items {
     pub constants: Vec<Constant>,
     pub structs: Vec<(String, Vec<Typed>)>,
     pub enums: Vec<(String, Vec<Variant>)>,
-    /// The paths that it uses, the name last.
+    /// The imported paths, each with the name last.
     pub uses: Vec<Vec<String>>,
 }
 
@@ -52,7 +52,7 @@ pub fn items(tokens: &[Token]) -> Items {
     items
 }
 
-/// Reads what begins at a token, and gives the token after it.
+/// Reads what begins at a token, and returns the token after it.
 fn item(tokens: &[Token], at: usize, items: &mut Items) -> usize {
     let next_is = |text: &str| tokens.get(at + 1).is_some_and(|token| token.is(text));
     match tokens[at].text.as_str() {
@@ -66,7 +66,8 @@ fn item(tokens: &[Token], at: usize, items: &mut Items) -> usize {
     }
 }
 
-/// The first token from a place on that is one of these marks, outside of brackets that open after that place.
+/// The first token of a range that is one of these marks, outside of brackets that open in the range. None if a bracket
+/// closes first that was opened before the range.
 pub fn find(tokens: &[Token], range: Range<usize>, marks: &[&str]) -> Option<usize> {
     let mut depth = 0;
     for i in range {
@@ -81,7 +82,7 @@ pub fn find(tokens: &[Token], range: Range<usize>, marks: &[&str]) -> Option<usi
     None
 }
 
-/// The parts of a range between marks outside of brackets; none of them is empty.
+/// The parts of a range between marks outside of brackets. Empty parts are left out.
 pub fn split(tokens: &[Token], range: Range<usize>, mark: &str) -> Vec<Range<usize>> {
     let mut parts = Vec::new();
     let mut start = range.start;
@@ -115,7 +116,7 @@ fn used(tokens: &[Token], at: usize, items: &mut Items) -> usize {
     end + 1
 }
 
-/// The named and typed parts of a struct, or of the parameters of a function.
+/// The names and types of a struct's fields, or of a function's parameters.
 fn typed(tokens: &[Token], range: Range<usize>) -> Vec<Typed> {
     let part = |part: Range<usize>| {
         let colon = find(tokens, part.clone(), &[":"])?;

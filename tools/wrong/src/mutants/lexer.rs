@@ -1,21 +1,20 @@
-//! Cuts the text of a file into tokens that know their place.
+//! Cuts the text of a file into tokens with their places.
 //!
-//! Comments leave no token, and in code neither do contracts nor anything that is `ghost`: what has no token is never
-//! changed.
+//! Comments have no tokens. In code, contracts and anything `ghost` have none either. What has no token is never changed.
 
 /// What a token is.
 #[derive(Clone, Copy, Debug, PartialEq, Eq)]
 pub enum Sort {
     Word,
     Number,
-    /// One character in quotes, as `b'x'`.
+    /// One character in quotes, such as `b'x'`.
     Letter,
     /// A text in quotes.
     Text,
     Mark,
 }
 
-/// A token, with its line from 0 and its place in the line in bytes.
+/// A token with its line, counted from 0, and its place in the line in bytes.
 #[derive(Clone, Debug)]
 pub struct Token {
     pub sort: Sort,
@@ -35,7 +34,7 @@ impl Token {
         self.sort == Sort::Word
     }
 
-    /// Does it stand right after the other, with nothing between them?
+    /// Does it come directly after the other, with nothing between them?
     pub fn touches(&self, before: &Token) -> bool {
         self.line == before.line && self.start == before.end
     }
@@ -59,7 +58,7 @@ pub fn definitions(text: &str) -> Vec<Token> {
     scanner.tokens
 }
 
-/// The index of the bracket that closes the one at `open`; the number of tokens where none does.
+/// The index of the bracket that closes the one at `open`; the number of tokens if none does.
 pub fn closing(tokens: &[Token], open: usize) -> usize {
     let mut depth = 0;
     for (i, token) in tokens.iter().enumerate().skip(open) {
@@ -86,7 +85,7 @@ const MARKS: [&str; 23] = [
     "%=", "&=", "|=", "^=", "..",
 ];
 
-/// What stands for itself in a definition and in no name.
+/// Characters that cannot be part of a name in a definition.
 const SPECIAL: &str = "(){}.;,@\"«»⟦⟧";
 
 fn in_word(c: char) -> bool {
@@ -118,7 +117,7 @@ impl<'a> Scanner<'a> {
         self.rest().starts_with(text)
     }
 
-    /// Steps over so many bytes.
+    /// Steps over `length` bytes.
     fn step(&mut self, length: usize) {
         let end = (self.at + length).min(self.text.len());
         for at in self.at..end {
@@ -130,7 +129,7 @@ impl<'a> Scanner<'a> {
         self.at = end;
     }
 
-    /// Makes a token of so many bytes; none where they are of more than one line.
+    /// Makes a token of `length` bytes, unless they are on more than one line.
     fn take(&mut self, sort: Sort, length: usize) {
         let (line, start, from) = (self.line, self.at - self.line_start, self.at);
         self.step(length);
@@ -140,12 +139,12 @@ impl<'a> Scanner<'a> {
         }
     }
 
-    /// The bytes of the characters from here on that are of a kind.
+    /// The number of bytes from here on up to the first character that `keep` does not accept.
     fn run(&self, keep: fn(char) -> bool) -> usize {
         self.rest().find(|c| !keep(c)).unwrap_or(self.rest().len())
     }
 
-    /// Steps over a comment between two marks. It may hold others.
+    /// Steps over a comment between two marks. It may contain other comments.
     fn nested(&mut self, open: &str, close: &str) {
         let mut depth = 0;
         while !self.rest().is_empty() {
@@ -194,7 +193,7 @@ impl<'a> Scanner<'a> {
         }
     }
 
-    /// A word of code; what a contract or a `ghost` says is left out with it.
+    /// Reads a word of code. A contract or anything `ghost` is skipped as a whole.
     fn word(&mut self) {
         let length = self.run(in_word);
         let clause = ["requires", "ensures", "ghost"].contains(&&self.rest()[..length]);
@@ -210,7 +209,7 @@ impl<'a> Scanner<'a> {
         }
     }
 
-    /// Steps over the braces of a clause, which hold a definition.
+    /// Steps over the braces of a clause. The text in them is in the language of definitions.
     fn clause(&mut self) {
         let mut depth = 0;
         while !self.rest().is_empty() {
@@ -266,7 +265,7 @@ fn first_len(text: &str) -> usize {
     text.chars().next().map_or(0, char::len_utf8)
 }
 
-/// The bytes of a name of a definition: a dot inside it is a part, as in `A.b`.
+/// The length in bytes of a name in a definition. A dot inside it belongs to it, as in `A.b`.
 fn name_len(text: &str) -> usize {
     let mut length = 0;
     loop {
@@ -280,7 +279,7 @@ fn name_len(text: &str) -> usize {
     }
 }
 
-/// A name of a definition is a number, an operator or a word.
+/// A name in a definition is a number, an operator or a word.
 fn name_sort(name: &str) -> Sort {
     let first = name.chars().next().unwrap_or(' ');
     if name.chars().all(|c| c.is_ascii_digit()) {
@@ -292,7 +291,7 @@ fn name_sort(name: &str) -> Sort {
     }
 }
 
-/// The bytes of a text in quotes, with both of them.
+/// The length in bytes of a text in quotes, including both quotes.
 fn quoted(text: &str) -> usize {
     let quote = text.as_bytes()[0];
     let mut escaped = false;
@@ -305,7 +304,7 @@ fn quoted(text: &str) -> usize {
     text.len()
 }
 
-/// The literal in quotes that begins a text of code, and its bytes.
+/// The sort and the length in bytes of the quoted literal at the start of a text of code, if there is one.
 fn literal(text: &str) -> Option<(Sort, usize)> {
     if let Some(length) = raw(text) {
         return Some((Sort::Text, length));
@@ -321,7 +320,7 @@ fn literal(text: &str) -> Option<(Sort, usize)> {
     letter.then(|| (Sort::Letter, prefix + quoted(body)))
 }
 
-/// The bytes of a raw text, as `r".."` and `br#".."#`.
+/// The length in bytes of a raw text such as `r".."` or `br#".."#`.
 fn raw(text: &str) -> Option<usize> {
     let prefix = usize::from(text.starts_with('b'));
     let body = text[prefix..].strip_prefix('r')?;

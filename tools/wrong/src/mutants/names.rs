@@ -1,4 +1,4 @@
-//! Fields and variants, each replaced by another of the same type.
+//! Replaces a field or a variant by another of the same type.
 
 use super::edit::Edit;
 use super::lexer::Sort;
@@ -10,7 +10,7 @@ use std::collections::BTreeSet;
 /// How many other fields or variants are tried at one place.
 const MOST: usize = 2;
 
-/// The edits of a region. `used` has the variants that the crate uses, as `Enum::Variant`.
+/// The edits of a region. `used` contains the variants that the crate uses, as `Enum::Variant`.
 pub fn edits(region: &Region, used: &BTreeSet<String>) -> Vec<Edit> {
     region.places().into_iter().flat_map(|at| [fields(region, at), variants(region, at, used)].concat()).collect()
 }
@@ -21,21 +21,21 @@ pub fn used_variants(world: &World) -> BTreeSet<String> {
     triples.filter(|t| t[1].is("::")).map(|t| format!("{}::{}", t[0].text, t[2].text)).collect()
 }
 
-/// The next ones after one of a list, round its end, without that one.
+/// Up to `MOST` names that come after `one` in a list. After the last name the first one follows.
 fn next_ones(list: &[String], one: &str) -> Vec<String> {
     let at = list.iter().position(|other| other == one).unwrap_or(0);
     let round = list.iter().cycle().skip(at).take(list.len());
     round.filter(|other| *other != one).take(MOST).cloned().collect()
 }
 
-/// Does a field of a name stand at a token, as `name.field`, which is no call of a method?
+/// Is a token the field of a `name.field` that is not a method call?
 fn is_field(region: &Region, at: usize) -> bool {
     let base = at >= region.range.start + 2 && region.is(at - 1, ".") && region.token(at - 2).is_word();
     let inner = base && at >= region.range.start + 3 && (region.is(at - 3, ".") || region.is(at - 3, "::"));
     base && !inner && region.token(at).is_word() && !region.is(at + 1, "(")
 }
 
-/// Another field that the same function uses on the same name.
+/// Replaces a field by another one that the same function uses on the same name.
 fn fields(region: &Region, at: usize) -> Vec<Edit> {
     if !is_field(region, at) {
         return Vec::new();
@@ -52,7 +52,8 @@ fn fields(region: &Region, at: usize) -> Vec<Edit> {
     next_ones(&on_base, field).iter().map(|other| Edit::token("field", region.token(at), other)).collect()
 }
 
-/// Has another field the type of the one at a token? Where the value is cast, any type of numbers will do.
+/// Does another field have the type of the one at a token? If the value is cast, any number type will do. If the type is
+/// not known, the answer is yes.
 fn is_alike(region: &Region, at: usize, other: &str) -> bool {
     let kind = types::of_name(region, at - 2, &region.token(at - 2).text);
     let Some(fields) = kind.and_then(|kind| region.world.fields(region.file, &kind)) else { return true };
@@ -62,7 +63,7 @@ fn is_alike(region: &Region, at: usize, other: &str) -> bool {
     kind.is_some() && (own == kind || (region.is(at + 1, "as") && number(own) && number(kind)))
 }
 
-/// Another variant without values of the same enum.
+/// Replaces a variant by another variant of the same enum, both without values.
 fn variants(region: &Region, at: usize, used: &BTreeSet<String>) -> Vec<Edit> {
     let path = at >= region.range.start + 2 && region.is(at - 1, "::") && region.token(at).sort == Sort::Word;
     if !path || ["(", "{", "::"].iter().any(|mark| region.is(at + 1, mark)) {

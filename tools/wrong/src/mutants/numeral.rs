@@ -1,6 +1,7 @@
-//! Numbers as code writes them, and the same with another value.
+//! Numbers as they are written in code, and the same numbers with another value.
 
-/// A number: its base, its value, the digits between two `_` if there are any, and its type if it names one.
+/// A number: its base, its value, how many digits there are in a group between two `_` (0 if there is no `_`), whether it
+/// has upper-case digits, and its type if it names one.
 #[derive(Clone, Debug, PartialEq, Eq)]
 pub struct Numeral {
     base: u32,
@@ -10,7 +11,7 @@ pub struct Numeral {
     pub suffix: String,
 }
 
-/// The types that a number can name.
+/// The types that a number can name as its suffix.
 const TYPES: [&str; 12] = ["u8", "u16", "u32", "u64", "u128", "usize", "i8", "i16", "i32", "i64", "i128", "isize"];
 
 impl Numeral {
@@ -47,7 +48,7 @@ impl Numeral {
     }
 }
 
-/// Digits with a `_` before each group, counted from the right.
+/// Digits with a `_` between groups, which are counted from the right.
 fn grouped(digits: &str, group: usize) -> String {
     let mut out = String::new();
     for (i, c) in digits.chars().enumerate() {
@@ -75,7 +76,7 @@ pub fn most(name: &str) -> Option<u128> {
     }
 }
 
-/// Would this be too large for some type that just holds the number below it?
+/// Is this value one more than the largest value of some type?
 pub fn leaves_a_type(value: u128) -> bool {
     TYPES.iter().filter_map(|name| most(name)).any(|most| value == most + 1)
 }

@@ -1,4 +1,4 @@
-//! A stretch of code that may be changed: the body of a function, or the value of a constant.
+//! A part of the code that may be changed: the body of a function, or the value of a constant.
 
 use super::items::{find, Constant, Function};
 use super::lexer::{closing, Sort, Token};
@@ -11,7 +11,7 @@ pub struct Region<'a> {
     pub function: Option<&'a Function>,
     pub constant: Option<&'a Constant>,
     pub range: Range<usize>,
-    /// For each token of the file: is it a pattern or a type, which stay as they are?
+    /// For each token of the file: is it in a pattern or a type? These are not changed.
     fixed: Vec<bool>,
 }
 
@@ -52,7 +52,7 @@ impl<'a> Region<'a> {
         &self.file.tokens[at]
     }
 
-    /// Is this token in the region, and this word or mark?
+    /// Is the token at `at` in the region, and is it this word or mark?
     pub fn is(&self, at: usize, text: &str) -> bool {
         self.range.contains(&at) && self.token(at).is(text)
     }
@@ -67,7 +67,7 @@ impl<'a> Region<'a> {
         self.range.clone().filter(|at| self.open(*at)).collect()
     }
 
-    /// Is it a mark between two operands? Such a mark has a space or the line's begin on each side.
+    /// Is it a mark between two operands? Such a mark has a space, or the start or end of the line, on each side.
     pub fn is_binary(&self, at: usize) -> bool {
         let token = self.token(at);
         let line = self.file.lines[token.line].as_bytes();
@@ -102,7 +102,7 @@ impl<'a> Region<'a> {
         arms
     }
 
-    /// What stands between each `let` and its `=`: a pattern, and maybe a type.
+    /// What is between each `let` and its `=`: a pattern, and possibly a type.
     fn bindings(&self) -> Vec<Range<usize>> {
         let lets = self.range.clone().filter(|at| self.is(*at, "let"));
         lets.filter_map(|at| Some(at..find(self.tokens(), at..self.range.end, &["=", ";"])?)).collect()

@@ -1,4 +1,4 @@
-//! A part of a pool, by a seed.
+//! Takes a sample from a pool of mutants. A seed decides which ones.
 
 use super::Mutant;
 use std::collections::BTreeMap;
@@ -6,10 +6,11 @@ use std::collections::BTreeMap;
 /// How often each line was changed.
 type Turns = BTreeMap<(String, usize), usize>;
 
-/// `n` of the pool by the seed, spread over its lines: no line is changed twice before each has been changed once. In a
-/// fixed order for the same pool, n and seed; all of the pool where n is at least its size.
+/// Takes `n` mutants of the pool, or the whole pool if it has no more. The same pool, `n` and seed give the same mutants in
+/// the same order.
 ///
-/// A mutant of two lines is taken when both have their turn, or at last when one has.
+/// The sample is spread over the lines: of mutants of one line, none changes a line again before each line has been changed
+/// once. A mutant of two lines is taken when it is the turn of both lines, and otherwise when it is the turn of one.
 pub fn sample(pool: Vec<Mutant>, n: usize, seed: u64) -> Vec<Mutant> {
     let mut rest = shuffled(pool, seed);
     let mut taken: Vec<Mutant> = Vec::new();
@@ -51,7 +52,7 @@ fn some_due(mutant: &Mutant, turns: &Turns, turn: usize) -> bool {
     places(mutant).any(|place| turns_of(turns, &place) <= turn)
 }
 
-/// The pool in an order that goes by the seed alone.
+/// The pool in an order that depends only on the seed.
 fn shuffled(mut pool: Vec<Mutant>, seed: u64) -> Vec<Mutant> {
     let mut state = seed;
     for i in (1..pool.len()).rev() {
@@ -61,7 +62,7 @@ fn shuffled(mut pool: Vec<Mutant>, seed: u64) -> Vec<Mutant> {
     pool
 }
 
-/// The next number of a stream that looks random.
+/// The next pseudo-random number.
 fn random(state: &mut u64) -> u64 {
     *state = state.wrapping_add(0x9e37_79b9_7f4a_7c15);
     let a = (*state ^ (*state >> 30)).wrapping_mul(0xbf58_476d_1ce4_e5b9);
@@ -69,14 +70,14 @@ fn random(state: &mut u64) -> u64 {
     b ^ (b >> 31)
 }
 
-/// `n` shared out over pools of these sizes, in proportion to them; no pool gives more than it has.
+/// Shares `n` out among pools in proportion to their sizes. No pool's share is larger than the pool.
 pub fn shares(sizes: &[usize], n: usize) -> Vec<usize> {
     let all: usize = sizes.iter().sum();
     if all <= n {
         return sizes.to_vec();
     }
     let mut given: Vec<usize> = sizes.iter().map(|size| size * n / all).collect();
-    // what rounding left over goes to those that lost most by it
+    // what is left over by rounding goes to the pools that lost most by it
     let mut order: Vec<usize> = (0..sizes.len()).collect();
     order.sort_by_key(|&i| std::cmp::Reverse(sizes[i] * n % all));
     let left = n - given.iter().sum::<usize>();

@@ -1,4 +1,4 @@
-//! Arguments exchanged, branches turned round, and statements taken away.
+//! Exchanges arguments, negates conditions or exchanges branches, and removes statements.
 
 use super::edit::{same, text_of, Edit, Piece};
 use super::items::find;
@@ -19,7 +19,7 @@ pub fn edits(region: &Region) -> Vec<Edit> {
 
 // ---- arguments
 
-/// Neighbouring arguments of the call whose path begins at a token, where both have the same type.
+/// Exchanges two neighbouring arguments of the same type, in the call whose path begins at a token.
 fn exchanged(region: &Region, at: usize) -> Vec<Edit> {
     let inner = at > region.range.start && (region.is(at - 1, "::") || region.is(at - 1, "."));
     let call = types::path_at(region, at).filter(|(_, open)| !inner && region.is(*open, "("));
@@ -39,14 +39,14 @@ fn is_number(region: &Region, range: &Range<usize>) -> bool {
     range.len() == 1 && region.token(range.start).sort == Sort::Number
 }
 
-/// Two runs of tokens exchanged, if they differ and each is of one line.
+/// Exchanges two runs of tokens, if they differ and each is on one line.
 fn exchange(region: &Region, kind: &'static str, a: &Range<usize>, b: &Range<usize>) -> Option<Edit> {
     let (a, b) = (&region.tokens()[a.clone()], &region.tokens()[b.clone()]);
     Edit::exchange(kind, &region.file.lines, a, b).filter(|_| !same(a, b))
 }
 
-/// Is a function the same with a parameter and the next one exchanged? That is told of two forms: the smaller or larger of
-/// both, and equal parts.
+/// Does a function stay the same if a parameter and the next one are exchanged? Two forms are recognised: the smaller of
+/// both as `if a < b { a } else { b }`, and a body in which the exchange only turns the sides of each `==`.
 fn is_symmetric(region: &Region, path: &[String], k: usize) -> bool {
     let Some((file, function)) = region.world.function(region.file, path) else { return false };
     let (a, b) = (&function.params[k].0, &function.params[k + 1].0);
@@ -59,7 +59,7 @@ fn is_symmetric(region: &Region, path: &[String], k: usize) -> bool {
     texts.concat() == choice || equalities_sorted(&texts) == equalities_sorted(&swapped)
 }
 
-/// The words of a body with the two sides of each `==` in the order of the alphabet.
+/// The words of a body with the two sides of each `==` in alphabetical order.
 fn equalities_sorted(texts: &[String]) -> Vec<String> {
     let ends = |text: &String| ["(", ")", "&", "|", "{", "}", "=="].contains(&text.as_str());
     let mut words = texts.to_vec();
@@ -75,7 +75,7 @@ fn equalities_sorted(texts: &[String]) -> Vec<String> {
 
 // ---- branches
 
-/// The condition of an `if` or `while` turned round; or, where both branches are on its line, the two exchanged.
+/// Negates the condition of an `if` or `while`. If both branches are on the same line, exchanges them instead.
 fn turned(region: &Region, at: usize) -> Option<Edit> {
     let tokens = region.tokens();
     let test = (region.is(at, "if") || region.is(at, "while")) && !region.is(at + 1, "let");
@@ -96,7 +96,7 @@ fn turned(region: &Region, at: usize) -> Option<Edit> {
     Some(Edit { kind: "branch", pieces: vec![Piece::of(condition.first()?, condition.last()?, &new)] })
 }
 
-/// Is a condition turned round by one other operator? So are `a == b`, `a != b` and `!a`.
+/// Can a condition be negated by changing one operator? This is so for `a == b`, `a != b` and `!a`.
 fn is_turned_by_operator(region: &Region, range: Range<usize>) -> bool {
     let condition = &region.tokens()[range.clone()];
     let mut depth = 0;
@@ -110,7 +110,7 @@ fn is_turned_by_operator(region: &Region, range: Range<usize>) -> bool {
     marks == ["=="] || marks == ["!="] || (region.is(range.start, "!") && is_single(&condition[1..]))
 }
 
-/// Is it a name, a call or a bracket, which a `!` covers as it is?
+/// Is it a name, a call or a bracket, so that a `!` before it negates all of it?
 fn is_single(tokens: &[Token]) -> bool {
     let mut depth = 0;
     let mut closed = false;
@@ -126,7 +126,7 @@ fn is_single(tokens: &[Token]) -> bool {
     depth == 0
 }
 
-/// The results of neighbouring arms exchanged, where each arm is on one line and its result uses nothing of its pattern.
+/// Exchanges the results of neighbouring arms, if each arm is on one line and its result uses no name of its pattern.
 fn arms_exchanged(region: &Region, arms: &[Arm]) -> Vec<Edit> {
     let pairs = arms.windows(2).filter(|pair| pair.iter().all(|arm| is_plain(region, arm)));
     pairs.filter_map(|pair| exchange(region, "branch", &pair[0].result, &pair[1].result)).collect()
@@ -143,7 +143,7 @@ fn is_plain(region: &Region, arm: &Arm) -> bool {
 
 // ---- statements
 
-/// The statement that begins at a token taken away, if it is alone on its line and the rest can stand without it.
+/// Removes the statement that begins at a token, if it is alone on its line and the rest can do without it.
 fn taken_away(region: &Region, at: usize) -> Option<Edit> {
     let end = statement_end(region, at)?;
     let first = region.token(at);
@@ -158,7 +158,7 @@ fn taken_away(region: &Region, at: usize) -> Option<Edit> {
     removable.then(|| Edit { kind: "statement", pieces: vec![piece] })
 }
 
-/// The `;` of the statement that begins at a token, if it has its line for itself.
+/// The `;` of the statement that begins at a token, if the statement is alone on its line.
 fn statement_end(region: &Region, at: usize) -> Option<usize> {
     let begins = at == region.range.start || ["{", "}", ";"].iter().any(|mark| region.is(at - 1, mark));
     let end = find(region.tokens(), at..region.range.end, &[";"]).filter(|_| begins)?;
@@ -172,13 +172,13 @@ fn is_assignment(region: &Region, range: Range<usize>) -> bool {
     region.token(range.start).is_word() && find(region.tokens(), range, &marks).is_some()
 }
 
-/// A return that ends an inner block, after which the function goes on.
+/// Is it a return that ends an inner block, after which the function continues?
 fn is_early(region: &Region, end: usize) -> bool {
     let after = end + 2;
     region.is(end + 1, "}") && region.range.contains(&after) && !region.is(after, "else") && !region.is(after, "}")
 }
 
-/// Does a `let` bind again a name that is seen here already, with a value of the same type as far as that can be told?
+/// Does a `let` bind a name again that can be seen here already? The types must be the same, as far as they are known.
 fn is_shadowing(region: &Region, at: usize) -> bool {
     let name = &region.token(at + 1).text;
     let mutable = region.is(at + 1, "mut");
@@ -187,7 +187,7 @@ fn is_shadowing(region: &Region, at: usize) -> bool {
     !mutable && !differ && is_seen(region, at, name)
 }
 
-/// Is a name bound before a token, by a parameter or by a `let` of a block that is still open?
+/// Is a name bound before a token, by a parameter or by a `let` in a block that is still open?
 fn is_seen(region: &Region, at: usize, name: &str) -> bool {
     let mut depth = 0;
     let mut depths: Vec<i32> = Vec::new();

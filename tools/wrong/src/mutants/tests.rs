@@ -6,7 +6,7 @@ use std::fs;
 use std::path::PathBuf;
 use std::sync::atomic::{AtomicUsize, Ordering};
 
-/// A folder of crates that goes away with its test.
+/// A folder of crates that is removed at the end of its test.
 struct Tree(PathBuf);
 
 impl Tree {
@@ -33,7 +33,7 @@ impl Drop for Tree {
     }
 }
 
-/// What the mutants of one kind of a file of code make of its lines, with ` / ` between two lines.
+/// The changed lines of all mutants of one kind of a file of code, with ` / ` between two lines of one mutant.
 fn code(kind: &str, text: &str) -> Vec<String> {
     let tree = Tree::new(&[("a/src/lib.rt", text)]);
     news(kind, &tree.all("a", Where::Code))
@@ -46,12 +46,12 @@ fn news(kind: &str, mutants: &[Mutant]) -> Vec<String> {
     of_kind.map(lines).collect()
 }
 
-/// The mutants of one kind of a function's body.
+/// The changed lines of all mutants of one kind of a function with this line as its body.
 fn body(kind: &str, line: &str) -> Vec<String> {
     code(kind, &format!("fn f(a: u32, b: u32, x: u8, y: bool) -> u32\n{{\n    {line}\n}}\n"))
 }
 
-/// What the mutants of one kind of a file of definitions make of its lines.
+/// The changed lines of all mutants of one kind of a file of definitions.
 fn definitions(kind: &str, text: &str) -> Vec<String> {
     let tree = Tree::new(&[("a/src/lib.rt", ""), ("a/specs/A.antt", text)]);
     news(kind, &tree.all("a", Where::Definitions))

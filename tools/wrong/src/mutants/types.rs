@@ -5,7 +5,7 @@ use super::lexer::{closing, Sort};
 use super::region::Region;
 use std::ops::Range;
 
-/// The type of a name as it is seen at a token: from its last binding before it, or from the parameters.
+/// The type of a name as seen at a token: from its last binding before the token, or from the parameters.
 pub fn of_name(region: &Region, at: usize, name: &str) -> Option<String> {
     let bound = (region.range.start..at).rev().find_map(|i| binding(region, i, name));
     let function = region.function?;
@@ -24,7 +24,7 @@ fn binding(region: &Region, at: usize, name: &str) -> Option<Option<String>> {
     (region.is(at - 1, "(") && region.is(at + 1, ")")).then(|| held_by(region, at - 2))
 }
 
-/// The type of what a `let` binds, whose name is at a token.
+/// The type of what a `let` binds to the name at a token.
 fn of_let(region: &Region, at: usize) -> Option<String> {
     let tokens = region.tokens();
     let equals = find(tokens, at..region.range.end, &["=", ";"])?;
@@ -35,7 +35,7 @@ fn of_let(region: &Region, at: usize) -> Option<String> {
     of_range(region, equals + 1..end, at)
 }
 
-/// The type that a variant holds, whose name is at a token.
+/// The type of the value of the variant whose name is at a token.
 fn held_by(region: &Region, at: usize) -> Option<String> {
     if at < region.range.start + 2 || !region.is(at - 1, "::") {
         return None;
@@ -45,7 +45,7 @@ fn held_by(region: &Region, at: usize) -> Option<String> {
     variant.holds.into_iter().next()
 }
 
-/// The type of an expression, where it is simple enough to tell. Its names are those that are bound before a token.
+/// The type of an expression, if it is simple enough. Its names are those that are bound before a token.
 fn of_range(region: &Region, range: Range<usize>, before: usize) -> Option<String> {
     let first = region.token(range.start);
     let as_at = range.clone().rev().find(|at| region.is(*at, "as"));
@@ -70,14 +70,14 @@ fn of_range(region: &Region, range: Range<usize>, before: usize) -> Option<Strin
     }
 }
 
-/// The type of `name.field`, where the name is at a token and bound before another.
+/// The type of `name.field`. The name is at one token, and its binding is before another.
 fn of_field(region: &Region, at: usize, before: usize) -> Option<String> {
     let kind = of_name(region, before, &region.token(at).text)?;
     let fields = region.world.fields(region.file, &kind)?;
     fields.into_iter().find(|(name, _)| region.is(at + 2, name)).map(|(_, kind)| kind)
 }
 
-/// What a call of this path gives: the result of a function, or the enum whose variant it is.
+/// The type that a call of this path returns: the result of a function, or the enum of a variant.
 fn of_call(region: &Region, path: &[String]) -> Option<String> {
     let function = region.world.function(region.file, path).map(|(_, function)| function.result.clone());
     let owner = path.len().checked_sub(2).map(|at| path[at].clone());
@@ -90,7 +90,7 @@ fn element(kind: &str) -> Option<String> {
     Some(inner.split(';').next().unwrap_or(inner).to_string())
 }
 
-/// The path that begins at a token, as `a::b`, and the token after it.
+/// The path that begins at a token, such as `a::b`, and the token after it.
 pub fn path_at(region: &Region, at: usize) -> Option<(Vec<String>, usize)> {
     let mut path = Vec::new();
     let mut next = at;
@@ -104,7 +104,7 @@ pub fn path_at(region: &Region, at: usize) -> Option<(Vec<String>, usize)> {
     None
 }
 
-/// The types of the parameters of what a path calls.
+/// The types of the parameters of the function or variant that a path names.
 pub fn of_params(region: &Region, path: &[String]) -> Option<Vec<String>> {
     if let Some((_, function)) = region.world.function(region.file, path) {
         return Some(function.params.iter().map(|(_, kind)| kind.clone()).collect());
@@ -114,13 +114,13 @@ pub fn of_params(region: &Region, path: &[String]) -> Option<Vec<String>> {
     variants.into_iter().find(|variant| Some(&variant.name) == path.last()).map(|variant| variant.holds)
 }
 
-/// The arguments of a call whose bracket opens at a token.
+/// The arguments of the call whose bracket opens at a token.
 pub fn arguments(region: &Region, open: usize) -> Vec<Range<usize>> {
     split(region.tokens(), open + 1..closing(region.tokens(), open), ",")
 }
 
-/// The largest value that a number at a token may have, if its type can be told: from its own name of a type, from the
-/// constant that it is in, or from the name or field that it is compared with.
+/// The largest value that the number at a token may have, if its type is known: from its suffix, from the constant that it
+/// is in, or from the name or field that it is compared with.
 pub fn most_at(region: &Region, at: usize, suffix: &str) -> Option<u128> {
     let own = Some(suffix.to_string()).filter(|suffix| !suffix.is_empty());
     let constant = || region.constant.map(|c| element(&c.kind).unwrap_or_else(|| c.kind.clone()));

@@ -1,4 +1,4 @@
-//! Operators, numbers, letters and truth values, each replaced by another.
+//! Replaces an operator, a number, a letter or a truth value by another.
 
 use super::edit::{same, Edit, Piece};
 use super::items::find;
@@ -7,7 +7,7 @@ use super::numeral::{leaves_a_type, Numeral};
 use super::region::Region;
 use super::types;
 
-/// What stands in the place of a mark between two operands.
+/// Each mark between two operands, and the mark that replaces it.
 const OTHER: [(&str, &str); 19] = [
     ("<=", "<"),
     ("<", "<="),
@@ -66,7 +66,7 @@ fn is_macro(region: &Region, at: usize) -> bool {
     at > region.range.start && region.token(at - 1).is_word() && region.token(at).touches(region.token(at - 1))
 }
 
-/// Would another mark leave the same program, or one that a constant cannot have?
+/// Would another mark leave the program the same, or give a constant a value that it cannot have?
 fn is_same(region: &Region, at: usize) -> bool {
     let difference = region.is(at, "-") || region.is(at, "+");
     is_choice_of_operands(region, at) || (difference && region.constant.is_some())
@@ -88,7 +88,7 @@ fn is_choice_of_operands(region: &Region, at: usize) -> bool {
     (same(left, then) && same(right, other)) || (same(left, other) && same(right, then))
 }
 
-/// A `+ 1` or `- 1` taken away.
+/// Removes a `+ 1` or `- 1`.
 fn dropped(region: &Region, at: usize) -> Option<Edit> {
     let sum = region.is(at, "+") || region.is(at, "-");
     let number = Some(at + 1).filter(|next| sum && region.open(*next)).map(|next| region.token(next))?;
@@ -98,7 +98,7 @@ fn dropped(region: &Region, at: usize) -> Option<Edit> {
     (one && before.line == number.line).then(|| Edit { kind: "operator", pieces: vec![piece] })
 }
 
-/// A number with one more and with one less.
+/// Makes a number one more and one less.
 fn constants(region: &Region, at: usize) -> Vec<Edit> {
     let token = region.token(at);
     let Some(numeral) = Numeral::parse(&token.text).filter(|_| is_free(region, at)) else { return Vec::new() };
@@ -111,15 +111,16 @@ fn constants(region: &Region, at: usize) -> Vec<Edit> {
     more.into_iter().chain(less).map(|value| Edit::token("constant", token, &numeral.with(value))).collect()
 }
 
-/// Is a number a bound, whose comparison with or without the bound itself is the same as one more or one less of it?
+/// Is a number a bound for which one more (or one less) does the same as another comparison mark? `a < 11` says the same
+/// as `a <= 10`.
 fn is_bound(region: &Region, at: usize, more: bool) -> bool {
     let side = |at: usize, marks: [&str; 2]| marks.iter().any(|mark| region.is(at, mark)) && region.is_binary(at);
     let (rising, falling) = if more { (["<", ">="], ["<=", ">"]) } else { (["<=", ">"], ["<", ">="]) };
     (at > region.range.start && side(at - 1, rising)) || side(at + 1, falling)
 }
 
-/// May a number be changed? Not if it names a part of a tuple, is the length of an array that has to have it, or fills a
-/// buffer, which is overwritten before it is read.
+/// May a number be changed? It may not if it names a part of a tuple, if it is the length of an array that must have this
+/// length, or if it fills a buffer, because a buffer is overwritten before it is read.
 pub fn is_free(region: &Region, at: usize) -> bool {
     let part = at > region.range.start && region.is(at - 1, ".");
     let filling = at > region.range.start && region.is(at - 1, "[") && region.is(at + 1, ";");
@@ -132,20 +133,20 @@ fn is_length(region: &Region, at: usize) -> bool {
     at > region.range.start && region.is(at - 1, ";") && region.is(at + 1, "]")
 }
 
-/// Does a number of one more fit its type?
+/// Does a value fit the type of the number at a token?
 pub fn fits(region: &Region, at: usize, numeral: &Numeral, value: u128) -> bool {
     types::most_at(region, at, &numeral.suffix).map_or(!leaves_a_type(value), |most| value <= most)
 }
 
-/// Is a number added or taken away? One less of 1 is then what taking it away gives.
+/// Is a number added or subtracted? If it is 1, making it one less is the same as removing it.
 fn is_summand(region: &Region, at: usize) -> bool {
     let assigned = at > region.range.start && (region.is(at - 1, "+=") || region.is(at - 1, "-="));
     let summed = at > region.range.start && (region.is(at - 1, "+") || region.is(at - 1, "-"));
     assigned || (summed && region.is_binary(at - 1))
 }
 
-/// Is a number in an array that is bound to a name, which is only lent or indexed afterwards? The array may then have any
-/// length, and more than it needs is the same program.
+/// Is a number in an array that is bound to a name and afterwards only lent or indexed? Such an array may have any length,
+/// and one that is longer than needed leaves the program the same.
 fn is_buffer(region: &Region, at: usize) -> bool {
     let open = (region.range.start..at).rev().find(|i| region.is(*i, "["));
     let Some(open) = open.filter(|open| *open >= region.range.start + 2 && region.is(open - 1, "=")) else {
@@ -158,7 +159,7 @@ fn is_buffer(region: &Region, at: usize) -> bool {
     region.is(close + 1, ";") && (close..region.range.end).filter(used).all(|i| lent(i) || region.is(i + 1, "["))
 }
 
-/// The letter that takes a letter's place: the next one that needs no escape.
+/// The letter that replaces a letter: the next one that needs no escape.
 pub fn next_letter(letter: char) -> Option<char> {
     let next = char::from_u32(u32::from(letter) + 1)?;
     match next {
@@ -168,7 +169,7 @@ pub fn next_letter(letter: char) -> Option<char> {
     }
 }
 
-/// The letter of a token such as `b'x'`; none where it is escaped.
+/// The letter of a token such as `b'x'`; none if it is escaped.
 pub fn letter_of(token: &Token) -> Option<char> {
     let (_, inner) = token.text.split_once('\'')?;
     let mut chars = inner.strip_suffix('\'')?.chars();
@@ -185,7 +186,7 @@ fn letter(token: &Token) -> Option<Edit> {
     Some(with_letter(token, next_letter(letter_of(token)?)?))
 }
 
-/// A text with its first, its middle or its last letter changed.
+/// Changes the first, the middle or the last letter of a text.
 fn letters(token: &Token) -> Vec<Edit> {
     let places = chosen(&plain_letters(token));
     places.into_iter().filter_map(|(at, letter)| replaced(token, at, next_letter(letter)?)).collect()
@@ -198,7 +199,7 @@ pub fn chosen<T: Copy>(list: &[T]) -> Vec<T> {
     places.into_iter().filter_map(|at| list.get(at).copied()).collect()
 }
 
-/// The letters of a text that are not escaped, each with its place in the token in bytes.
+/// The letters of a text that are not escaped, each with its place in the token, in bytes.
 pub fn plain_letters(token: &Token) -> Vec<(usize, char)> {
     let open = token.text.find('"').map_or(0, |at| at + 1);
     let mut letters = Vec::new();
@@ -212,7 +213,7 @@ pub fn plain_letters(token: &Token) -> Vec<(usize, char)> {
     letters
 }
 
-/// A text with another letter at a place.
+/// Replaces the letter at a place of a text.
 pub fn replaced(token: &Token, at: usize, new: char) -> Option<Edit> {
     let old = token.text[at..].chars().next()?;
     let start = token.start + at;

@@ -1,4 +1,4 @@
-//! The code of a crate, and of the crates beside it whose names it uses: what a name means and which type it has.
+//! The code of a crate and of the crates beside it whose names it uses. Finds what a name means and which type it has.
 
 use super::items::{self, Function, Items, Typed, Variant};
 use super::lexer::{self, Token};
@@ -9,7 +9,7 @@ use std::path::{Path, PathBuf};
 /// A file of code.
 pub struct File {
     pub krate: String,
-    /// From the crate's folder.
+    /// The path from the crate's folder.
     pub name: String,
     module: Vec<String>,
     pub lines: Vec<String>,
@@ -17,13 +17,13 @@ pub struct File {
     pub items: Items,
 }
 
-/// A crate's own files first, and then those of others.
+/// A crate's own files first, and then those of the other crates.
 pub struct World {
     files: Vec<File>,
     own: usize,
 }
 
-/// The files of a folder with an ending, its own folders included, by path.
+/// The files of a folder with this ending, including those in folders below it, sorted by path.
 pub fn files_in(folder: &Path, ending: &str) -> Result<Vec<PathBuf>, String> {
     let mut found = Vec::new();
     let entries = fs::read_dir(folder).map_err(|e| format!("{}: {e}", folder.display()))?;
@@ -39,7 +39,7 @@ pub fn files_in(folder: &Path, ending: &str) -> Result<Vec<PathBuf>, String> {
     Ok(found)
 }
 
-/// The text of a file, and its path from a folder with `/` between the names.
+/// The text of a file, and its path from a folder, with `/` between the names.
 pub fn text_and_name(folder: &Path, path: &Path) -> Result<(String, String), String> {
     let text = fs::read_to_string(path).map_err(|e| format!("{}: {e}", path.display()))?;
     let inner = path.strip_prefix(folder).unwrap_or(path);
@@ -58,7 +58,7 @@ impl File {
         Ok(File { krate: krate.to_string(), name, module, lines, tokens, items })
     }
 
-    /// All files of the code of a crate.
+    /// All code files of a crate.
     fn read_all(folder: &Path, krate: &str) -> Result<Vec<File>, String> {
         files_in(&folder.join("src"), "rt")?.iter().map(|path| File::read(folder, krate, path)).collect()
     }
@@ -95,7 +95,7 @@ impl World {
         }
     }
 
-    /// Looks for an item by its path: in the file itself, or where a `use` or the path leads.
+    /// Finds an item by its path: in the file itself, or where a `use` or the path leads.
     fn look<'a, T>(&'a self, from: &'a File, path: &[String], get: impl Fn(&'a File) -> Option<T>) -> Option<T> {
         if path.len() > 1 {
             return get(self.file_of(from, path)?);
