@@ -1,4 +1,4 @@
--- Numbers and places, spelled.
+-- Worked cases: numbers in decimal, places, and the lines of a text.
 use mathlib.Core.Path.{_≡_}
 use Rattle.digits.specs.Text.{codes}
 use Rattle.text.specs.Put.{placeAfter}
