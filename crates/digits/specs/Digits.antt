@@ -15,7 +15,7 @@ isWidth w = leb 1 w && leb w 10
 abbrev pub isPutWidth : ℕ → Bool
 isPutWidth w = leb 1 w && leb w 20
 
--- the bytes 0 to 9
+-- the ASCII digits 0 to 9, 30h to 39h
 abbrev pub isDigit : ℕ → Bool
 isDigit b = leb 48 b && leb b 57
 

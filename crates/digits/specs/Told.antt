@@ -14,6 +14,6 @@ module _ {A : Type 0} where
   tried true f rest = rest
   tried false f rest = refuses f
 
--- every refusal that this answer can be is one of the table
+-- if this answer is a refusal, it is one of the table
 abbrev pub Sure : {A : Type 0} → Told A → Type 0
 Sure t = (f : Refusal) → t ≡ refuses f → isRefusal f ≡ true

@@ -74,7 +74,7 @@ pub record Worked : Type 0 where
   pub last-second : read reply (replying "00041" "255" "0" "2359599999" "29022024") ≡ gives (replied 48 (Clock 863999999 29 2 2024))
   pub hour-24 : FieldAt reply (replying "00041" "255" "0" "2400000000" "29022024") 30
   pub net-hour-24 : FieldAt reply (replying "00041" "255" "1" "2400000000" "+0000000") 30
-  -- 2. net: plus no days, and a time
+  -- 2. net: zero days, and a time
   pub net-plus : read reply (replying "00041" "255" "1" "0001125400" "+0000000") ≡ gives (replied 49 (Net (pos 725400)))
   -- 3. net: minus one day, and a time
   pub net-minus : read reply (replying "00041" "255" "1" "2359590000" "-0000001") ≡ gives (replied 49 (Net (negsuc 9999)))

@@ -47,7 +47,7 @@ pub record Tail : Type 0 where
   pub information : ℕ
   pub times : Times
 
--- its arguments: the least run, the shape and rule of the physical channel, the rule for the letter, and the kind of time and date for each letter
+-- the layout from the bib on, by the least run, the shape and rule of the physical channel, the rule for the letter, and the kind of time and date for each letter
 unfoldable pub fromBib : ℕ → Shape ℕ → (ℕ → Bool) → (ℕ → Bool) → (ℕ → TimingKind) → Layout Tail
 fromBib least shape isPhysical letters kind =
     field 12 (number 5) (upTo 59999) (λ t. t .bib) λ bib.

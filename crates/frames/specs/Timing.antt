@@ -48,7 +48,7 @@ isOf rawKind Raw = true
 abbrev pub timingIs : TimingKind → Times → Bool
 timingIs kind t = isOf kind (t .timing)
 
--- the first n bytes are all raw bytes; they are all zero
+-- the first n bytes are all raw; the first n bytes are all zero
 abbrev pub areRaw : ℕ → List ℕ → Bool
 areRaw n l = allFrom isRaw l 0 n
 

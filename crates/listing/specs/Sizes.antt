@@ -19,7 +19,7 @@ columnsSize (c ∷ cs) = 1 + (c .to - c .from) + columnsSize cs
 unfoldable pub longestRow : ℕ
 longestRow = width (seatCount - 1) + columnsSize columns + 1
 
--- the length of the longest end line: four counts, each with the tab in front of it, and the LF
+-- the length of the longest end line: the word end, four counts, each with the tab in front of it, and the LF
 unfoldable pub longestEnd : ℕ
 longestEnd = length end + 4 * (1 + width mostInput) + 1
 

@@ -5,7 +5,7 @@ use mathlib.Core.Path.{_≡_}
 use lib.ListN.{length}
 use lib.Seq.{sets}
 
--- the largest number of 64 bits: no output has as many bytes
+-- the largest number of 64 bits: no output has that many bytes
 abbrev pub mostPlace : ℕ
 mostPlace = 2 ^ 64 - 1
 
