@@ -1,4 +1,4 @@
-// Every damage of one byte: each place of a frame, each of the 256 values.
+// Every damage of one byte: each place of a frame with each of the 256 values.
 use digits::byte_at;
 use digits::put_byte;
 use digits::refusal::Refusal;
@@ -41,7 +41,7 @@ fn damage_places(kind: Damaged, frame: &mut [u8]) {
     }
 }
 
-// The runs of equal answers at one place, which holds its own byte again afterwards.
+// Prints the runs of equal answers at one place. Afterwards the place holds its own byte again.
 fn damage_place(kind: Damaged, frame: &mut [u8], place: usize) {
     let own = byte_at(frame, place);
     print::decimal(place as u64);
@@ -132,7 +132,7 @@ fn dynamic_again(r: DynamicRequest, frame: &[u8]) -> Refusal {
     own_bytes(a, &out, frame)
 }
 
-// Done where the frame was written again with its own bytes; an offset of 1 where not.
+// Done if the frame was written again with its own bytes; otherwise an offset of 1.
 fn own_bytes(a: WriteAnswer, out: &[u8], frame: &[u8]) -> Refusal {
     match a {
         WriteAnswer::Written => same_bytes(out, frame),

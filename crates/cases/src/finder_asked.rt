@@ -18,7 +18,7 @@ pub fn find_from(s: &[u8]) {
     print_found(next(&b[0..n], Cursor { at }));
 }
 
-// A frame has a byte at least, so after as many turns as bytes nothing is left to be found.
+// A frame has at least one byte. So after as many turns as there are bytes, no frame is left.
 fn print_frames(s: &[u8]) {
     let mut at = 0;
     let mut turn = 0;
@@ -29,7 +29,7 @@ fn print_frames(s: &[u8]) {
     print_found(next(s, Cursor { at }));
 }
 
-// The first frame from a place on, and where the search goes on after it.
+// Prints the first frame from a place on, and returns where the search goes on.
 fn print_frame(s: &[u8], at: usize) -> usize {
     match next(s, Cursor { at }) {
         Found::Whole { start, end, next } => {

@@ -1,4 +1,4 @@
-// Reads cases from standard input, a line each, and prints the answer to each: docs/CASES.md has both texts.
+// Reads cases from standard input, one on each line, and prints the answer to each. docs/CASES.md describes both.
 mod damage;
 mod dynamic_asked;
 mod finder_asked;

@@ -133,7 +133,7 @@ fn reply_asked(s: &[u8], k: usize) -> StaticReply {
     reply_with(s, 1, Timing::Raw, 1)
 }
 
-// The same with this timing, and the raw parts from word p on.
+// The same record with this timing, and with the raw parts from word p on.
 fn reply_with(s: &[u8], k: usize, timing: Timing, p: usize) -> StaticReply
     requires { ⌜ (k < 100) × (p < 100) ⌝ }
 {
@@ -152,7 +152,7 @@ fn reply_with(s: &[u8], k: usize, timing: Timing, p: usize) -> StaticReply
     }
 }
 
-// The eleven parts from word k on.
+// The eleven parts of a head, from word k on.
 fn head_asked(s: &[u8], k: usize) -> ReplyHead
     requires { ⌜ k < 100 ⌝ }
 {

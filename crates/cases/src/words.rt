@@ -1,4 +1,4 @@
-// Words that only these cases have: letters by their code, and numbers with a sign.
+// Words that only these cases use: letters by their code, and numbers with a sign.
 use digits::byte_at;
 use spelling::line::decimal;
 use spelling::line::nth_word;

@@ -1,4 +1,4 @@
-// Answers to a writing.
+// Answers of writing.
 use digits::refusal::Refusal;
 use frames::refusals::WriteAnswer;
 use frames::refusals::of_writing;
@@ -13,7 +13,7 @@ fn write_told(a: WriteAnswer) -> Refusal {
     }
 }
 
-// The line of a writing: the answer, and the output after it.
+// Prints the line of a writing: the answer, and the output after it.
 pub fn print_written(a: WriteAnswer, out: &[u8]) {
     print_told(write_told(a));
     print::space();

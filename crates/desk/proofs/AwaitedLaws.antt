@@ -1,4 +1,4 @@
--- The replies that a stretch counts are the frames addressed to the open requests. Assumes nothing.
+-- The replies that are counted in a stretch are the frames addressed to the open requests. Assumes nothing.
 use Prim.Native.Nat.{ℕ, zero, suc, _+_}
 use mathlib.Core.Bool.{Bool, cond, _&&_}
 use mathlib.Core.Path.{_≡_, refl, sym, _∙_}
@@ -44,7 +44,7 @@ module _ (m : Memory) where
   none-awaited zero = refl
   none-awaited (suc n) = let h = none-awaited n in by-test (usedBit (m .bits) n) (λ u. rw u (omega (arith, h))) (λ u. rw u (omega (arith, h)))
 
-  -- on a desk a reply is addressed to one open request at most
+  -- on a desk a reply is addressed to at most one open request
   one-label : Facts m → (got : Told ReplyLabel) → countBelow seatCount (ownLabel got) ≡ cond (seated m got) 1 0
   unfolding keyed
   one-label d (gives c) =

@@ -26,14 +26,14 @@ pub false-or : (b : Bool) → (b ≡ true → ⊥) → b ≡ false
 false-or true h = absurd (h refl)
 false-or false h = refl
 
--- what a call said of a test, and how a branch on its negation went
+-- from what a call returned for a test, and the way that a branch on its negation took, to the test
 pub not-came : {x a : Bool} → x ≡ a → not x ≡ true → a ≡ false
 not-came {x} e t = sym e ∙ not-true x t
 
 pub not-left : {x a : Bool} → x ≡ a → not x ≡ false → a ≡ true
 not-left {x} e t = sym e ∙ not-false x t
 
--- a row of tests, each with a return of false where it fails: past one that held, and out at one that failed
+-- a row of tests, each of which returns false if it fails: going on after a test that held, and returning at one that failed
 pub past : {a b r : Bool} → a ≡ true → r ≡ b → r ≡ a && b
 past {a} {b} {r} e q = q ∙ sym (ap (λ (z : Bool). z && b) e)
 
@@ -83,7 +83,7 @@ unfolding allBelow
 all-of zero p h = refl
 all-of (suc n) p h = and-true (all-of n p (λ k l. h k (omega arith))) (h n (omega arith))
 
--- the loop's end: i has come to n
+-- at the loop's end i has reached n
 pub all-to : (i n : ℕ) (p : ℕ → Bool) → i ≡ n → allBelow i p ≡ true → allBelow n p ≡ true
 all-to i n p e h = rw e at h
 
@@ -137,7 +137,7 @@ count-one (suc n) s p l t u =
     (λ e. let y : p n ≡ true = sym (ap p e) ∙ t in
     rw y (ap suc (count-none n p (λ k j. false-or (p k) (λ q. let g = u k (omega arith) q in omega arith)))))
 
--- a test that turns from false to true at one place
+-- a test whose result changes from false to true at one place
 pub count-turned : (n s : ℕ) (p q : ℕ → Bool) → s < n → p s ≡ false → q s ≡ true → ((k : ℕ) → (k ≡ s → ⊥) → q k ≡ p k) → countBelow n q ≡ countBelow n p + 1
 unfolding countBelow
 count-turned zero s p q l a b e = absurd (omega arith)
@@ -202,7 +202,7 @@ unfolding first
 first-ext zero p q h = refl
 first-ext (suc n) p q h = rw (first-ext n p q (λ k l. h k (omega arith)), h n (omega arith))
 
--- a search that has come to n
+-- a search that has reached n
 pub first-more : (n : ℕ) (p : ℕ → Bool) → first n p ≡ n → p n ≡ false → first (n + 1) p ≡ n + 1
 unfolding first
 first-more n p h q = rw (add-one n, le-ltb (first n p) n (omega arith), q)

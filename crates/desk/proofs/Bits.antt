@@ -1,4 +1,4 @@
--- The bits of the seats in use: a clear one is set, the lowest clear one, and how many are set. Assumes nothing.
+-- The bits of the seats in use: setting a clear one, the lowest clear one, and how many are set. Assumes nothing.
 use Prim.Native.Nat.{ℕ, zero, suc, _+_, _*_, _-_, _/_, _%_, _^_, _<_, _≤_}
 use mathlib.Core.Bool.{Bool, true, false, cond, not}
 use mathlib.Core.Path.{_≡_, refl, ap, sym, _∙_, subst}
@@ -32,7 +32,7 @@ none-used i =
     let e : 0 / 2 ^ i ≡ 0 = zero-div (2 ^ i) in
     ap (λ (x : ℕ). eqb (x % 2) 1) e
 
--- ---- a clear bit that is set
+-- ---- setting a clear bit
 
 half-set : (b s : ℕ) → (b + 2 ^ suc s) / 2 ≡ b / 2 + 2 ^ s
 half-set b s = let e = twice s in omega arith
@@ -71,7 +71,7 @@ set-below (suc k) b (suc s) l o h =
 
 -- ---- the lowest clear bit, by the trailing zeros of the complement
 
--- t is the lowest clear bit of the k lowest, or k
+-- t is the lowest clear bit among the lowest k, or k if all of them are set
 record Lowest (k b t : ℕ) : Type 0 where
   most : t ≤ k
   below : (i : ℕ) → i < t → usedBit b i ≡ true

@@ -1,4 +1,4 @@
--- A capture is a run of calls, and each of its counts goes by a rule of its own. Assumes nothing.
+-- A capture is a run of calls, and each of its counts follows a rule of its own. Assumes nothing.
 use Prim.Native.Nat.{ℕ}
 use mathlib.Core.List.{List, [], _∷_, _++_}
 use mathlib.Core.Bool.{true, false, cond}
@@ -57,9 +57,9 @@ capture-sorts m s before after f r es seat e q h st room =
     let x : captures (emptied m) s .after ≡ run (run (emptied m) (openings (before ++ f ∷ after))) es = capture-is-run (emptied m) s (stays-desk .reset m) ∙ ap (run (emptied m)) e ∙ run-on (emptied m) (openings (before ++ f ∷ after)) es in
     ap (λ (y : Memory). heldBy y seat) x ∙ sorted .held
 
--- ---- dynamic requests, with no desk
+-- ---- dynamic requests, without a desk
 
--- a frame with another lead byte is none
+-- a frame with another lead byte is no dynamic request
 not-dynamic : (f : List ℕ) → (getD f 0 0 ≡ 19 → ⊥) → isGiven (read dynamic f) ≡ false
 unfolding read
 not-dynamic f n = rw (← head-kind 19 46 f (omega arith) n)

@@ -1,4 +1,4 @@
--- A capture: its frames met one after the other, and the counts. Assumes nothing.
+-- A capture: its frames given to the desk one after the other, and the counts. Assumes nothing.
 use Prim.Native.Nat.{ℕ, suc, _+_, _-_, _<_, _≤_}
 use mathlib.Core.List.{List, [], _∷_}
 use mathlib.Core.Bool.{Bool, true, false, cond}
@@ -31,7 +31,7 @@ use Rattle.desk.proofs.MixLaws.{stays-desk}
 -- ---- one frame, by its lead byte
 
 module _ (m : Memory) (f : List ℕ) (r : Met) (cells marks : List ℕ) where
-  -- what is left, with the one seat that changed
+  -- the memory after the frame, with the one seat that changed
   abbrev left : Memory
   left = memory (r .desk) (set (m .row) (r .at) (r .seat)) cells marks
 
@@ -49,7 +49,7 @@ module _ (m : Memory) (f : List ℕ) (r : Met) (cells marks : List ℕ) where
   unfolding meets
   meets-other n k e b d = rw (ne-eqb (getD f 0 0) openLead n, ne-eqb (getD f 0 0) replyLead k) (record { at = b; fate = e; after = d })
 
--- what holds of each of the three steps holds of the one that is met
+-- what holds of each of the three steps holds of the one that the lead byte chooses
 pub by-lead : (P : Step → Type 0) (m : Memory) (f : List ℕ)
     → P (record { fate = fateBy Opened (opens m f .answer); after = opens m f .after })
     → P (record { fate = fateBy Collected (replies m f .answer); after = replies m f .after })
@@ -67,7 +67,7 @@ meets-desk m f d = by-lead (λ (x : Step). isDesk (x .after) ≡ true) m f (stay
 
 -- ---- the loop
 
--- a desk, what is left to do from it, and the counts so far
+-- a desk, what is left to do on it, and the counts so far
 pub record Going (m₀ : Memory) (s : List ℕ) (at : ℕ) (m : Memory) (c : Counts) : Type 0 where
   pub desk : isDesk m ≡ true
   pub rest : afterAll m (piecesFrom s at) ≡ afterAll m₀ (pieces s)
@@ -83,7 +83,7 @@ begins m s d = record { desk = d; rest = refl; opened = omega arith; collected =
 counts-four : (a b : Counts) → a .opened ≡ b .opened → a .collected ≡ b .collected → a .dynamic ≡ b .dynamic → a .refused ≡ b .refused → a ≡ b
 counts-four a b p q r s = λ i. record { opened = p i; collected = q i; dynamic = r i; refused = s i }
 
--- a fate is counted once, and where it belongs
+-- a fate is counted once, in its own count
 record More (c d : Counts) (fate : Fate) : Type 0 where
   opened : d .opened ≡ c .opened + cond (isOpened fate) 1 0
   collected : d .collected ≡ c .collected + cond (isCollected fate) 1 0
@@ -112,7 +112,7 @@ module _ (m₀ : Memory) (s : List ℕ) (at : ℕ) (m : Memory) (c : Counts) (g 
     unfolding afterAll
     ends-memory = rw none at (g .rest)
 
-  -- one frame more
+  -- one more frame
   module _ (p : Piece) (next : ℕ) (is : piecesFrom s at ≡ p ∷ piecesFrom s next) (less : at < next) where
     fate-more : (q : Fate → Bool) → howMany q (fates m (piecesFrom s at)) ≡ cond (q (meetsPiece m p .fate)) (suc (howMany q (fates (meetsPiece m p .after) (piecesFrom s next)))) (howMany q (fates (meetsPiece m p .after) (piecesFrom s next)))
     unfolding fates howMany

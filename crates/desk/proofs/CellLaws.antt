@@ -1,4 +1,4 @@
--- A capture holds a cell more for each reply that it collects, and has a seat more in use for each request that it opens. Assumes nothing.
+-- A capture adds a held cell for each reply that it collects, and a used seat for each request that it opens. Assumes nothing.
 use Prim.Native.Nat.{ℕ, suc, _+_}
 use mathlib.Core.List.{List, [], _∷_}
 use mathlib.Core.Bool.{Bool, true, false, cond}
@@ -22,7 +22,7 @@ use Rattle.desk.proofs.CaptureLaws.{by-lead}
 use Rattle.desk.proofs.StepLaws.{Opens, opens-taken}
 use Rattle.desk.proofs.DeskLaws.{opened-bit, other-bit}
 
--- ---- what grows by one with each frame of a fate
+-- ---- a number that grows by one with each frame of a certain fate
 
 module _ (size : Memory → ℕ) (test : Fate → Bool) (one : (m : Memory) (p : Piece) → size (meetsPiece m p .after) ≡ size m + cond (test (meetsPiece m p .fate)) 1 0) where
   more : (b : Bool) (n h : ℕ) → n + cond b 1 0 + h ≡ n + cond b (suc h) h
@@ -41,7 +41,7 @@ module _ (size : Memory → ℕ) (test : Fate → Bool) (one : (m : Memory) (p :
       let z = more b (size m) h in
       x ∙ (let w : size after + h ≡ size m + cond b 1 0 + h = omega (arith, y) in w) ∙ z
 
--- ---- a cell more for each reply that it collects
+-- ---- one more cell for each reply that is collected
 
 open-cells : (m : Memory) (t : Told Opening) → openOutcome m t .after .count ≡ m .count + cond (isCollected (fateBy Opened (openOutcome m t .answer))) 1 0
 open-cells m (gives o) = omega arith
@@ -69,7 +69,7 @@ piece-cells m (cut a f) = omega arith
 pub all-cells : (m : Memory) (ps : List Piece) → afterAll m ps .count ≡ m .count + howMany isCollected (fates m ps)
 all-cells = grows (λ (m : Memory). m .count) isCollected piece-cells
 
--- ---- and a seat more for each request that it opens
+-- ---- one more seat for each request that is opened
 
 more-seats : (m : Memory) (f : List ℕ) (o : Opening) → Opens m f o → seatsInUse (opened m o .bits) ≡ seatsInUse (m .bits) + 1
 unfolding seatsInUse

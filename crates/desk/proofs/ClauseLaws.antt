@@ -1,4 +1,4 @@
--- The clauses of a desk are what one run over the rows computes, and the facts in them. Assumes nothing.
+-- The clauses of a desk are what one pass over the rows computes; and the facts in them. Assumes nothing.
 use Prim.Native.Nat.{ℕ, zero, suc, _+_, _*_, _-_, _^_, _<_, _≤_}
 use mathlib.Core.Bool.{Bool, true, false, cond, not, _&&_, _||_}
 use mathlib.Core.List.{List}
@@ -29,9 +29,9 @@ use Rattle.desk.specs.inside.Clauses.{seatGood, seatGoodAt, noView, take
 use Rattle.digits.proofs.Tests.{and-true, and-l, and-r}
 use Rattle.desk.proofs.Below.{past, eq-case, all-at, all-of, all-and, all-ext, count-more}
 
--- ---- within a seat only the last may be E or Z, Z only alone: as each row is met
+-- ---- clause 10 (only the last record of a seat is E or Z, and a Z is its only one), as it is tested row by row
 
--- a row that is a Z (z) or not, of seat s, after n rows
+-- row j and a later row of seat s, which is a Z (z) or not
 abbrev pairs : List ℕ → List ℕ → ℕ → Bool → ℕ → Bool
 pairs cells marks s z j = cond (eqb (markAt marks j) s) (eqb (endedIn (heard (cellAt cells j))) 0 && not z) true
 
@@ -108,7 +108,7 @@ pub record Facts (m : Memory) : Type 0 where
   pub held : (s : ℕ) → s < seatCount → usedBit (m .bits) s ≡ true → seatAt (m .row) s .held ≡ named (m .marks) s (m .count)
   pub ended : (s : ℕ) → s < seatCount → usedBit (m .bits) s ≡ true → seatAt (m .row) s .ended ≡ lastEnds (m .cells) (m .marks) s (m .count)
 
--- a clause on used seats alone
+-- a clause about used seats only
 when-used : {b x : Bool} → b ≡ true → cond b x true ≡ true → x ≡ true
 when-used {b} {x} e h = sym (ap (λ (z : Bool). cond z x true) e) ∙ h
 
@@ -116,7 +116,7 @@ used-only : (b x : Bool) → (b ≡ true → x ≡ true) → cond b x true ≡ t
 used-only true x h = h refl
 used-only false x h = refl
 
--- a clause on unused seats alone
+-- a clause about unused seats only
 when-unused : {b x : Bool} → b ≡ false → cond b true x ≡ true → x ≡ true
 when-unused {b} {x} e h = sym (ap (λ (z : Bool). cond z true x) e) ∙ h
 
@@ -176,7 +176,7 @@ module _ (m : Memory) where
       (placed-run (m .cells) (m .marks) (m .count) ∙ all-of (m .count) (takenAt (m .cells) (m .marks)) (f .taken)))
       (all-of seatCount (endedRight (m .row) (m .bits) (m .count) (m .cells) (m .marks)) (λ s l. used-only (usedBit (m .bits) s) _ (λ u. eq-eqb _ _ (f .ended s l u))))
 
--- ---- the clauses in the definition's order, and as one run computes them
+-- ---- the clauses in the definition's order, and as one pass computes them
 
 turned : (s b k a z n m c h p e : Bool) → s && b && k && a && z && n && m && c && h && p && e ≡ s && (b && ((k && z) && (a && (n && ((m && (c && p)) && (h && e))))))
 turned false b k a z n m c h p e = refl
@@ -220,7 +220,7 @@ module _ (row : List Seat) (bits count : ℕ) (cells marks : List ℕ) where
       ∙ sym (all-and count (markGood bits marks) (λ i. cellKeyed row cells marks i && takenAt cells marks i)))
       (sym (all-and seatCount (heldRight row bits count marks) (endedRight row bits count cells marks)))
 
--- the clauses in the definition's order are what the code computes in its own
+-- the clauses in the definition's order are what the code computes in its own order
 desk-run : (m : Memory) → isDesk m
     ≡ allSeats m && (noBitAbove m && (allBelow seatCount (seatGoodAt (m .row) (m .bits)) && (noKeyShared m && (countFits m && rowsHold (m .row) (m .bits) (m .count) (m .cells) (m .marks)))))
 unfolding isDesk
@@ -230,12 +230,12 @@ desk-run m =
     (seats-are (m .row) (m .bits) (m .count) (m .cells) (m .marks))
     (rows-are (m .row) (m .bits) (m .count) (m .cells) (m .marks))
 
--- a row that is an array of its own has its length: what the code computes are the other clauses
+-- a row that is an array has its length; so the code computes the other clauses
 pub desk-by : (m : Memory) {r : Bool} → length (m .row) ≡ seatCount
     → r ≡ noBitAbove m && (allBelow seatCount (seatGoodAt (m .row) (m .bits)) && (noKeyShared m && (countFits m && rowsHold (m .row) (m .bits) (m .count) (m .cells) (m .marks)))) → r ≡ isDesk m
 desk-by m n q = past (eq-eqb (length (m .row)) seatCount n) q ∙ sym (desk-run m)
 
--- ---- what a branch gives, where x is what a call gave and a what it ensures of it
+-- ---- the result of a branch; x is what a call returned, and a is what the call's contract says of it
 
 pub if-yes {ℓ} : {A : Type ℓ} {a x : Bool} {r b : A} (d : A) → x ≡ a → x ≡ true → r ≡ b → r ≡ cond a b d
 if-yes {a = a} {x = x} {r = r} {b = b} d e t q = q ∙ sym (ap (λ (z : Bool). cond z b d) (sym e ∙ t))
@@ -245,7 +245,7 @@ if-no {a = a} {x = x} {r = r} {d = d} b e t q = q ∙ sym (ap (λ (z : Bool). co
 
 -- ---- a cell, read
 
--- a cell that is no reply is out of order
+-- a cell that is no reply is not good
 pub turn-refused : (v : View) (seat : Seat) (g : ReplyCheck) (x : ReadRefusal) → g ≡ not-heard x
     → _≡_ {A = Turn} (record { good = false; view = record { held = v .held + 1; ended = 0 } }) (turnOf v seat (checkTold g))
 unfolding turnOf
@@ -257,7 +257,7 @@ pub cap-room : (cells marks n : ℕ) → n ≤ capacityOf cells marks → (n ≤
 unfolding capacityOf
 cap-room cells marks n h = (omega arith, (omega arith, omega arith))
 
--- the part from i * cellSize to cellSize further is the cell
+-- the bytes from i * cellSize on, cellSize of them, are cell i
 pub part-cell : (cells : List ℕ) (i : ℕ) → take (i * cellSize + cellSize - i * cellSize) (drop (i * cellSize) cells) ≡ cellAt cells i
 part-cell cells i =
     let e : i * cellSize + cellSize - i * cellSize ≡ cellSize = omega arith in
@@ -273,7 +273,7 @@ module _ (cells marks : List ℕ) where
   unfolding lastEnds
   ends-next n s = rw add-one
 
-  -- a row more: the view of the seat that its mark names grows, the others stay
+  -- one more row: the view of the seat that its mark names grows, the other views stay
   view-next : (n s : ℕ) → viewOf cells marks (n + 1) s
       ≡ cond (eqb (markAt marks n) s) (record { held = named marks s n + 1; ended = endedIn (heard (cellAt cells n)) }) (viewOf cells marks n s)
   view-next n s =

@@ -31,7 +31,7 @@ use Rattle.desk.proofs.StepLaws.{Took, took-used, took-key, Room, took-
 
 -- ---- rows that stay
 
--- what the first n rows say goes by them alone
+-- what the first n rows say depends only on these rows
 module _ (cells marks cells′ marks′ : List ℕ) where
   named-same : (s n : ℕ) → ((j : ℕ) → j < n → markAt marks′ j ≡ markAt marks j) → named marks′ s n ≡ named marks s n
   named-same s n em = count-ext n (λ i. eqb (markAt marks′ i) s) (λ i. eqb (markAt marks i) s) (λ j l. ap (λ (x : ℕ). eqb x s) (em j l))
@@ -207,7 +207,7 @@ module _ (m : Memory) (f : List ℕ) (o : Opening) (k : Opens m f o) where
   pub other-bit : (i : ℕ) → (i ≡ o .seat → ⊥) → usedBit (opened m o .bits) i ≡ usedBit (m .bits) i
   other-bit i n = set-other (m .bits) (o .seat) i (k .clear) n
 
-  -- a used seat is another one
+  -- a seat that is used is not the one that is opened
   pub used-other : (i : ℕ) → usedBit (m .bits) i ≡ true → i ≡ o .seat → ⊥
   used-other i u e = never (usedBit (m .bits) i) u (rw e (k .clear))
 

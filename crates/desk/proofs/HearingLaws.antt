@@ -1,4 +1,4 @@
--- A frame that is heard is as long as a cell. Assumes nothing.
+-- A frame that is accepted as a reply is as long as a cell. Assumes nothing.
 use Prim.Native.Nat.{ℕ}
 use mathlib.Core.List.{List}
 use mathlib.Core.Path.{_≡_, refl, sym}
@@ -15,7 +15,7 @@ use Rattle.frames.proofs.HeadLaws.{tried-gives, then-gives}
 use Rattle.desk.specs.Limits.{cellSize}
 use Rattle.desk.specs.Hearing.{heard}
 
--- frames that are read have their length
+-- a frame that is accepted has its kind's length
 read-long : {R : Type 0} (k : Kind R) (s : List ℕ) (r : R) → read k s ≡ gives r → length s ≡ k .size
 unfolding read headTold
 read-long k s r e =

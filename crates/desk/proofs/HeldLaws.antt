@@ -14,7 +14,7 @@ use Rattle.digits.proofs.Tests.{and-true}
 use Rattle.desk.proofs.Below.{first-none, first-more, first-hit, first-past}
 
 module _ (marks : List ℕ) (seat from : ℕ) where
-  -- a search begins past the cells before its place
+  -- a search starts after the cells before its place
   pub from-none : first from (heldFrom marks seat from) ≡ from
   from-none = first-none from (heldFrom marks seat from) (λ j l. rw (lt-leb from j l))
 

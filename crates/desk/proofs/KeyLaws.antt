@@ -1,4 +1,4 @@
--- Laws of keys, and that a request that was read has a legal one. Assumes nothing.
+-- Laws of keys; and a request that was read has a legal key. Assumes nothing.
 use Prim.Native.Nat.{ℕ}
 use mathlib.Core.List.{List}
 use mathlib.Core.Bool.{true}

@@ -1,4 +1,4 @@
--- What a capture leaves of the lent memory. Assumes nothing.
+-- What a capture leaves unchanged in the lent memory. Assumes nothing.
 use Prim.Native.Nat.{ℕ, _*_, _-_}
 use mathlib.Core.List.{List, [], _∷_}
 use mathlib.Core.Bool.{true}
@@ -20,7 +20,7 @@ use Rattle.desk.proofs.MixLaws.{after-taken, after-refused}
 use Rattle.desk.proofs.KeepsLaws.{keeps-memory}
 use Rattle.desk.proofs.CaptureLaws.{by-lead, meets-desk}
 
--- its length, and all behind the cells and marks that a desk can use
+-- the lengths, and everything after the cells and marks that a desk can use
 pub record Leaves (m x : Memory) : Type 0 where
   pub cells : length (x .cells) ≡ length (m .cells)
   pub marks : length (x .marks) ≡ length (m .marks)

@@ -1,4 +1,4 @@
--- Mixed replies: each request holds, and was answered, what the rule says of the frames addressed to it. Assumes nothing.
+-- Mixed replies: each request holds what the rule says of the frames addressed to it, and they were answered as it says. Assumes nothing.
 use Prim.Native.Nat.{ℕ, _+_, _<_, _≤_}
 use mathlib.Core.Bool.{Bool, true, false, cond, not}
 use mathlib.Core.Path.{_≡_, refl, sym, ap, _∙_}
@@ -34,7 +34,7 @@ use Rattle.desk.proofs.ClauseLaws.{Facts, desk-facts, facts-desk}
 use Rattle.desk.proofs.StepLaws.{keyed-used, keyed-key, Took, took, took-key, opens-taken}
 use Rattle.desk.proofs.DeskLaws.{taken-own, taken-other, taken-key, taken-capacity, records-own, records-other, taken-desk, opened-own, opened-other, opened-bit, other-bit, used-other, opened-holds, opened-desk, emptied-desk}
 
--- ---- what a call leaves, by what it tried
+-- ---- what a call leaves, by the result of its tests
 
 module _ (m : Memory) (f : Frame) where
   pub after-taken : (t : Taking) → replyTried m f ≡ gives t → replies m f ≡ record { answer = gives (t .seat); after = taken m f t }
@@ -81,7 +81,7 @@ stays-desk = record {
   reset = λ m. facts-desk (emptied m) (emptied-desk m);
 }
 
--- ---- the seat with a key is one
+-- ---- only one seat has a key
 
 clash : (m : Memory) (k : Key) (i j : ℕ) → Facts m → i < seatCount → j < i → keyedAt (m .row) (m .bits) k i ≡ true → keyedAt (m .row) (m .bits) k j ≡ true → ⊥
 clash m k i j d l h hi hj =
@@ -97,7 +97,7 @@ one-seat m k s d l h =
     (λ j i. false-or (keyedAt (m .row) (m .bits) k j) (λ hj. clash m k s j d l i h hj))
     h
 
--- it goes by keys and bits alone
+-- it depends only on keys and bits
 with-same : (m x : Memory) (k : Key) → Next m x → seatWith (x .row) (x .bits) k ≡ seatWith (m .row) (m .bits) k
 unfolding seatWith keyed
 with-same m x k n =
@@ -134,7 +134,7 @@ room-next m f es d h =
     let c = n .cap in
     omega arith
 
--- ---- a frame that is not addressed to a seat leaves it
+-- ---- a frame that is not addressed to a seat leaves that seat unchanged
 
 record Kept (m x : Memory) (s : ℕ) : Type 0 where
   seat : seatAt (x .row) s ≡ seatAt (m .row) s
@@ -150,7 +150,7 @@ else-by m f s h (gives t) e =
     rw (after-taken m f t e) (record { seat = taken-other m f t k s n; held = records-other m f t k s n })
 else-by m f s h (refuses why) e = rw (after-refused m f why e) (record { seat = refl; held = refl })
 
--- ---- a frame that is addressed to a seat is answered by it alone
+-- ---- a frame that is addressed to a seat is answered by that seat only
 
 abbrev anyAt : Memory → ℕ → Bool
 anyAt m s = not (eqb (seatAt (m .row) s .held) 0)
@@ -172,7 +172,7 @@ place-fits : (m : Memory) (f : Frame) (s : ℕ) (c : ReplyLabel) → heard f ≡
 unfolding inPlace
 place-fits m f s c e = rw (e, not-not (eqb (seatAt (m .row) s .held) 0))
 
--- what is tried, where the seat is s
+-- the tests of a frame whose seat is s
 own-tried : (m : Memory) (f : Frame) (s : ℕ) (c : ReplyLabel) → Facts m → s < seatCount → usedBit (m .bits) s ≡ true → m .count < capacity m
     → heard f ≡ gives c → sameKey (seatKey (seatAt (m .row) s)) (keyIn c) ≡ true
     → replyTried m f ≡ seatTried (seatAt (m .row) s) true (record { seat = s; status = c .status })
@@ -200,7 +200,7 @@ own : (m : Memory) (f : Frame) (s : ℕ) → Facts m → s < seatCount → usedB
     → addressed (seatKey (seatAt (m .row) s)) (toReply f) ≡ true → Own m f s
 own m f s d l u r h = own-heard m f s d l u r (heard f) refl (rw (addressed-heard (seatKey (seatAt (m .row) s)) f) at h)
 
--- a frame addressed to a used seat is one of those that are counted, so a cell is free
+-- a frame addressed to a used seat is one of those that are counted, and so a cell is free for it
 own-seated : (m : Memory) (s : ℕ) → Facts m → s < seatCount → usedBit (m .bits) s ≡ true → (got : Told ReplyLabel) → hasKey (seatKey (seatAt (m .row) s)) got ≡ true → seated m got ≡ true
 unfolding keyed
 own-seated m s d l u (gives c) h = rw (one-seat m (keyIn c) s d l (and-true u h)) (lt-ltb s seatCount l)
@@ -229,7 +229,7 @@ more-any n = ap not (ne-eqb (n + 1) 0 (λ e. omega arith))
 abbrev Rest : Outcome → List Event → ℕ → Key → Type 0
 Rest o es s k = Ends (o .after) es s k (heldBy (o .after) s) (anyAt (o .after) s) (overAt (o .after) s) (framesTo k es)
 
--- with the frame that was just answered in front
+-- the same with the frame that was just answered in front
 record Own-ends (m : Memory) (f : Frame) (es : List Event) (s : ℕ) (k : Key) : Type 0 where
   held : heldBy (run (replies m f .after) es) s ≡ heldBy m s ++ keeps (anyAt m s) (overAt m s) (f ∷ framesTo k es)
   answers : replies m f .answer ∷ answersTo k (replies m f .after) es ≡ says s (anyAt m s) (overAt m s) (f ∷ framesTo k es)

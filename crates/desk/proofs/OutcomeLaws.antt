@@ -19,13 +19,13 @@ use Rattle.desk.specs.Memory.{Memory, capacity}
 use Rattle.desk.specs.Desk.{isDesk}
 use Rattle.desk.specs.Calls.{whatIsGiven, requestTried, openTried, labelTried, replyTried, opens, opened, replies, taken, Did}
 
--- ---- what is tried further of an answer that is known
+-- ---- further tests of an answer that is known
 
 module _ {A B : Type 0} where
   pub given-on : (further : A → Told B) {t u : Told A} → t ≡ u → whatIsGiven t further ≡ whatIsGiven u further
   given-on further e = ap (λ (y : Told A). whatIsGiven y further) e
 
--- ---- DESK is tried first
+-- ---- DESK is tested first
 
 module _ (m : Memory) (f : List ℕ) where
   pub open-on : isDesk m ≡ true → whatIsGiven (read request f) (requestTried (m .row) (m .bits)) ≡ openTried m f
@@ -44,7 +44,7 @@ module _ (m : Memory) (f : List ℕ) where
   unfolding replyTried
   reply-off d = rw d
 
--- ---- a step of the code that changes no seat tells the first, as it is
+-- ---- a step of the code that changes no seat returns the first seat as it is
 
 abbrev sameFirst : Memory → Memory
 sameFirst m = record { row = set (m .row) 0 (seatAt (m .row) 0); bits = m .bits; count = m .count; cells = m .cells; marks = m .marks }

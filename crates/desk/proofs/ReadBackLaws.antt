@@ -1,4 +1,4 @@
--- Calls of `next_held`, one after the other, tell a seat's records in order. Assumes nothing.
+-- Calls of `next_held`, one after the other, return a seat's records in order. Assumes nothing.
 use Prim.Native.Nat.{ℕ, zero, suc, _+_}
 use mathlib.Core.List.{List, [], _∷_, _++_, append-assoc, append-nil}
 use mathlib.Core.Bool.{Bool, true, false, cond, _&&_}
@@ -54,7 +54,7 @@ module _ (m : Memory) (s : ℕ) where
   unfolding nextHeld
   here i g e h = sym (found-cell (m .marks) s i limit limit refl i (omega (arith, e)) (omega arith) (from-none (m .marks) s i) h)
 
-  -- a cell of another seat is passed
+  -- a cell of another seat is skipped
   pass : (i j : ℕ) → (markAt (m .marks) i ≡ s → ⊥) → search i j ≡ search (suc i) j
   pass i j n =
       eq-case j i

@@ -1,4 +1,4 @@
--- The rule over letters and keys is what the desk's own tests come to, frame by frame. Assumes nothing.
+-- The rule, which uses letters and keys, agrees with the desk's own tests, frame by frame. Assumes nothing.
 use Prim.Native.Nat.{ℕ}
 use mathlib.Core.List.{List, [], _∷_}
 use mathlib.Core.Bool.{Bool, true, false, cond, not, _||_}
@@ -15,7 +15,7 @@ use Rattle.desk.specs.Hearing as C
 use Rattle.desk.specs.Rule.{Frame, isTo, letterIn, hasStatusE, hasStatusZ, withoutZ, upToE, keptFirst, kept, saidEnded, saidAmong, saidFirst, said}
 use Rattle.desk.specs.Mix.{toReply, addressed}
 
--- ---- as the desk tries a frame
+-- ---- how the desk tests a frame
 
 -- a request that holds records takes no Z
 abbrev pub fits : Bool → Frame → Bool

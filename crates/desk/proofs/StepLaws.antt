@@ -1,4 +1,4 @@
--- What is known of an opening and of a reply that were taken. Assumes nothing.
+-- What is known of an opening and of a reply that are taken. Assumes nothing.
 use Prim.Native.Nat.{ℕ, _+_, _*_, _≤_, _<_}
 use mathlib.Core.List.{List}
 use mathlib.Core.Bool.{true, false, not}
@@ -31,7 +31,7 @@ use Rattle.desk.proofs.KeyLaws.{same-key, request-legal}
 use Rattle.desk.proofs.HearingLaws.{heard-long}
 use Rattle.desk.proofs.ClauseLaws.{Facts, desk-facts}
 
--- ---- answers that gave something
+-- ---- answers that are not refusals
 
 module _ {A B : Type 0} where
   record Given (x : Told A) (further : A → Told B) (b : B) : Type 0 where
@@ -112,7 +112,7 @@ module _ (m : Memory) (f : List ℕ) (t : Taking) (k : Took m f t) where
   pub took-key : seatKey (seatAt (m .row) (t .seat)) ≡ keyIn (k .label)
   took-key = keyed-key (m .row) (m .bits) (keyIn (k .label)) (t .seat) took-keyed
 
--- what the stores of a taken reply need
+-- what must hold for the stores of a taken reply
 pub record Room (m : Memory) (f : List ℕ) (t : Taking) : Type 0 where
   pub seat : t .seat < seatCount
   pub count : m .count < mostCells

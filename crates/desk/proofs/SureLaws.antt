@@ -1,4 +1,4 @@
--- The desk's calls refuse by the table of refusals alone. Assumes nothing.
+-- The desk's calls refuse only with refusals of the table. Assumes nothing.
 use Prim.Native.Nat.{ℕ}
 use mathlib.Core.List.{List}
 use mathlib.Core.Bool.{Bool, true, false, cond, not}

@@ -1,4 +1,4 @@
--- No second outcome meets the promise of an opening, of a reply or of a capture. Assumes nothing.
+-- Only one outcome meets the promise of an opening, of a reply or of a capture. Assumes nothing.
 use Prim.Native.Nat.{ℕ}
 use mathlib.Core.List.{List}
 use mathlib.Core.Bool.{Bool, cond}
@@ -26,7 +26,7 @@ use Rattle.desk.specs.Capture.{captureTold, TookCapture}
 use Rattle.desk.specs.Calls.{openTold, replyTold, OpenDid, ReplyDid}
 use Rattle.desk.specs.Unique.{OneOutcome}
 
--- ---- what was told leads back to the answer: each refusal has a number and an offset of its own
+-- ---- an answer can be recovered from what it means on paper: no two refusals have the same number and offset
 
 abbrev sameNumber : Refusal → Refusal → Bool
 sameNumber f g = eqb (f .number) (g .number)

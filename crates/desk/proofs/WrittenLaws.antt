@@ -1,4 +1,4 @@
--- A cell that is written: the cells before it and behind it stay, and it holds the frame. Assumes nothing.
+-- A cell that is written holds the frame, and the cells before and after it stay as they were. Assumes nothing.
 use Prim.Native.Nat.{ℕ, _+_, _-_, _<_, _≤_}
 use mathlib.Core.List.{List, _++_, append-assoc}
 use mathlib.Core.Path.{_≡_, sym, ap, _∙_}

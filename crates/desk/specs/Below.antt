@@ -13,7 +13,7 @@ unfoldable pub countBelow : ℕ → (ℕ → Bool) → ℕ
 countBelow zero p = zero
 countBelow (suc n) p = cond (p n) (suc (countBelow n p)) (countBelow n p)
 
--- the first number below n that passes, n where none does
+-- the first number below n that passes, or n if none does
 unfoldable pub first : ℕ → (ℕ → Bool) → ℕ
 first zero p = zero
 first (suc n) p = cond (ltb (first n p) n) (first n p) (cond (p n) n (suc n))

@@ -1,4 +1,4 @@
--- The calls of the desk: what each answers, and the state and memory that it leaves.
+-- The calls of the desk: what each one answers, and the state and memory that it leaves.
 use Prim.Native.Nat.{ℕ, _+_, _*_, _^_, min}
 use mathlib.Core.List.{List, _++_}
 use mathlib.Core.Bool.{Bool, cond, not, _&&_}
@@ -47,36 +47,40 @@ pub record Outcome : Type 0 where
   pub after : Memory
 
 module _ {A B : Type 0} where
-  -- a refusal stands, and what was given is tried further
+  -- a refusal stays; what was given is tested further
   abbrev pub whatIsGiven : Told A → (A → Told B) → Told B
   whatIsGiven (gives a) further = further a
   whatIsGiven (refuses f) further = refuses f
 
 -- ---- an opening
 
--- the letter q asks for no answer
+-- information q: no answer is due
 abbrev pub letterQ : ℕ
 letterQ = 113
 
+-- the key must be at no seat, and a seat must be free: the lowest clear bit
 unfoldable pub keyTried : List Seat → ℕ → Key → Told Opening
 keyTried row bits k =
     tried (leb seatCount (seatWith row bits k)) IN-USE
     (tried (ltb (lowestClear bits) seatCount) NO-SEAT
     (gives (record { seat = lowestClear bits; key = k })))
 
+-- the information must not be q
 unfoldable pub requestTried : List Seat → ℕ → StaticRequest → Told Opening
 requestTried row bits r = tried (not (eqb (r .information) letterQ)) NO-ANSWER-DUE (keyTried row bits (requestKey r))
 
+-- an opening is tested in this order: desk, frame, information, key, free seat
 unfoldable pub openTried : Memory → List ℕ → Told Opening
 openTried m f = tried (isDesk m) DESK (whatIsGiven (read request f) (requestTried (m .row) (m .bits)))
 
 abbrev pub newSeat : Key → Seat
 newSeat k = record { requester = k .requester; number = k .number; held = 0; ended = 0 }
 
--- the seat gets the key, and its bit is set; all else stays
+-- the seat gets the key, and its bit is set; nothing else changes
 abbrev pub opened : Memory → Opening → Memory
 opened m o = record { row = set (m .row) (o .seat) (newSeat (o .key)); bits = m .bits + 2 ^ (o .seat); count = m .count; cells = m .cells; marks = m .marks }
 
+-- the outcome: the seat and the memory with it opened, or the refusal and the memory as it was
 abbrev pub openOutcome : Memory → Told Opening → Outcome
 openOutcome m (gives o) = record { answer = gives (o .seat); after = opened m o }
 openOutcome m (refuses f) = record { answer = refuses f; after = m }
@@ -86,10 +90,11 @@ opens m f = openOutcome m (openTried m f)
 
 -- ---- a reply
 
--- a seat that had its ending record
+-- the seat has had its E or Z
 abbrev pub over : Seat → Bool
 over s = not (eqb (s .ended) 0)
 
+-- tested in this order: the seat has not ended, a Z is its first record, and a cell is free
 unfoldable pub seatTried : Seat → Bool → Taking → Told Taking
 seatTried s free t =
     tried (not (over s)) ENDED
@@ -97,23 +102,25 @@ seatTried s free t =
     (tried free FULL
     (gives t)))
 
+-- STRAY if no seat has the reply's key; otherwise that seat is tested further
 unfoldable pub labelTried : List Seat → ℕ → Bool → ReplyLabel → Told Taking
 labelTried row bits free l =
     tried (ltb (seatWith row bits (keyIn l)) seatCount) STRAY
     (seatTried (seatAt row (seatWith row bits (keyIn l))) free (record { seat = seatWith row bits (keyIn l); status = l .status }))
 
+-- a reply is tested in this order: desk, frame, key, and then the three tests of the seat
 unfoldable pub replyTried : Memory → List ℕ → Told Taking
 replyTried m f = tried (isDesk m) DESK (whatIsGiven (heard f) (labelTried (m .row) (m .bits) (ltb (m .count) (capacity m))))
 
--- a seat with one record more
+-- the seat with one more record, ended if the status is E or Z
 abbrev pub grown : Seat → ℕ → Seat
 grown s status = record { requester = s .requester; number = s .number; held = s .held + 1; ended = endedBy status }
 
--- the cells with a frame in place of the one that begins at a place
+-- the cells with the frame f stored over the cell that begins at byte `at`
 abbrev pub withCell : List ℕ → ℕ → List ℕ → List ℕ
 withCell cells at f = take at cells ++ f ++ drop (at + cellSize) cells
 
--- the frame goes to the next cell and its seat to the mark beside it; the seat has one record more; all else stays
+-- the frame goes to the cell at the count and its seat to the mark beside it; the seat holds one more record; the count grows by one; nothing else changes
 abbrev pub taken : Memory → List ℕ → Taking → Memory
 taken m f t =
     record {
@@ -124,6 +131,7 @@ taken m f t =
       marks = set (m .marks) (m .count) (t .seat);
     }
 
+-- the outcome: the seat and the memory with the reply in it, or the refusal and the memory as it was
 abbrev pub replyOutcome : Memory → List ℕ → Told Taking → Outcome
 replyOutcome m f (gives t) = record { answer = gives (t .seat); after = taken m f t }
 replyOutcome m f (refuses why) = record { answer = refuses why; after = m }
@@ -142,21 +150,21 @@ emptyState = record { bits = 0; count = 0 }
 abbrev pub emptyDesk : Emptied
 emptyDesk = record { desk = emptyState; row = emptyRow }
 
--- cells and marks stay
+-- a memory after a reset: seats, bits and count are zero; cells and marks stay
 abbrev pub emptied : Memory → Memory
 emptied m = memory emptyState emptyRow (m .cells) (m .marks)
 
--- refused only if the row is not of as many seats; it looks at nothing else
+-- refused only if the row does not have sixteen seats; nothing else is looked at
 unfoldable pub resets : Memory → Outcome
 resets m = cond (allSeats m) (record { answer = gives 0; after = emptied m }) (record { answer = refuses DESK; after = m })
 
--- the ones of a number of 64 bits
+-- how many bits are set in a number of 64 bits
 unfoldable pub seatsInUse : ℕ → ℕ
 seatsInUse bits = countBelow 64 (usedBit bits)
 
 -- ---- reading records back
 
--- the cells that count: held, and there
+-- how many cells are looked at: those that are counted as held and for which there is memory
 abbrev pub heldCells : ℕ → List ℕ → List ℕ → ℕ
 heldCells count cells marks = min count (capacityOf (length cells) (length marks))
 
@@ -166,12 +174,12 @@ heldFrom marks seat from i = leb from i && eqb (markAt marks i) seat
 abbrev pub heldAnswer : ℕ → ℕ → Held
 heldAnswer limit i = cond (ltb i limit) (Cell i) Nothing
 
--- the first of them from a place on whose mark names the seat
+-- the first of these cells from a place on whose mark names the seat
 unfoldable pub nextHeld : ℕ → List ℕ → List ℕ → ℕ → ℕ → Held
 nextHeld count cells marks seat from =
     heldAnswer (heldCells count cells marks) (first (heldCells count cells marks) (heldFrom marks seat from))
 
--- ---- what the answers of the code say on paper
+-- ---- what the answers of the code mean on paper
 
 abbrev pub openRefused : OpenRefusal → Refusal
 openRefused open-no-desk = DESK
@@ -196,15 +204,15 @@ abbrev pub replyTold : ReplyAnswer → Told ℕ
 replyTold (Taken s) = gives s
 replyTold (Refused f) = refuses (replyRefused f)
 
--- what is promised of a call: its answer and all of the memory are the outcome's
+-- what is promised of a call: its answer and the whole memory after it are those of the outcome
 pub record Did (told : Told ℕ) (after : Memory) (o : Outcome) : Type 0 where
   pub answer : told ≡ o .answer
   pub memory : after ≡ o .after
 
--- of an opening: cells and marks are lent to be read
+-- of an opening: cells and marks are lent only to be read
 abbrev pub OpenDid : Memory → List ℕ → OpenDone → Type 0
 OpenDid m f r = Did (openTold (r .answer)) (memory (r .desk) (r .row) (m .cells) (m .marks)) (opens m f)
 
--- of a reply, with the cells and marks after it
+-- of a reply: with the cells and marks after it
 abbrev pub ReplyDid : Memory → List ℕ → ReplyDone → List ℕ → List ℕ → Type 0
 ReplyDid m f r cells′ marks′ = Did (replyTold (r .answer)) (memory (r .desk) (r .row) cells′ marks′) (replies m f)

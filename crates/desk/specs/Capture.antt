@@ -1,4 +1,4 @@
--- A capture on a desk: what becomes of each of its frames, and what the desk then holds.
+-- A capture on a desk: what becomes of each of its frames, and what the desk holds afterwards.
 use Prim.Native.Nat.{ℕ, zero, suc, _+_}
 use mathlib.Core.List.{List, [], _∷_}
 use mathlib.Core.Bool.{Bool, true, false, cond}
@@ -38,26 +38,26 @@ pub record Step : Type 0 where
   pub fate : Fate
   pub after : Memory
 
--- the lead bytes of what goes to the opening, and to the reply call
+-- the lead bytes of the frames that go to the opening and to the reply call
 abbrev pub openLead : ℕ
 openLead = request .lead
 
 abbrev pub replyLead : ℕ
 replyLead = reply .lead
 
--- any other frame goes to the reader of dynamic requests
+-- a frame goes to the call of its lead byte: the opening, the reply call, or for any other lead byte the reader of dynamic requests
 unfoldable pub meets : Memory → List ℕ → Step
 meets m f =
     cond (eqb (getD f 0 0) openLead) (record { fate = fateBy Opened (opens m f .answer); after = opens m f .after })
     (cond (eqb (getD f 0 0) replyLead) (record { fate = fateBy Collected (replies m f .answer); after = replies m f .after })
     (record { fate = dynamicFate (read dynamic f); after = m }))
 
--- a cut frame counts as refused
+-- a cut frame is refused
 abbrev pub meetsPiece : Memory → Piece → Step
 meetsPiece m (whole start bytes) = meets m bytes
 meetsPiece m (cut start bytes) = record { fate = Refused; after = m }
 
--- ---- all frames, in order
+-- ---- all frames, in order, each on the memory that the one before left
 
 unfoldable pub fates : Memory → List Piece → List Fate
 fates m [] = []
@@ -97,7 +97,7 @@ unfoldable pub howMany : (Fate → Bool) → List Fate → ℕ
 howMany p [] = zero
 howMany p (x ∷ xs) = cond (p x) (suc (howMany p xs)) (howMany p xs)
 
--- requests opened, replies collected, dynamic requests, frames refused: each by its own rule
+-- requests opened, replies collected, dynamic requests, frames refused
 abbrev pub countsOf : List Fate → Counts
 countsOf l = record { opened = howMany isOpened l; collected = howMany isCollected l; dynamic = howMany isDynamic l; refused = howMany isRefused l }
 
@@ -116,12 +116,12 @@ abbrev pub captures : Memory → List ℕ → Captured
 captures m s =
     record { answer = tried (isDesk m) DESK (gives (countsOf (fates m (pieces s)))); after = cond (isDesk m) (afterAll m (pieces s)) m }
 
--- what is promised of a capture s: the counts, and all of the memory
+-- what is promised of taking a capture s: the answer, and the whole memory
 pub record TookCapture (m : Memory) (s : List ℕ) (answer : CaptureAnswer) (after : Memory) : Type 0 where
   pub told : captureTold answer ≡ captures m s .answer
   pub memory : after ≡ captures m s .after
 
--- the four counts add up to the frames found, which are the lead bytes of the capture
+-- the four counts add up to the frames found, which are as many as the lead bytes of the capture
 abbrev pub CountsAddUp : Type 0
 CountsAddUp =
     (m : Memory) (s : List ℕ)

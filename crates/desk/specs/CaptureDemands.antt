@@ -1,4 +1,4 @@
--- What is demanded of a capture: it is a run of calls, and each of its counts goes by a rule of its own.
+-- What is demanded of a capture: it is a run of calls, and each of its counts follows a rule of its own.
 use Prim.Native.Nat.{ℕ, zero, suc, _+_, _≤_}
 use mathlib.Core.List.{List, [], _∷_, _++_}
 use mathlib.Core.Bool.{Bool, true, false, cond}
@@ -24,7 +24,7 @@ use Rattle.desk.specs.Capture.{captures}
 
 -- ---- a capture is a run of calls
 
--- the calls that its whole frames go to by their lead bytes: DC1 to the opening, DC2 to the reply call
+-- the calls that the whole frames are given to by their lead bytes: DC1 to the opening, DC2 to the reply call
 unfoldable pub events : List Piece → List Event
 events [] = []
 events (whole start f ∷ ps) =
@@ -36,7 +36,7 @@ events (cut start f ∷ ps) = events ps
 abbrev pub CaptureIsRun : Type 0
 CaptureIsRun = (m : Memory) (s : List ℕ) → isDesk m ≡ true → captures m s .after ≡ run m (events (pieces s))
 
--- so mixed replies are sorted in a capture too: taken on an emptied desk, with its openings first
+-- mixed replies are sorted in a capture too, if it is taken on an emptied desk and its openings come first
 abbrev pub CaptureSorts : Type 0
 CaptureSorts =
     (m : Memory) (s : List ℕ) (before after : List Frame) (f : Frame) (r : StaticRequest) (es : List Event) (seat : ℕ)
@@ -51,19 +51,19 @@ abbrev pub isGiven : Told DynamicRequest → Bool
 isGiven (gives r) = true
 isGiven (refuses f) = false
 
--- the whole frames that the reader of dynamic requests takes
+-- how many whole frames the reader of dynamic requests takes
 unfoldable pub dynamicIn : List Piece → ℕ
 dynamicIn [] = zero
 dynamicIn (whole start f ∷ ps) = cond (isGiven (read dynamic f)) (suc (dynamicIn ps)) (dynamicIn ps)
 dynamicIn (cut start f ∷ ps) = dynamicIn ps
 
 pub record Counted (m : Memory) (s : List ℕ) (after : Memory) (c : Counts) : Type 0 where
-  -- as many seats more are in use
+  -- requests opened: so many more seats are in use
   pub opened : seatsInUse (after .bits) ≡ seatsInUse (m .bits) + c .opened
-  -- as many cells more are held
+  -- replies collected: so many more cells are held
   pub collected : after .count ≡ m .count + c .collected
   pub dynamic : c .dynamic ≡ dynamicIn (pieces s)
-  -- every other frame found is refused: together they are the lead bytes of the capture
+  -- every other frame found is refused: all four together are as many as the lead bytes of the capture
   pub all : c .opened + c .collected + c .dynamic + c .refused ≡ count isLead s
 
 abbrev pub CountsAreRight : Type 0

@@ -1,4 +1,4 @@
--- Calls on small desks, worked out: each refusal by its number, over the bytes of frames.
+-- Calls on small desks, worked out: each refusal by its number, from the bytes of frames.
 use Prim.Native.Nat.{ℕ}
 use Prim.Native.String.{String}
 use mathlib.Core.List.{List, [], _∷_, _++_}
@@ -11,7 +11,7 @@ use Rattle.desk.specs.Memory.{Memory, capacityOf, heldBy}
 use Rattle.desk.specs.Calls.{opens, replies, emptied, seatsInUse}
 use Rattle.desk.specs.Mix.{Event, toReply, happens, run, openings, repliesTo}
 
--- no seats, and room for this many cells
+-- no seats, and lent cells of this many bytes with this many marks
 abbrev pub lending : ℕ → ℕ → Memory
 lending bytes marks = record { row = []; bits = 0; count = 0; cells = replicate bytes 0; marks = replicate marks 0 }
 
@@ -24,11 +24,11 @@ abbrev pub replyTo : String → String → String → String → List ℕ
 replyTo status requester number bib =
     18 ∷ (codes "R SO" ++ (codes status ++ (codes requester ++ (codes number ++ (codes bib ++ (codes "000002000000P000000000000000000  " ++ (13 ∷ [])))))))
 
--- a reply to that of requester 1, with this status
+-- a reply to the request of requester 1, with this status
 abbrev pub replying : String → List ℕ
 replying status = replyTo status "1" "00007" "00015"
 
--- an emptied desk with two cells, and the same with that request open
+-- an emptied desk with two cells, and the same desk with the request of requester 1 opened
 abbrev pub bare : Memory
 bare = emptied (lending 102 2)
 
@@ -41,7 +41,7 @@ sixteen =
     asking "0" "P" ∷ asking "1" "P" ∷ asking "2" "P" ∷ asking "3" "P" ∷ asking "4" "P" ∷ asking "5" "P" ∷ asking "6" "P" ∷ asking "7" "P"
     ∷ asking "8" "P" ∷ asking "9" "P" ∷ asking "A" "P" ∷ asking "Z" "P" ∷ asking "a" "P" ∷ asking "b" "P" ∷ asking "y" "P" ∷ asking "z" "P" ∷ []
 
--- both cells taken, the request going on or ended
+-- the desk with both cells taken; the last status says whether the request goes on or has ended
 abbrev pub crowded : String → Memory
 crowded status = replies (replies asked (replying "R") .after) (replying status) .after
 
@@ -59,7 +59,7 @@ pub record Worked : Type 0 where
   pub ended-by-Z : replies (replies asked (replying "Z") .after) (replying "R") .answer ≡ refuses (plain 14)
   pub out-of-place : replies (replies asked (replying "R") .after) (replying "Z") .answer ≡ refuses (plain 15)
   pub full : replies (crowded "R") (replying "R") .answer ≡ refuses (plain 16)
-  -- of two faults the one that is tried first is told
+  -- of two faults, the one that is tested first is reported
   pub desk-before-frame : opens (lending 102 2) [] .answer ≡ refuses (plain 9)
   pub frame-before-q : opens bare (asking "[" "q") .answer ≡ refuses (placed 5 3)
   pub q-before-in-use : opens asked (asking "1" "q") .answer ≡ refuses (plain 10)
@@ -69,16 +69,16 @@ pub record Worked : Type 0 where
   pub ended-before-out-of-place : replies (crowded "E") (replying "Z") .answer ≡ refuses (plain 14)
   pub ended-before-full : replies (crowded "E") (replying "R") .answer ≡ refuses (plain 14)
   pub out-of-place-before-full : replies (crowded "R") (replying "Z") .answer ≡ refuses (plain 15)
-  -- how many cells a desk has: 51 bytes and a mark each, 256 at most
+  -- how many cells a desk has: 51 bytes and a mark for each, and at most 256
   pub cells-256 : capacityOf 13056 256 ≡ 256
   pub no-more-cells : capacityOf 26112 512 ≡ 256
   pub a-byte-less : capacityOf 13055 256 ≡ 255
   pub a-mark-less : capacityOf 13056 255 ≡ 255
-  -- how many seats are in use: the ones of the number
+  -- how many seats are in use: the bits that are set
   pub two-seats : seatsInUse 32769 ≡ 2
   pub all-seats : seatsInUse 65535 ≡ 16
 
--- ---- three requests, and their replies mixed: on a desk with nine cells, as many as there are replies to them
+-- ---- three requests with their replies mixed, on a desk with nine cells: as many as there are replies to these requests
 
 abbrev pub three : Memory
 three = run (emptied (lending 459 9)) (openings (asking "1" "P" ∷ asking "A" "P" ∷ asking "z" "P" ∷ []))
@@ -90,9 +90,9 @@ mixed =
     -- a stray with the same number, and one with the same requester
     ∷ toReply (replyTo "R" "B" "00007" "00003")
     ∷ toReply (replyTo "R" "A" "00107" "00004")
-    -- damaged at the bib
+    -- damaged in the bib
     ∷ toReply (replyTo "E" "1" "00007" "0000x")
-    -- a first Z, and one out of place
+    -- a Z as first record, and a Z out of place
     ∷ toReply (replyTo "Z" "z" "00007" "00005")
     ∷ toReply (replyTo "Z" "A" "00007" "00006")
     ∷ toReply (replyTo "E" "1" "00007" "00007")
@@ -121,5 +121,5 @@ pub record MixWorked : Type 0 where
   pub held-by-1 : heldBy (run three mixed) 0 ≡ replyTo "R" "1" "00007" "00002" ∷ replyTo "E" "1" "00007" "00007" ∷ []
   pub held-by-A : heldBy (run three mixed) 1 ≡ replyTo "R" "A" "00007" "00001" ∷ replyTo "R" "A" "00007" "00000" ∷ replyTo "E" "A" "00007" "00010" ∷ []
   pub held-by-z : heldBy (run three mixed) 2 ≡ replyTo "Z" "z" "00007" "00005" ∷ []
-  -- six are kept; the three refused after the end or out of place count as replies too
+  -- six are kept; the three that are refused after the end or out of place count as replies too
   pub bound : repliesTo three mixed ≡ 9

@@ -1,4 +1,4 @@
--- What makes a desk: a definition for each clause, and all of them in the paper's order.
+-- What makes a desk: a definition for each of the eleven clauses, and all of them in the paper's order.
 use Prim.Native.Nat.{ℕ, zero, suc, _^_}
 use mathlib.Core.List.{List}
 use mathlib.Core.Bool.{Bool, true, cond, not, _&&_}
@@ -13,11 +13,11 @@ use Rattle.desk.specs.Hearing.{heard, hasKey, statusIn, endedIn}
 use Rattle.desk.specs.Seats.{seatAt, usedBit, keyedAt}
 use Rattle.desk.specs.Memory.{Memory, capacity, cellAt, markAt}
 
--- used seat i has a key that a static request can have
+-- clause 3: seat i, if used, has a key that a static request can have
 abbrev pub keyLegal : List Seat → ℕ → ℕ → Bool
 keyLegal row bits i = cond (usedBit bits i) (isKey (seatKey (seatAt row i))) true
 
--- used seats i and j do not share a key
+-- clause 4: seats i and j, if both are used, do not share a key
 abbrev pub apartAt : List Seat → ℕ → ℕ → ℕ → Bool
 apartAt row bits i j = cond (usedBit bits i) (not (keyedAt row bits (seatKey (seatAt row i)) j)) true
 
@@ -27,18 +27,18 @@ apartBelow row bits i = allBelow i (apartAt row bits i)
 unfoldable pub isZero : Seat → Bool
 isZero s = eqb (s .requester) 0 && eqb (s .number) 0 && eqb (s .held) 0 && eqb (s .ended) 0
 
--- unused seat i is all zero
+-- clause 5: seat i, if unused, is all zero
 abbrev pub unusedZero : List Seat → ℕ → ℕ → Bool
 unusedZero row bits i = cond (usedBit bits i) true (isZero (seatAt row i))
 
--- a mark names a used seat
+-- clause 7: a mark names a used seat
 unfoldable pub markNames : ℕ → ℕ → Bool
 markNames bits mark = ltb mark seatCount && usedBit bits mark
 
 abbrev pub markGood : ℕ → List ℕ → ℕ → Bool
 markGood bits marks i = markNames bits (markAt marks i)
 
--- cell i is a well formed reply with its seat's key
+-- clause 8: cell i is a well formed reply with the key of the seat that its mark names
 abbrev pub cellKeyed : List Seat → List ℕ → List ℕ → ℕ → Bool
 cellKeyed row cells marks i = hasKey (seatKey (seatAt row (markAt marks i))) (heard (cellAt cells i))
 
@@ -46,11 +46,11 @@ cellKeyed row cells marks i = hasKey (seatKey (seatAt row (markAt marks i))) (he
 abbrev pub named : List ℕ → ℕ → ℕ → ℕ
 named marks s n = countBelow n (λ i. eqb (markAt marks i) s)
 
--- used seat s holds as many records as marks name it
+-- clause 9: seat s, if used, holds as many records as marks below the count name it
 abbrev pub heldRight : List Seat → ℕ → ℕ → List ℕ → ℕ → Bool
 heldRight row bits count marks s = cond (usedBit bits s) (eqb (seatAt row s .held) (named marks s count)) true
 
--- within a seat only the last may be E or Z, Z only alone: of two of its cells the earlier is neither, and the later no Z
+-- clause 10: of two cells j < i of one seat the earlier is neither E nor Z, and the later is no Z
 abbrev pub placedAfter : List ℕ → List ℕ → ℕ → ℕ → Bool
 placedAfter cells marks i j =
     cond (eqb (markAt marks j) (markAt marks i))
@@ -60,19 +60,21 @@ placedAfter cells marks i j =
 abbrev pub placed : List ℕ → List ℕ → ℕ → Bool
 placed cells marks i = allBelow i (placedAfter cells marks i)
 
--- 1 where the last of the first n cells that are seat s's is E or Z, otherwise 0
+-- 1 if the last cell of seat s among the first n cells is E or Z, otherwise 0
 unfoldable pub lastEnds : List ℕ → List ℕ → ℕ → ℕ → ℕ
 lastEnds cells marks s zero = 0
 lastEnds cells marks s (suc n) = cond (eqb (markAt marks n) s) (endedIn (heard (cellAt cells n))) (lastEnds cells marks s n)
 
--- used seat s says whether its last is E or Z
+-- clause 11: seat s, if used, has ended (1) if its last cell is E or Z, and otherwise not (0)
 abbrev pub endedRight : List Seat → ℕ → ℕ → List ℕ → List ℕ → ℕ → Bool
 endedRight row bits count cells marks s = cond (usedBit bits s) (eqb (seatAt row s .ended) (lastEnds cells marks s count)) true
 
 module _ (m : Memory) where
+  -- clause 1: there are sixteen seats
   abbrev pub allSeats : Bool
   allSeats = eqb (length (m .row)) seatCount
 
+  -- clause 2: no bit above them is set
   abbrev pub noBitAbove : Bool
   noBitAbove = ltb (m .bits) (2 ^ seatCount)
 
@@ -85,6 +87,7 @@ module _ (m : Memory) where
   abbrev pub unusedAllZero : Bool
   unusedAllZero = allBelow seatCount (unusedZero (m .row) (m .bits))
 
+  -- clause 6: the count is at most the capacity
   abbrev pub countFits : Bool
   countFits = leb (m .count) (capacity m)
 

@@ -1,4 +1,4 @@
--- What makes a desk, worked out: a small desk, and for each clause one memory that breaks it.
+-- What makes a desk, worked out: a small desk, and for each clause a memory that breaks it.
 use Prim.Native.Nat.{ℕ}
 use Prim.Native.String.{String}
 use mathlib.Core.List.{List, [], _∷_, _++_}
@@ -13,7 +13,7 @@ use Rattle.desk.specs.Cases.{replyTo}
 abbrev pub seat : ℕ → ℕ → ℕ → ℕ → Seat
 seat requester number held ended = record { requester = requester; number = number; held = held; ended = ended }
 
--- 1 has two records and is over, A has one
+-- requester 1 has two records and has ended, requester A has one
 abbrev pub one : Seat
 one = seat 49 7 2 1
 
@@ -24,7 +24,7 @@ two = seat 65 7 1 0
 abbrev pub told : String → String → List ℕ
 told requester status = replyTo status requester "00007" "00015"
 
--- three records, and a cell that is free
+-- three records, and a free cell
 abbrev pub cells : List ℕ → List ℕ → List ℕ → List ℕ
 cells a b c = a ++ b ++ c ++ replicate 51 0
 
@@ -35,14 +35,14 @@ records = cells (told "1" "R") (told "A" "R") (told "1" "E")
 abbrev pub with : List Seat → ℕ → ℕ → List ℕ → List ℕ → Memory
 with row bits count cells marks = record { row = row; bits = bits; count = count; cells = cells; marks = marks }
 
--- the two seats first, then a third, and thirteen of zeros
+-- the first three seats, and thirteen seats of zeros
 abbrev pub seats : Seat → Seat → Seat → List Seat
 seats a b c = a ∷ b ∷ c ∷ replicate 13 (seat 0 0 0 0)
 
 abbrev pub none : Seat
 none = seat 0 0 0 0
 
--- what a mark says of a free cell does not count
+-- the last mark is that of a free cell: it is not looked at
 abbrev pub marks : List ℕ
 marks = 0 ∷ 1 ∷ 0 ∷ 99 ∷ []
 
@@ -57,7 +57,7 @@ pub record DeskWorked : Type 0 where
   pub key-B : isDesk (with (seats one two (seat 66 999 0 0)) 7 3 records marks) ≡ true
   pub key-of-64 : isDesk (with (seats one two (seat 64 999 0 0)) 7 3 records marks) ≡ false
   pub key-1000 : isDesk (with (seats one two (seat 66 1000 0 0)) 7 3 records marks) ≡ false
-  -- and no two alike
+  -- no two used seats share a key
   pub same-key : isDesk (with (seats one two (seat 65 7 0 0)) 7 3 records marks) ≡ false
   pub same-number : isDesk (with (seats one two (seat 97 7 0 0)) 7 3 records marks) ≡ true
   -- unused seats are all zero
@@ -71,20 +71,20 @@ pub record DeskWorked : Type 0 where
   -- marks name used seats
   pub mark-of-unused : isDesk (with (seats one (seat 65 7 0 0) none) 3 3 records (0 ∷ 2 ∷ 0 ∷ [])) ≡ false
   pub mark-16 : isDesk (with (seats one (seat 65 7 0 0) none) 3 3 records (0 ∷ 16 ∷ 0 ∷ [])) ≡ false
-  -- cells are well formed replies, with the keys of their seats
+  -- cells are well formed replies with the keys of their seats
   pub damaged : isDesk (with (seats one two none) 3 3 (cells (told "1" "R") (told "A" "Q") (told "1" "E")) marks) ≡ false
   pub of-another : isDesk (with (seats one two none) 3 3 (cells (told "1" "R") (told "a" "R") (told "1" "E")) marks) ≡ false
   pub of-another-number : isDesk (with (seats one two none) 3 3 (cells (told "1" "R") (replyTo "R" "A" "00008" "00015") (told "1" "E")) marks) ≡ false
-  -- a seat holds as many as marks name it
+  -- a seat holds as many records as marks name it
   pub held-less : isDesk (with (seats (seat 49 7 1 1) two none) 3 3 records marks) ≡ false
   pub held-more : isDesk (with (seats (seat 49 7 3 1) two none) 3 3 records marks) ≡ false
-  -- only the last is E or Z, and Z only alone
+  -- only the last record is E or Z, and a Z is the only one
   pub E-first : isDesk (with (seats (seat 49 7 2 0) two none) 3 3 (cells (told "1" "E") (told "A" "R") (told "1" "R")) marks) ≡ false
   pub E-twice : isDesk (with (seats one two none) 3 3 (cells (told "1" "E") (told "A" "R") (told "1" "E")) marks) ≡ false
   pub Z-first : isDesk (with (seats (seat 49 7 2 0) two none) 3 3 (cells (told "1" "Z") (told "A" "R") (told "1" "R")) marks) ≡ false
   pub Z-last : isDesk (with (seats one two none) 3 3 (cells (told "1" "R") (told "A" "R") (told "1" "Z")) marks) ≡ false
   pub Z-alone : isDesk (with (seats one (seat 65 7 1 1) none) 3 3 (cells (told "1" "R") (told "A" "Z") (told "1" "E")) marks) ≡ true
-  -- ended says whether the last is E or Z, by 1 and 0
+  -- `ended` is 1 if the last record is E or Z, and otherwise 0
   pub goes-on : isDesk (with (seats (seat 49 7 2 0) two none) 3 3 (cells (told "1" "R") (told "A" "R") (told "1" "R")) marks) ≡ true
   pub not-ended : isDesk (with (seats (seat 49 7 2 0) two none) 3 3 records marks) ≡ false
   pub ended-by-2 : isDesk (with (seats (seat 49 7 2 2) two none) 3 3 records marks) ≡ false

@@ -1,4 +1,4 @@
--- What the desk goes by in a reply: its label, which tells key and status.
+-- What the desk uses of a reply: its label, which has its key and status.
 use Prim.Native.Nat.{ℕ}
 use mathlib.Core.List.{List}
 use mathlib.Core.Bool.{Bool, false, cond, not, _||_}
@@ -11,7 +11,7 @@ use Rattle.frames.specs.declared.reply.ReplyLabel.{ReplyLabel}
 use Rattle.desk.specs.declared.key.Key.{Key}
 use Rattle.desk.specs.Key.{keyIn, sameKey}
 
--- a frame, read as a static reply
+-- a frame read as a static reply: its label, or the refusal
 unfoldable pub heard : List ℕ → Told ReplyLabel
 heard f = labelled (read reply f)
 
@@ -20,7 +20,7 @@ abbrev pub hasKey : Key → Told ReplyLabel → Bool
 hasKey k (gives l) = sameKey k (keyIn l)
 hasKey k (refuses f) = false
 
--- ---- what a status says
+-- ---- what a status means
 
 unfoldable pub ends : ℕ → Bool
 ends status = eqb status statusE || isZ status
@@ -29,7 +29,7 @@ ends status = eqb status statusE || isZ status
 unfoldable pub inPlace : ℕ → ℕ → Bool
 inPlace held status = not (isZ status) || eqb held 0
 
--- a seat's ended after a record of this status
+-- the value of a seat's `ended` after a record with this status
 abbrev pub endedBy : ℕ → ℕ
 endedBy status = cond (ends status) 1 0
 

@@ -11,20 +11,20 @@ use Rattle.desk.specs.Memory.{Memory, markAt, heldBy}
 use Rattle.desk.specs.Calls.{resets, opens, replies}
 use Rattle.desk.specs.Capture.{captures}
 
--- a call turned away hands all back as it came
+-- a refused call changes nothing
 pub record RefusedKeeps : Type 0 where
   pub reset : (m : Memory) (why : Refusal) → resets m .answer ≡ refuses why → resets m .after ≡ m
   pub opening : (m : Memory) (f : List ℕ) (why : Refusal) → opens m f .answer ≡ refuses why → opens m f .after ≡ m
   pub reply : (m : Memory) (f : List ℕ) (why : Refusal) → replies m f .answer ≡ refuses why → replies m f .after ≡ m
   pub capture : (m : Memory) (s : List ℕ) (why : Refusal) → captures m s .answer ≡ refuses why → captures m s .after ≡ m
 
--- another seat than the one that a call took: its record, whether it is in use, and what it holds
+-- seat i is as before: its four numbers, whether it is in use, and the records it holds
 pub record SameSeat (m after : Memory) (i : ℕ) : Type 0 where
   pub seat : seatAt (after .row) i ≡ seatAt (m .row) i
   pub used : usedBit (after .bits) i ≡ usedBit (m .bits) i
   pub held : heldBy after i ≡ heldBy m i
 
--- a call that is taken changes one seat; an opening leaves count, cells and marks, and a reply changes at most the next cell and its mark
+-- a call that is taken changes only its own seat; an opening leaves count, cells and marks; a reply changes at most the next cell and its mark
 pub record KeepsMemory : Type 0 where
   pub opening-others : (m : Memory) (f : List ℕ) (s : ℕ) → opens m f .answer ≡ gives s → (i : ℕ) → (i ≡ s → ⊥) → SameSeat m (opens m f .after) i
   pub reply-others : (m : Memory) (f : List ℕ) (s : ℕ) → replies m f .answer ≡ gives s → (i : ℕ) → (i ≡ s → ⊥) → SameSeat m (replies m f .after) i

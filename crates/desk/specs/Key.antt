@@ -10,7 +10,7 @@ use Rattle.desk.specs.declared.key.Key.{Key}
 abbrev pub requestKey : StaticRequest → Key
 requestKey r = record { requester = r .requester; number = r .number }
 
--- a reply's number is compared whole: 00007 is a request's 007, and no request has one above 00999
+-- a reply's number is compared whole: 00007 is a request's 007, and no request has a number above 00999
 abbrev pub keyIn : ReplyLabel → Key
 keyIn l = record { requester = l .requester; number = l .number }
 
@@ -20,6 +20,6 @@ seatKey s = record { requester = s .requester; number = s .number }
 unfoldable pub sameKey : Key → Key → Bool
 sameKey a b = eqb (a .requester) (b .requester) && eqb (a .number) (b .number)
 
--- one that a static request can have
+-- a key that a static request can have
 unfoldable pub isKey : Key → Bool
 isKey k = isRequester (k .requester) && leb (k .number) 999

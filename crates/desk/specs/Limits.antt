@@ -1,4 +1,4 @@
--- How many seats a desk has, how many cells it uses at most, how long a cell is, and how long all of them are.
+-- How many seats a desk has, how many cells it uses at most, how many bytes a cell has, and how many all cells have.
 use Prim.Native.Nat.{ℕ, _*_}
 use Rattle.frames.specs.Reply.{reply}
 

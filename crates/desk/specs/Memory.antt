@@ -1,4 +1,4 @@
--- The state and the lent memory together, and the rows in it: a mark with the cell beside it.
+-- The state and the lent memory together, and its rows: a row is a mark and the cell beside it.
 use Prim.Native.Nat.{ℕ, zero, suc, _*_, _/_, min}
 use mathlib.Core.List.{List, [], _∷_, _++_}
 use mathlib.Core.Bool.{cond}
@@ -18,7 +18,7 @@ pub record Memory : Type 0 where
 abbrev pub memory : Desk → List Seat → List ℕ → List ℕ → Memory
 memory d row cells marks = record { row = row; bits = d .bits; count = d .count; cells = cells; marks = marks }
 
--- the least of all cells that a desk can use, whole cells and marks
+-- the least of 256, the whole cells and the marks
 unfoldable pub capacityOf : ℕ → ℕ → ℕ
 capacityOf cells marks = min mostCells (min (cells / cellSize) marks)
 
@@ -31,7 +31,7 @@ cellAt cells i = take cellSize (drop (i * cellSize) cells)
 abbrev pub markAt : List ℕ → ℕ → ℕ
 markAt marks i = getD marks i 0
 
--- the records of seat s: among the first n cells those whose mark names it, in order
+-- the records of seat s: those of the first n cells whose mark names it, in order
 unfoldable pub recordsOf : List ℕ → List ℕ → ℕ → ℕ → List (List ℕ)
 recordsOf cells marks s zero = []
 recordsOf cells marks s (suc n) = recordsOf cells marks s n ++ cond (eqb (markAt marks n) s) (cellAt cells n ∷ []) []

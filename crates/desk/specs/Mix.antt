@@ -1,4 +1,4 @@
--- Mixed replies: what each request holds after them, and what each of its replies was answered.
+-- Mixed replies: what each request holds after them, and how each of its replies was answered.
 use Prim.Native.Nat.{ℕ, zero, suc, _+_, _≤_, _<_}
 use mathlib.Core.List.{List, [], _∷_, _++_}
 use mathlib.Core.Bool.{Bool, true, false, cond, not}
@@ -21,9 +21,9 @@ use Rattle.desk.specs.Memory.{Memory, capacity, heldBy}
 use Rattle.desk.specs.Desk.{isDesk}
 use Rattle.desk.specs.Calls.{Outcome, opens, replies, emptied}
 
--- ---- calls one after the other
+-- ---- calls, one after the other
 
--- a frame is given to the opening, or to the reply call
+-- a frame given to the opening, or to the reply call
 pub data Event : Type 0 where
   toOpen : Frame → Event
   toReply : Frame → Event
@@ -32,7 +32,7 @@ abbrev pub happens : Memory → Event → Outcome
 happens m (toOpen f) = opens m f
 happens m (toReply f) = replies m f
 
--- each call is given state and lent memory as the last one left them
+-- each call is given the state and memory that the last one left
 unfoldable pub run : Memory → List Event → Memory
 run m [] = m
 run m (e ∷ es) = run (happens m e .after) es
@@ -45,7 +45,7 @@ abbrev pub heardAll : List Frame → List Event
 heardAll [] = []
 heardAll (f ∷ fs) = toReply f ∷ heardAll fs
 
--- a stretch without openings: replies, strays and damaged frames
+-- a stretch has no openings: only replies, strays and damaged frames
 abbrev pub isReply : Event → Bool
 isReply (toOpen f) = false
 isReply (toReply f) = true
@@ -85,34 +85,34 @@ abbrev pub expected : Memory → Event → Bool
 expected m (toOpen f) = false
 expected m (toReply f) = seated m (heard f)
 
--- how many of them there are
+-- how many replies to open requests there are
 unfoldable pub repliesTo : Memory → List Event → ℕ
 repliesTo m [] = 0
 repliesTo m (e ∷ es) = cond (expected m e) 1 0 + repliesTo m es
 
--- the frames addressed to the open requests at the seats below n, request by request
+-- how many frames are addressed to the open requests at the seats below n, counted request by request
 unfoldable pub awaited : Memory → List Event → ℕ → ℕ
 awaited m es zero = 0
 awaited m es (suc n) =
     cond (usedBit (m .bits) n) (length (framesTo (record { requester = seatAt (m .row) n .requester; number = seatAt (m .row) n .number }) es)) 0 + awaited m es n
 
--- both counts are one: no frame is counted that is addressed to none, and none twice
+-- both counts agree: a frame is counted only if it is addressed to an open request, and then once
 abbrev pub RepliesAreAwaited : Type 0
 RepliesAreAwaited = (m : Memory) (es : List Event) → isDesk m ≡ true → repliesTo m es ≡ awaited m es seatCount
 
 -- ---- the statements
 
--- the request with key k at seat s, where it holds `before`, over a stretch
+-- after a stretch on m: the request with key k at seat s, which held `before`; `any` and `ended` as in the rule
 pub record Sorted (m : Memory) (es : List Event) (s : ℕ) (k : Key) (before : List Frame) (any ended : Bool) : Type 0 where
-  -- it holds what the rule keeps of the frames addressed to it, after what it held
+  -- it holds what it held before, and then what the rule keeps of the frames addressed to it
   pub held : heldBy (run m es) s ≡ before ++ kept any ended (framesTo k es)
-  -- each of these frames got the answer that the rule says
+  -- each of these frames got the answer that the rule states
   pub answers : answersTo k m es ≡ said s any ended (framesTo k es)
   -- and both are as if these frames had come alone
   pub held-alone : heldBy (run m es) s ≡ heldBy (run m (heardAll (framesTo k es))) s
   pub answers-alone : answersTo k m es ≡ answersTo k m (heardAll (framesTo k es))
 
--- from any desk with cells enough: each open request
+-- each open request of any desk that has cells enough
 abbrev pub SortsFromAnyDesk : Type 0
 SortsFromAnyDesk =
     (m : Memory) (es : List Event) (s : ℕ)
@@ -120,7 +120,7 @@ SortsFromAnyDesk =
     → s < seatCount → usedBit (m .bits) s ≡ true
     → Sorted m es s (record { requester = seatAt (m .row) s .requester; number = seatAt (m .row) s .number }) (heldBy m s) (not (eqb (seatAt (m .row) s .held) 0)) (not (eqb (seatAt (m .row) s .ended) 0))
 
--- on an emptied desk, with openings first: each request that was opened
+-- each request that was opened, on an emptied desk with all openings first
 abbrev pub SortsOpenedRequests : Type 0
 SortsOpenedRequests =
     (m : Memory) (before after : List Frame) (f : Frame) (r : StaticRequest) (es : List Event) (s : ℕ)
@@ -128,7 +128,7 @@ SortsOpenedRequests =
     → Stretch es → repliesTo (run (emptied m) (openings (before ++ f ∷ after))) es ≤ capacity m
     → Sorted (run (emptied m) (openings (before ++ f ∷ after))) es s (record { requester = r .requester; number = r .number }) [] false false
 
--- a desk stays a desk, and what is emptied is one
+-- a desk stays a desk, and an emptied memory is one
 pub record StaysDesk : Type 1 where
   pub opening : (m : Memory) (f : Frame) → isDesk m ≡ true → isDesk (opens m f .after) ≡ true
   pub reply : (m : Memory) (f : Frame) → isDesk m ≡ true → isDesk (replies m f .after) ≡ true

@@ -1,5 +1,5 @@
--- The rule of mixed replies, over the frames of one request alone: which of them it keeps, and what each is answered.
--- No definition of the desk is in it. A frame goes by the record that the reader gives: requester, number and status letter.
+-- The rule of mixed replies, for the frames of one request: which of them it keeps, and how each is answered.
+-- No definition of the desk is in it. It uses only what the reader says of a frame: requester, number and status letter.
 use Prim.Native.Nat.{ℕ}
 use mathlib.Core.List.{List, [], _∷_}
 use mathlib.Core.Bool.{Bool, true, false, cond, _&&_}
@@ -14,13 +14,13 @@ use Rattle.desk.specs.declared.key.Key.{Key}
 abbrev pub Frame : Type 0
 Frame = List ℕ
 
--- ---- whose a frame is: well formed, with the request's requester and number
+-- ---- which frames are the request's: well formed, with its requester and number
 
 abbrev pub isTo : Key → Told StaticReply → Bool
 isTo k (gives r) = eqb (k .requester) (r .head .requester) && eqb (k .number) (r .head .number)
 isTo k (refuses f) = false
 
--- ---- its status: R, E or Z
+-- ---- a frame's status: R, E or Z
 
 abbrev pub letterIn : Told StaticReply → ℕ
 letterIn (gives r) = r .head .status
@@ -42,30 +42,30 @@ abbrev pub upToE : List Frame → List Frame
 upToE [] = []
 upToE (f ∷ fs) = f ∷ cond (hasStatusE f) [] (upToE fs)
 
--- a first Z alone; otherwise all up to the first E, without the Zs
+-- if the first frame is a Z, only that; otherwise all up to the first E, without the Zs
 abbrev pub keptFirst : List Frame → List Frame
 keptFirst [] = []
 keptFirst (f ∷ fs) = cond (hasStatusZ f) (f ∷ []) (upToE (withoutZ (f ∷ fs)))
 
--- `any` says that it holds records already, `ended` that it had its ending one
+-- `any`: the request holds records already; `ended`: it has had its E or Z
 abbrev pub kept : Bool → Bool → List Frame → List Frame
 kept any true fs = []
 kept true false fs = upToE (withoutZ fs)
 kept false false fs = keptFirst fs
 
--- ---- what its frames are answered, where s is its seat
+-- ---- how the frames are answered; s is the request's seat
 
--- after the ending one each is ENDED, which is 14
+-- after the end each frame is refused with ENDED, which is 14
 abbrev pub saidEnded : List Frame → List (Told ℕ)
 saidEnded [] = []
 saidEnded (f ∷ fs) = refuses (plain 14) ∷ saidEnded fs
 
--- among records a Z is OUT OF PLACE, which is 15; any other is taken
+-- a Z after a record is refused with OUT OF PLACE, which is 15; any other frame is taken
 abbrev pub saidAmong : ℕ → List Frame → List (Told ℕ)
 saidAmong s [] = []
 saidAmong s (f ∷ fs) = cond (hasStatusZ f) (refuses (plain 15) ∷ saidAmong s fs) (gives s ∷ cond (hasStatusE f) (saidEnded fs) (saidAmong s fs))
 
--- a first Z is taken, and ends
+-- a Z as first frame is taken and ends the request
 abbrev pub saidFirst : ℕ → List Frame → List (Told ℕ)
 saidFirst s [] = []
 saidFirst s (f ∷ fs) = cond (hasStatusZ f) (gives s ∷ saidEnded fs) (saidAmong s (f ∷ fs))

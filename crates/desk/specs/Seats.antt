@@ -1,4 +1,4 @@
--- Seats: which are in use, and which has a key.
+-- Seats: which are in use, and which one has a key.
 use Prim.Native.Nat.{ℕ, _/_, _%_, _^_}
 use mathlib.Core.List.{List}
 use mathlib.Core.Bool.{Bool, not, _&&_}
@@ -16,7 +16,7 @@ zeroSeat = record { requester = 0; number = 0; held = 0; ended = 0 }
 abbrev pub seatAt : List Seat → ℕ → Seat
 seatAt row i = getD row i zeroSeat
 
--- bit i of the number: seat i is in use
+-- bit i of the number is set: seat i is in use
 abbrev pub usedBit : ℕ → ℕ → Bool
 usedBit bits i = eqb (bits / 2 ^ i % 2) 1
 
@@ -27,13 +27,13 @@ keyed s bits i k = usedBit bits i && sameKey (seatKey s) k
 abbrev pub keyedAt : List Seat → ℕ → Key → ℕ → Bool
 keyedAt row bits k i = keyed (seatAt row i) bits i k
 
--- the seat with this key; no seat is told by the number of seats
+-- the seat with this key, or 16 if no seat has it
 unfoldable pub seatWith : List Seat → ℕ → Key → ℕ
 seatWith row bits k = first seatCount (keyedAt row bits k)
 
 abbrev pub clearAt : ℕ → ℕ → Bool
 clearAt bits i = not (usedBit bits i)
 
--- the lowest clear bit of a number of 64 bits
+-- the lowest clear bit of a number of 64 bits, or 64 if all are set
 unfoldable pub lowestClear : ℕ → ℕ
 lowestClear bits = first 64 (clearAt bits)

@@ -1,4 +1,4 @@
--- No second outcome meets the promise of a call that changes something. The other promises equate the answer itself with a definition.
+-- Only one outcome meets the promise of a call that changes something. The other promises equate the answer itself with a definition.
 use Prim.Native.Nat.{ℕ}
 use mathlib.Core.List.{List}
 use Rattle.digits.specs.Once.{Once}

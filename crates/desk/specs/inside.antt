@@ -1,4 +1,4 @@
--- What the private steps of the code compute. Nothing here is needed to read a promise of a public call.
+-- What the private steps of the code compute. No promise of a public call needs it.
 pub mod Clauses
 pub mod Judging
 pub mod Counting

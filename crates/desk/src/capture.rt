@@ -1,4 +1,4 @@
-// A whole capture at once: the desk is tested once, and each frame goes where its lead byte says.
+// A whole capture at once: the desk is tested once, and each frame goes to the call of its lead byte.
 use crate::clauses::is_desk;
 use crate::limits::SEATS;
 use crate::opening::OpenAnswer;
@@ -55,7 +55,7 @@ pub struct CaptureDone {
     pub row: [Seat; SEATS],
 }
 
-// What becomes of a frame, the state, and the one seat that changed, as ReplyStep says it.
+// What becomes of a frame, the state after it, and the one seat that may have changed, as in ReplyStep.
 struct Met {
     fate: Fate,
     desk: Desk,
@@ -63,7 +63,7 @@ struct Met {
     seat: Seat,
 }
 
-// The frames of a capture, one after the other. Cells and marks are changed as by a call for each frame.
+// Takes the frames of a capture one after the other. Cells and marks change as by one call for each frame.
 pub fn take_capture(
     desk: Desk,
     row: [Seat; SEATS],

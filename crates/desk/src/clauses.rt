@@ -26,16 +26,16 @@ ghost use Rattle.desk.specs.Memory.{memory};
 ghost use Rattle.desk.specs.Desk.{isDesk, isZero, markNames, apartBelow};
 ghost use Rattle.desk.specs.inside.Clauses.{seatGood, seatGoodAt, apart, turnOf, agrees, agreesAt, rowsHold};
 
-// The bits of all seats.
+// The bits of all seats, set.
 const ALL: u64 = 18446744073709551615 >> (64 - SEATS);
 
-// What the rows so far say of one seat: how many name it, and the ended that the last of them leaves.
+// What the rows so far say about one seat: how many marks name it, and its `ended` after the last of these rows.
 pub struct View {
     pub held: u32,
     pub ended: u32,
 }
 
-// The view after one more row, and whether that row is in order.
+// The view after one more row, and whether that row is good.
 pub struct Turn {
     pub good: bool,
     pub view: View,
@@ -69,7 +69,7 @@ fn is_zero(s: Seat) -> bool
     (s.requester == 0) & (s.number == 0) & (s.held == 0) & (s.ended == 0)
 }
 
-// A legal key in use, or all zero.
+// A used seat has a legal key, an unused one is all zero.
 fn seat_good(s: Seat, bits: u64, i: usize) -> bool
     requires { ⌜ i < 64 ⌝ }
     ensures { λ r. ⌜ r ≡ seatGood s bits i ⌝ }
@@ -94,7 +94,7 @@ fn seats_good(row: [Seat; SEATS], bits: u64) -> bool
     true
 }
 
-// Seats i and j do not share a key: one of them is not in use, or the keys differ.
+// Seats i and j do not share a key: one of them is not in use, or their keys differ.
 fn are_apart(a: Seat, b: Seat, bits: u64, i: usize, j: usize) -> bool
     requires { ⌜ (i < 64) × (j < 64) ⌝ }
     ensures { λ r. ⌜ r ≡ apart a b bits i j ⌝ }
@@ -136,7 +136,7 @@ fn mark_names(bits: u64, mark: u32) -> bool
     }
 }
 
-// One more row of a seat: a reply with its key, in its place.
+// One more row of a seat: it must be a reply with the seat's key that the seat takes.
 fn one_more(v: View, seat: Seat, got: ReplyCheck) -> Turn
     requires { ⌜ v .held < mostCells ⌝ }
     ensures { λ r. ⌜ r ≡ turnOf v seat (checkTold got) ⌝ }
@@ -170,7 +170,7 @@ fn taken_turn(v: View, seat: Seat, label: ReplyLabel) -> Turn
     }
 }
 
-// The seat says what its rows say; of a seat that is not in use there are none.
+// A used seat says what its rows say. A seat that is not in use has no rows.
 fn agree(v: View, seat: Seat, bits: u64, i: usize) -> bool
     requires { ⌜ i < 64 ⌝ }
     ensures { λ r. ⌜ r ≡ agrees v seat bits i ⌝ }
@@ -195,7 +195,7 @@ fn all_agree(views: [View; SEATS], row: [Seat; SEATS], bits: u64) -> bool
     true
 }
 
-// Each mark and each cell is read once.
+// Tests all rows. Each mark and each cell is read once.
 fn rows_hold(row: [Seat; SEATS], bits: u64, count: usize, cells: &[u8], marks: &[u32]) -> bool
     requires { ⌜ (count ≤ mostCells) × ((count ≤ length (now marks)) × (count * cellSize ≤ length (now cells))) ⌝ }
     ensures { λ r. ⌜ r ≡ rowsHold row bits count (now (cells .entry)) (now (marks .entry)) ⌝ }

@@ -1,4 +1,4 @@
-// What the desk goes by in a reply: whether it ends its request, and whether it is in its place.
+// What the status of a reply means: whether it ends its request, and whether it is in its place.
 use frames::reply::STATUS_E;
 use frames::reply::STATUS_Z;
 ghost use mathlib.Core.Path.{_≡_};

@@ -10,7 +10,7 @@ pub enum Held {
     Nothing,
 }
 
-// The first held cell from a place on whose mark names the seat. Takes any state, place and memory of any length.
+// The first held cell from a place on whose mark names the seat. It takes any state, place and length of memory.
 pub fn next_held(desk: Desk, cells: &[u8], marks: &[u32], seat: u32, from: usize) -> Held
     ensures { λ r. ⌜ r ≡ nextHeld (desk .count) (now (cells .entry)) (now (marks .entry)) seat from ⌝ }
 {

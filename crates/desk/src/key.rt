@@ -1,4 +1,4 @@
-// Keys: who asked, and by which number.
+// Keys: who asked, and with which number.
 use crate::limits::SEATS;
 use crate::state::Seat;
 use frames::reply::ReplyLabel;
@@ -7,7 +7,7 @@ ghost use Prim.Native.Nat.{_<_};
 ghost use Rattle.desk.specs.Key.{keyIn, seatKey, sameKey, isKey};
 ghost use Rattle.desk.specs.Seats.{usedBit, keyed, seatWith};
 
-// Requester by its code.
+// The requester is held by its code.
 pub struct Key {
     pub requester: u32,
     pub number: u32,
@@ -53,7 +53,7 @@ pub fn used(bits: u64, i: usize) -> bool
     (bits >> i) % 2 == 1
 }
 
-// In use, with this key.
+// The seat is in use and has this key.
 pub fn has_key(seat: Seat, bits: u64, i: usize, key: Key) -> bool
     requires { ⌜ i < 64 ⌝ }
     ensures { λ r. ⌜ r ≡ keyed seat bits i key ⌝ }
@@ -61,7 +61,7 @@ pub fn has_key(seat: Seat, bits: u64, i: usize, key: Key) -> bool
     used(bits, i) & same_key(key_of(seat), key)
 }
 
-// The seat with this key, SEATS where there is none.
+// The seat with this key, or SEATS if no seat has it.
 pub fn find(row: [Seat; SEATS], bits: u64, key: Key) -> usize
     ensures { λ r. ⌜ r ≡ seatWith row bits key ⌝ }
 {

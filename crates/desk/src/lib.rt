@@ -1,4 +1,4 @@
-// The desk: seats for open requests, and replies sorted to them. A module for the state, one for each call.
+// The desk: seats for open requests, and replies sorted to them. There is a module for the state and one for each call.
 pub mod capture;
 mod clauses;
 mod hearing;

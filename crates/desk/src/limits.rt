@@ -1,13 +1,13 @@
-// How much a desk holds: each limit once.
+// How much a desk can hold. Each limit is stated once.
 use frames::reply::REPLY_SIZE;
 
 pub const SEATS: usize = 16;
 
-// Cells in use at most.
+// How many cells a desk uses at most.
 pub const CELLS: usize = 256;
 
 // A reply fills a cell.
 pub const CELL_SIZE: usize = REPLY_SIZE;
 
-// Bytes of all the cells that a desk can use.
+// How many bytes all cells of the largest desk have.
 pub const STORE: usize = CELLS * CELL_SIZE;

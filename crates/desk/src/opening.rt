@@ -28,7 +28,7 @@ ghost use Rattle.frames.specs.Request.{request};
 ghost use mathlib.Core.Bool.{true, false};
 ghost use Rattle.desk.specs.inside.Judging.{openJudged};
 
-// In the order in which they are tried.
+// In the order in which they are tested.
 pub enum OpenRefusal {
     Desk,
     Frame(ReadRefusal),
@@ -49,7 +49,7 @@ pub fn of_opening(refusal: OpenRefusal) -> Refusal
     }
 }
 
-// Opened with its seat.
+// Opened, at this seat.
 pub enum OpenAnswer {
     Opened(u32),
     Refused(OpenRefusal),
@@ -61,7 +61,7 @@ pub struct OpenDone {
     pub row: [Seat; SEATS],
 }
 
-// What an opening leaves, as ReplyStep says it.
+// What an opening leaves, as in ReplyStep.
 pub(crate) struct OpenStep {
     pub(crate) answer: OpenAnswer,
     pub(crate) desk: Desk,
@@ -102,7 +102,7 @@ pub fn open(desk: Desk, row: [Seat; SEATS], cells: &[u8], marks: &[u32], frame: 
     }
 }
 
-// Where state and memory make a desk. Cells and marks stand here for that alone.
+// The opening on a state and memory that are a desk. Cells and marks are here only so that this can be required.
 pub(crate) fn open_on_desk(
     desk: Desk,
     row: [Seat; SEATS],
@@ -174,7 +174,7 @@ fn key_judged(row: [Seat; SEATS], bits: u64, key: Key) -> OpenJudged
     }
 }
 
-// The lowest clear bit, 64 where there is none.
+// The lowest clear bit, or 64 if there is none.
 fn lowest_clear(bits: u64) -> usize
     ensures { λ r. ⌜ r ≡ lowestClear bits ⌝ }
 {

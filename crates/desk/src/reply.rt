@@ -30,7 +30,7 @@ ghost use Rattle.desk.specs.Hearing.{heard};
 ghost use mathlib.Core.Bool.{true};
 ghost use Rattle.desk.specs.inside.Judging.{replyJudged};
 
-// In the order in which they are tried.
+// In the order in which they are tested.
 pub enum ReplyRefusal {
     Desk,
     Frame(ReadRefusal),
@@ -53,7 +53,7 @@ pub fn of_reply(refusal: ReplyRefusal) -> Refusal
     }
 }
 
-// Taken by its seat.
+// Taken, by this seat.
 pub enum ReplyAnswer {
     Taken(u32),
     Refused(ReplyRefusal),
@@ -65,7 +65,7 @@ pub struct ReplyDone {
     pub row: [Seat; SEATS],
 }
 
-// What a reply leaves: the state, and the one seat that changed, with its place. Where none changed that is the first, as it was.
+// What a reply leaves: the state, and the one seat that changed, with its place. If none changed, that is the first seat as it was.
 pub(crate) struct ReplyStep {
     pub(crate) answer: ReplyAnswer,
     pub(crate) desk: Desk,
@@ -112,7 +112,7 @@ pub fn reply(
     }
 }
 
-// Where state and memory make a desk.
+// The reply call on a state and memory that are a desk.
 pub(crate) fn reply_on_desk(
     desk: Desk,
     row: [Seat; SEATS],

@@ -1,4 +1,4 @@
-// The state of a desk: what goes by value, and what it is when empty.
+// The state of a desk, which is passed by value, and the empty desk.
 use crate::limits::CELL_SIZE;
 use crate::limits::CELLS;
 use crate::limits::SEATS;
@@ -10,7 +10,7 @@ ghost use Rattle.desk.specs.Limits.{seatCount};
 ghost use Rattle.desk.specs.Memory.{capacityOf};
 ghost use Rattle.desk.specs.Calls.{seatsInUse, emptyDesk};
 
-// Four words and no padding. ended is 0 or 1.
+// Four numbers without padding. `ended` is 0 or 1.
 #[repr(C)]
 pub struct Seat {
     pub requester: u32,
@@ -19,7 +19,7 @@ pub struct Seat {
     pub ended: u32,
 }
 
-// The seats in use as bits, and how many cells are held.
+// The seats in use, as bits, and how many cells are held.
 #[repr(C)]
 pub struct Desk {
     pub bits: u64,
@@ -31,7 +31,7 @@ pub struct Emptied {
     pub row: [Seat; SEATS],
 }
 
-// A row with another seat at a place.
+// The row with another seat at a place.
 pub(crate) fn with_seat(row: [Seat; SEATS], at: usize, seat: Seat) -> [Seat; SEATS]
     requires { ⌜ at < seatCount ⌝ }
     ensures { λ r. ⌜ r ≡ set row at seat ⌝ }
@@ -41,7 +41,7 @@ pub(crate) fn with_seat(row: [Seat; SEATS], at: usize, seat: Seat) -> [Seat; SEA
     after
 }
 
-// The empty desk, whatever state it takes the place of. Cells and marks are not touched.
+// The empty desk; it replaces any state. Cells and marks are not touched.
 pub fn reset() -> Emptied
     ensures { λ r. ⌜ r ≡ emptyDesk ⌝ }
 {
@@ -57,14 +57,14 @@ pub fn reset() -> Emptied
     }
 }
 
-// How many seats are in use, ended ones too.
+// How many seats are in use, including those that have ended.
 pub fn seats_in_use(desk: Desk) -> u32
     ensures { λ r. ⌜ r ≡ seatsInUse (desk .bits) ⌝ }
 {
     u64::count_ones(desk.bits)
 }
 
-// How many cells a desk on so many bytes and so many marks can hold.
+// How many cells a desk can hold on so many bytes and so many marks.
 pub fn capacity(cells: usize, marks: usize) -> usize
     ensures { λ r. ⌜ r ≡ capacityOf cells marks ⌝ }
 {

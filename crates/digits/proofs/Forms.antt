@@ -1,4 +1,4 @@
--- A byte and a number are lawful forms, and so is a form whose values are another's under other names. Assumes nothing.
+-- A byte and a number are lawful forms, and so is a form whose values are those of another form under other names. Assumes nothing.
 use Prim.Native.Nat.{ℕ, zero, suc, _+_, _-_, _*_, _^_, _≤_, _<_}
 use mathlib.Core.List.{List, [], _∷_, _++_, append-nil, append-assoc}
 use mathlib.Core.Bool.{true}
@@ -46,7 +46,7 @@ number-lawful w h k = record {
   again = λ s p v l e. read-was-written w s p v e .text;
 }
 
--- a number of no more than w digits comes back
+-- a number of at most w digits, written and read, is itself
 pub number-back : (w v : ℕ) → 1 ≤ w → w ≤ 10 → v < 10 ^ w → numberAt (digits w v) 0 w ≡ Is v
 number-back w v h k f = ap (λ (s : List ℕ). numberAt s 0 w) (sym (append-nil (digits w v))) ∙ written-is-read w v [] [] h k f
 
@@ -56,7 +56,7 @@ number-inverse w e =
     let h = between 1 10 w e in
     record { lawful = number-lawful w (h .0) (h .1); back = λ v f. number-back w v (h .0) (h .1) (ltb-true v (10 ^ w) f) }
 
--- a form under other names is lawful where a name leads back to the value that has it
+-- a form under other names is lawful if each name leads back to its value
 module _ (k : Form) (other : ℕ → Number) (own : ℕ → ℕ) (back : (n v : ℕ) → other n ≡ Is v → own v ≡ n) where
   renamed-again : (w : List ℕ) (x : Number) (v : ℕ) → ((n : ℕ) → x ≡ Is n → w ≡ k .put n) → named other x ≡ Is v → w ≡ k .put (own v)
   renamed-again w (Is n) v f e = f n refl ∙ ap (k .put) (sym (back n v e))

@@ -1,4 +1,4 @@
--- Reading and writing a number are inverse, both ways, once over the width. Assumes nothing.
+-- Reading and writing a number are inverse, both ways and for every width. Assumes nothing.
 use Prim.Native.Nat.{ℕ, zero, suc, _+_, _-_, _*_, _/_, _%_, _^_, _≤_, _<_}
 use mathlib.Core.List.{List, [], _∷_, _++_, append-assoc}
 use mathlib.Core.Bool.{Bool, true, false, cond}
@@ -13,7 +13,7 @@ use Rattle.digits.specs.Digits.{digits, numberFrom, numberAt, isDigit, i
 use Rattle.digits.proofs.Reading.{inside, between, some-width}
 use Rattle.digits.proofs.Writing.{length-digits}
 
--- ---- a number's last digit, apart
+-- ---- a number without its last digit
 
 abbrev pub andThen : Number → ℕ → Number
 andThen (Is v) b = cond (isDigit b) (Is (v * 10 + (b - 48))) Wrong
@@ -31,7 +31,7 @@ last-apart s p (suc w) v =
     ∙ andThen-cond (isDigit (getD s p 0)) (numberFrom s (suc p) w (v * 10 + (getD s p 0 - 48))) (getD s (suc p + w) 0)
     ∙ rw (suc-add p w, add-suc p w)
 
--- ---- what is written is read
+-- ---- what was written reads back
 
 last-digit : (x : Number) (b n : ℕ) → x ≡ Is (n / 10) → b ≡ 48 + n % 10 → andThen x b ≡ Is n
 last-digit x b n e q = rw (e, inside 48 57 b (omega arith) (omega arith)) (ap Is (omega arith))
@@ -53,9 +53,9 @@ value-of-digits (suc w) n pre post h =
 pub written-is-read : (w n : ℕ) (pre post : List ℕ) → 1 ≤ w → w ≤ 10 → n < 10 ^ w → numberAt (pre ++ digits w n ++ post) (length pre) w ≡ Is n
 written-is-read w n pre post h k f = some-width (pre ++ digits w n ++ post) (length pre) w h k ∙ value-of-digits w n pre post f
 
--- ---- what is read was written so
+-- ---- what was read is written the same way
 
--- the digits of n stand at p, all of them within the text, and n has no more than w
+-- the w digits of n are in s at place p, and n has no more than w digits
 pub record Stands (s : List ℕ) (p w n : ℕ) : Type 0 where
   pub text : take w (drop p s) ≡ digits w n
   pub small : n < 10 ^ w
@@ -100,7 +100,7 @@ read-was-written w s p n e = go (isWidth w) refl e
     go true q r = digits-of-value s p w n r
     go false q r = absurd (let z : _≡_ {A = ℕ} 0 1 = cc in omega arith)
 
--- a number of at most nine digits fits 32 bits
+-- a number of at most nine digits fits in 32 bits
 pub small-number : (s : List ℕ) (p w n : ℕ) → w ≤ 9 → numberAt s p w ≡ Is n → n < 4294967296
 small-number s p w n h e =
     let l = read-was-written w s p n e .small in

@@ -56,7 +56,7 @@ unfolding numberFrom
 step-right s p zero v h e = absurd (let z : _<_ 0 0 = h in omega arith)
 step-right s p (suc w) v h e = rw (e, add-one p, sub-one (suc w))
 
--- the same of a byte b that was read at p
+-- the same for a byte b that was read at p
 module _ (s : List ℕ) (p w v b : ℕ) (more : 0 < w) (read : b ≡ getD s p 0) where
   pub step-low : b < 48 → numberFrom s p w v ≡ Wrong
   step-low h = step-wrong s p w v more (under 48 57 (getD s p 0) (omega arith))
@@ -87,7 +87,7 @@ too-short s p (suc (suc w)) v h k = rw (too-short s (suc p) (suc w) (v * 10 + (g
 pub no-room : (s : List ℕ) (p w : ℕ) → 1 ≤ w → w ≤ 10 → length s < p + w → numberAt s p w ≡ Wrong
 no-room s p w h k l = some-width s p w h k ∙ too-short s p w 0 (omega arith) l
 
--- ---- the value so far fits, with w digits of ten to come
+-- ---- the value so far fits, with w of ten digits still to come
 
 pub some-room : (w : ℕ) → 0 < 10 ^ w
 some-room w = one-le-pow w 10 (omega arith)

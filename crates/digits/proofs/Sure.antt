@@ -1,4 +1,4 @@
--- What is told is sure if every refusal that it tries is. Assumes nothing.
+-- An answer has only refusals of the table if every refusal in its tests is one. Assumes nothing.
 use Prim.Native.Nat.{ℕ, zero, suc, _≤_}
 use mathlib.Core.Bool.{Bool, true, false, true≢false}
 use mathlib.Core.Path.{_≡_, refl, ap, sym, _∙_}
@@ -23,7 +23,7 @@ module _ {A : Type 0} where
   given (gives a) = true
   given (refuses f) = false
 
-  -- a refusal is told from another, and from what is given
+  -- different refusals are different answers, and no refusal is an answer that gives a value
   pub same-refusal : (f g : Refusal) → _≡_ {A = Told A} (refuses f) (refuses g) → f ≡ g
   unfolding refusalOr
   same-refusal f g e = ap (λ (t : Told A). refusalOr t (plain 0)) e

@@ -1,4 +1,4 @@
--- Two tests that come out the same at every number below a bound, which is seen by computing them all; and sets worked out. Assumes nothing.
+-- Two tests that agree at every number below a bound, shown by computing them all; and worked cases of sets. Assumes nothing.
 use Prim.Native.Nat.{ℕ, zero, suc, _<_}
 use mathlib.Core.Bool.{Bool, true, false, false≢true, _&&_}
 use mathlib.Core.Path.{_≡_, refl, subst, sym}

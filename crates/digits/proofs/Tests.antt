@@ -1,4 +1,4 @@
--- Tests: by the two values of one, by which of two numbers is less, and two at once. Assumes nothing.
+-- Tests: cases by the result of one, cases by which of two numbers is less, and two tests together. Assumes nothing.
 use Prim.Native.Nat.{ℕ, _≤_, _<_}
 use mathlib.Core.Bool.{Bool, true, false, false≢true, _&&_}
 use mathlib.Core.Path.{_≡_, refl}

@@ -1,4 +1,4 @@
--- Runs of stores, and a number stored from its last digit. Assumes nothing.
+-- Runs of stores, and a number stored from its last digit on. Assumes nothing.
 use Prim.Native.Nat.{ℕ, zero, suc, _+_, _-_, _/_, _%_, _≤_, _<_, min}
 use mathlib.Core.List.{List, [], _∷_, _++_}
 use mathlib.Core.Path.{_≡_, refl, sym, ap, _∙_}
@@ -21,18 +21,18 @@ pub sets-append : (l : List ℕ) (i : ℕ) (xs ys : List ℕ) → sets l i (xs +
 sets-append l i [] ys = rw (add-zero i)
 sets-append l i (a ∷ xs) ys = sets-append (set l i a) (suc i) xs ys ∙ rw (add-suc i (length xs), suc-add i (length xs))
 
--- a run from past the end stores nothing
+-- a run that starts past the end stores nothing
 pub sets-beyond : (l : List ℕ) (i : ℕ) (vs : List ℕ) → length l ≤ i → sets l i vs ≡ l
 sets-beyond l i [] h = refl
 sets-beyond l i (b ∷ vs) h = rw (set-out l i b h) (sets-beyond l (suc i) vs (omega arith))
 
--- a run, one byte longer
+-- a run that is one byte longer
 pub run-more : (l : List ℕ) (at : ℕ) (vs : List ℕ) (i : ℕ) → i < length vs → set (sets l at (take i vs)) (at + i) (getD vs i 0) ≡ sets l at (take (i + 1) vs)
 run-more l at vs i h =
     let n = length-take-le i vs (omega arith) in
     sym (rw (add-one i, take-suc vs i 0 h) (sets-append l at (take i vs) (getD vs i 0 ∷ []) ∙ ap (λ (k : ℕ). set (sets l at (take i vs)) (at + k) (getD vs i 0)) n))
 
--- the bytes of a run that fit are all that it stores
+-- a run stores just those of its bytes that fit
 pub run-whole : (l : List ℕ) (at : ℕ) (vs : List ℕ) (n : ℕ) → n ≡ min (length l - at) (length vs) → at < length l → sets l at (take n vs) ≡ sets l at vs
 run-whole l at vs n e h =
     by-less n (length vs)
@@ -45,14 +45,14 @@ run-whole l at vs n e h =
     ∙ sets-beyond (sets l at (take n vs)) (at + length (take n vs)) (drop n vs) (omega (arith, e, k, h, t, z))))
     (λ k. ap (sets l at) (take-all n vs k))
 
--- a store past a run may come first
+-- a store past a run may be made before it
 set-sets : (l : List ℕ) (i : ℕ) (vs : List ℕ) (j d : ℕ) → i + length vs ≤ j → sets (set l j d) i vs ≡ set (sets l i vs) j d
 set-sets l i [] j d h = refl
 set-sets l i (a ∷ vs) j d h =
     ap (λ (k : List ℕ). sets k (suc i) vs) (set-comm l j i d a (omega (arith, add-suc i (length vs))))
     ∙ set-sets (set l i a) (suc i) vs j d (omega (arith, add-suc i (length vs), suc-add i (length vs)))
 
--- the digits of n stored from the last to the first, as the loop does it
+-- the digits of n stored from the last one to the first, as the loop does it
 unfoldable pub putFrom : List ℕ → ℕ → ℕ → ℕ → List ℕ
 putFrom l at zero n = l
 putFrom l at (suc w) n = putFrom (set l (at + w) (48 + n % 10)) at w (n / 10)

@@ -7,15 +7,15 @@ use lib.Dec.{leb}
 use Rattle.digits.specs.declared.Number.{Number}
 use Rattle.digits.specs.declared.Number.the-variants.{Is, Wrong}
 
--- of so many digits a number is read: ten are the longest field
+-- the widths, in digits, of numbers that are read: the longest field has ten
 abbrev pub isWidth : ℕ → Bool
 isWidth w = leb 1 w && leb w 10
 
--- of so many it is written: no number of 64 bits has more than twenty
+-- the widths of numbers that are written: no number of 64 bits has more than twenty digits
 abbrev pub isPutWidth : ℕ → Bool
 isPutWidth w = leb 1 w && leb w 20
 
--- the bytes 0 to 9
+-- the ASCII digits 0 to 9, 30h to 39h
 abbrev pub isDigit : ℕ → Bool
 isDigit b = leb 48 b && leb b 57
 
@@ -24,15 +24,15 @@ unfoldable pub digits : ℕ → ℕ → List ℕ
 digits zero n = []
 digits (suc w) n = digits w (n / 10) ++ ((48 + n % 10) ∷ [])
 
--- as it is written: a width that is none writes nothing
+-- the digits as they are written; for a width outside 1 to 20 nothing is written
 abbrev pub numberText : ℕ → ℕ → List ℕ
 numberText w n = cond (isPutWidth w) (digits w n) []
 
--- w digits more, from place p of s on, after digits of value v; what is past the end is no digit
+-- reads w more digits from place p of s, after digits whose value is v; a place past the end has no digit
 unfoldable pub numberFrom : List ℕ → ℕ → ℕ → ℕ → Number
 numberFrom s p zero v = Is v
 numberFrom s p (suc w) v = cond (isDigit (getD s p 0)) (numberFrom s (suc p) w (v * 10 + (getD s p 0 - 48))) Wrong
 
--- the number of w digits at a place of s
+-- the number of w digits at place `at` of s
 unfoldable pub numberAt : List ℕ → ℕ → ℕ → Number
 numberAt s at w = cond (isWidth w) (numberFrom s at w 0) Wrong

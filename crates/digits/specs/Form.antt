@@ -1,4 +1,4 @@
--- What a form is: how the value of a field stands in a frame.
+-- What a form is: how the value of a field is written in a frame.
 use Prim.Native.Nat.{ℕ, _+_, _≤_}
 use mathlib.Core.List.{List, [], _∷_, _++_}
 use mathlib.Core.Bool.{Bool, true}
@@ -8,7 +8,7 @@ use Rattle.digits.specs.declared.Number.{Number}
 use Rattle.digits.specs.declared.Number.the-variants.{Is, Wrong}
 use Rattle.digits.specs.Digits.{digits, numberAt}
 
--- so many bytes, the value that stands at a place, and a value's bytes
+-- its width in bytes, the value at a place of a frame, and the bytes of a value
 pub record Form : Type 0 where
   pub width : ℕ
   pub got : List ℕ → ℕ → Number
@@ -22,22 +22,22 @@ byte = record { width = 1; got = λ s p. Is (getD s p 0); put = λ v. v ∷ [] }
 abbrev pub number : ℕ → Form
 number w = record { width = w; got = λ s p. numberAt s p w; put = λ v. digits w v }
 
--- a value's other name, where it has one
+-- a value under its other name, if it has one
 abbrev pub named : (ℕ → Number) → Number → Number
 named other (Is v) = other v
 named other Wrong = Wrong
 
--- a form whose values are another's, each under another name: `other` gives the name, `own` the value that has it
+-- a form whose values are those of another form under other names: `other` gives a value's name, `own` the value with that name
 abbrev pub renamed : Form → (ℕ → Number) → (ℕ → ℕ) → Form
 renamed k other own = record { width = k .width; got = λ s p. named other (k .got s p); put = λ v. k .put (own v) }
 
--- what is asked of every form: a value takes the form's width, what is read goes by the form's own bytes alone, and a value that was read is written as the bytes that were there
+-- what every form must meet: a value takes the form's width, reading depends only on the form's own bytes, and a value that was read is written as the bytes that were there
 pub record Lawful (k : Form) : Type 0 where
   pub long : (v : ℕ) → length (k .put v) ≡ k .width
   pub local : (pre t post : List ℕ) → length t ≡ k .width → k .got (pre ++ t ++ post) (length pre) ≡ k .got t 0
   pub again : (s : List ℕ) (p v : ℕ) → p + k .width ≤ length s → k .got s p ≡ Is v → take (k .width) (drop p s) ≡ k .put v
 
--- reading and writing are inverse: the form is lawful, and each good value is read back from its writing
+-- reading and writing are inverse: the form is lawful, and each good value, when written, reads back as itself
 pub record Inverse (k : Form) (good : ℕ → Bool) : Type 0 where
   pub lawful : Lawful k
   pub back : (v : ℕ) → good v ≡ true → k .got (k .put v) 0 ≡ Is v

@@ -1,4 +1,4 @@
--- What it says of a promise that no second outcome meets it.
+-- A promise that only one outcome meets: any two outcomes that meet it are equal.
 use mathlib.Core.Path.{_≡_}
 
 module _ {A : Type 0} where

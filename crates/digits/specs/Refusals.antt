@@ -1,4 +1,4 @@
--- The table of refusals: why a call is turned away, by number. FIELD and RECORD have an offset, the others 0.
+-- The table of refusals: why a call is refused, by number. FIELD and RECORD have an offset; all others have 0 there.
 use Prim.Native.Nat.{ℕ}
 use mathlib.Core.List.{[], _∷_}
 use mathlib.Core.Bool.{Bool, true, false, cond, not, _&&_, _||_}
@@ -13,15 +13,15 @@ placed number offset = record { number = number; offset = offset }
 abbrev pub plain : ℕ → Refusal
 plain number = placed number 0
 
--- empty, or another lead byte
+-- the frame is empty or has another lead byte
 abbrev pub KIND : Refusal
 KIND = plain 1
 
--- not the kind's length
+-- the frame does not have the kind's length
 abbrev pub LENGTH : Refusal
 LENGTH = plain 2
 
--- the last byte is not CR
+-- the frame's last byte is not CR
 abbrev pub END : Refusal
 END = plain 3
 
@@ -29,11 +29,11 @@ END = plain 3
 abbrev pub ADDRESS : Refusal
 ADDRESS = plain 4
 
--- with the offset of the first wrong field of a frame
+-- a field of a frame is wrong: the offset of the first wrong field
 abbrev pub FIELD : ℕ → Refusal
 FIELD = placed 5
 
--- with the offset of the first wrong field of a record
+-- a part of a record is wrong: the offset of the first wrong part
 abbrev pub RECORD : ℕ → Refusal
 RECORD = placed 6
 
@@ -45,11 +45,11 @@ ROOM = plain 7
 abbrev pub TIME : Refusal
 TIME = plain 8
 
--- state and memory do not make a desk
+-- state and memory are not a desk
 abbrev pub DESK : Refusal
 DESK = plain 9
 
--- an opening with information q
+-- an opening whose information is q
 abbrev pub NO-ANSWER-DUE : Refusal
 NO-ANSWER-DUE = plain 10
 
@@ -65,24 +65,24 @@ NO-SEAT = plain 12
 abbrev pub STRAY : Refusal
 STRAY = plain 13
 
--- that seat had its E or Z
+-- the seat with the reply's key has had its E or Z
 abbrev pub ENDED : Refusal
 ENDED = plain 14
 
--- a Z at a seat that holds records
+-- a Z for a seat that holds records
 abbrev pub OUT-OF-PLACE : Refusal
 OUT-OF-PLACE = plain 15
 
--- no free cell
+-- no cell is free
 abbrev pub FULL : Refusal
 FULL = plain 16
 
--- one of the table: 1 to 16, with an offset just at 5 and 6
+-- a refusal of the table: a number from 1 to 16, and an offset other than 0 exactly for 5 and 6
 abbrev pub isRefusal : Refusal → Bool
 isRefusal f =
     leb 1 (f .number) && leb (f .number) 16 && cond (eqb (f .number) 5 || eqb (f .number) 6) (not (eqb (f .offset) 0)) (eqb (f .offset) 0)
 
--- worked: the numbers in the table's order, and where an offset is due
+-- worked cases: the numbers in the table's order, and which refusals have an offset
 pub record TableWorked : Type 0 where
   pub numbers : KIND .number ∷ LENGTH .number ∷ END .number ∷ ADDRESS .number ∷ FIELD 9 .number ∷ RECORD 9 .number ∷ ROOM .number ∷ TIME .number
       ∷ DESK .number ∷ NO-ANSWER-DUE .number ∷ IN-USE .number ∷ NO-SEAT .number ∷ STRAY .number ∷ ENDED .number ∷ OUT-OF-PLACE .number ∷ FULL .number ∷ []

@@ -12,16 +12,17 @@ abbrev pub codes : String → List ℕ
 codes done = []
 codes (c then s) = code c ∷ codes s
 
--- whether a byte is one of a list's
+-- whether a byte is in a list
 unfoldable pub oneOf : List ℕ → ℕ → Bool
 oneOf [] b = false
 oneOf (x ∷ xs) b = eqb b x || oneOf xs b
 
--- whether a byte is in a set of bytes below 128, which is two numbers: bit b of the first, and from 64 on bit b - 64 of the second
+-- whether a byte is in a set of bytes below 128. The set is two numbers: bit b of the first for bytes below 64,
+-- and bit b - 64 of the second for the others
 unfoldable pub inSet : ℕ → ℕ → ℕ → Bool
 inSet low high b = cond (ltb b 64) (eqb (low / 2 ^ b % 2) 1) (cond (ltb b 128) (eqb (high / 2 ^ (b - 64) % 2) 1) false)
 
--- worked: the first and the last byte of each number, in the set and not, and the byte past both
+-- worked cases: the first and the last byte of each number, in the set and not in it, and the first byte past both
 pub record SetsWorked : Type 0 where
   pub byte-0 : inSet 1 0 0 ≡ true
   pub not-byte-0 : inSet 2 1 0 ≡ false

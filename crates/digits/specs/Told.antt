@@ -1,4 +1,4 @@
--- What an answer says on paper: its values, or a refusal.
+-- What an answer means on paper: its values, or a refusal.
 use mathlib.Core.Bool.{Bool, true, false}
 use mathlib.Core.Path.{_≡_}
 use Rattle.digits.specs.declared.refusal.Refusal.{Refusal}
@@ -8,12 +8,12 @@ pub data Told (A : Type 0) : Type 0 where
   gives : A → Told A
   refuses : Refusal → Told A
 
--- a test that is tried: where it fails, this refusal
+-- a test: if it fails, the answer is this refusal; otherwise it is the rest
 module _ {A : Type 0} where
   abbrev pub tried : Bool → Refusal → Told A → Told A
   tried true f rest = rest
   tried false f rest = refuses f
 
--- what is told is given, or is a refusal of the table
+-- if this answer is a refusal, it is one of the table
 abbrev pub Sure : {A : Type 0} → Told A → Type 0
 Sure t = (f : Refusal) → t ≡ refuses f → isRefusal f ≡ true

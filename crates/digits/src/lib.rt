@@ -1,4 +1,4 @@
-// Bytes and numbers at places of lent memory, read and written. Every function takes any slice, any place and any width.
+// Reading and writing bytes and numbers at places of lent memory. Every function takes any slice, any place and any width.
 pub mod refusal;
 
 ghost use mathlib.Core.Path.{_≡_};
@@ -8,20 +8,20 @@ ghost use lib.Seq.{sets};
 ghost use Rattle.digits.specs.Digits.{numberAt, numberText};
 ghost use Rattle.digits.specs.Text.{inSet};
 
-// What stands where a number is looked for.
+// What is found at a place: a number, or none.
 pub enum Number {
     Is(u64),
     Wrong,
 }
 
-// The byte at a place; past the end 0.
+// The byte at a place; past the end it is 0.
 pub fn byte_at(s: &[u8], at: usize) -> u8
     ensures { λ r. ⌜ r ≡ getD (now (s .entry)) at 0 ⌝ }
 {
     if at < s.len() { s[at] } else { 0 }
 }
 
-// The number of `width` digits at a place; Wrong where they are not all digits, not all there, or the width is not 1 to 10.
+// The number of `width` digits at a place; Wrong if they are not all digits, not all there, or if the width is not 1 to 10.
 pub fn number_at(s: &[u8], at: usize, width: usize) -> Number
     ensures { λ r. ⌜ r ≡ numberAt (now (s .entry)) at width ⌝ }
 {
@@ -61,7 +61,8 @@ fn wide(b: u8) -> u64
     b as u64
 }
 
-// Whether a byte is in a set that is two numbers: bit b of low, and from 64 on bit b - 64 of high. It takes no walk along a list.
+// Whether a byte is in a set. The set is two numbers: bit b of `low` for bytes below 64, and bit b - 64 of `high` from 64 on.
+// This needs no loop over a list.
 pub fn in_set(low: u64, high: u64, b: u8) -> bool
     ensures { λ r. ⌜ r ≡ inSet low high b ⌝ }
 {
@@ -74,7 +75,7 @@ pub fn in_set(low: u64, high: u64, b: u8) -> bool
     false
 }
 
-// Stores a byte at a place; past the end nothing.
+// Stores a byte at a place; past the end it stores nothing.
 pub fn put_byte(out: &mut [u8], at: usize, b: u8)
     ensures { λ _. ⌜ now (out .exit) ≡ set (now (out .entry)) at b ⌝ }
 {
@@ -83,7 +84,7 @@ pub fn put_byte(out: &mut [u8], at: usize, b: u8)
     }
 }
 
-// Stores the bytes from a place on; past the end nothing.
+// Stores the bytes from a place on; past the end it stores nothing.
 pub fn put_bytes(out: &mut [u8], at: usize, bytes: &[u8])
     ensures { λ _. ⌜ now (out .exit) ≡ sets (now (out .entry)) at (now (bytes .entry)) ⌝ }
 {
@@ -106,7 +107,7 @@ pub fn least(a: usize, b: usize) -> usize
     if a < b { a } else { b }
 }
 
-// Stores the last `width` digits of n from a place on; past the end nothing, and nothing at all where the width is not 1 to 20.
+// Stores the last `width` digits of n from a place on; past the end nothing, and nothing at all if the width is not 1 to 20.
 pub fn put_number(out: &mut [u8], at: usize, width: usize, n: u64)
     ensures { λ _. ⌜ now (out .exit) ≡ sets (now (out .entry)) at (numberText width n) ⌝ }
 {
@@ -125,7 +126,7 @@ pub fn put_number(out: &mut [u8], at: usize, width: usize, n: u64)
     }
 }
 
-// Stores a byte k past a place, which may lie past every index.
+// Stores a byte k places after `at`. The sum may be past every index; then nothing is stored.
 fn put_past(out: &mut [u8], at: usize, k: usize, b: u8)
     ensures { λ _. ⌜ now (out .exit) ≡ set (now (out .entry)) (at + k) b ⌝ }
 {

@@ -1,4 +1,4 @@
-// Why a call is turned away, by number: the table of refusals. No other place in the code has these numbers.
+// The table of refusals: why a call is refused, by number. These numbers are at no other place in the code.
 ghost use mathlib.Core.Path.{_≡_};
 ghost use Rattle.digits.specs.Refusals as R;
 
@@ -34,7 +34,7 @@ pub const OUT_OF_PLACE: u32 = 15;
 
 pub const FULL: u32 = 16;
 
-// The offset is for FIELD and RECORD; the others have 0.
+// Only FIELD and RECORD have an offset; for the others it is 0.
 pub struct Refusal {
     pub number: u32,
     pub offset: u32,

@@ -49,7 +49,7 @@ calls-tell-pieces s at = run s (piecesFrom s at) at refl
 
 -- ---- a frame that nothing cuts
 
--- all that is asked of the list of lead bytes
+-- the only fact about the list of lead bytes that is needed
 pub CR-is-no-lead : CRIsNoLead
 unfolding isLead oneOf
 CR-is-no-lead = refl

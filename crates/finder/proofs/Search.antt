@@ -1,4 +1,4 @@
--- What a call answers, by the tests that the code makes. Assumes nothing.
+-- The answer of a call, by the tests that the code makes. Assumes nothing.
 use Prim.Native.Nat.{ℕ, suc, _+_, _≤_, _<_}
 use mathlib.Core.List.{List, [], _∷_, _++_}
 use mathlib.Core.Bool.{true, false}
@@ -27,13 +27,13 @@ module _ (s : List ℕ) (i : ℕ) where
 
 -- ---- inside the frame that begins at a, at place i
 
--- one byte more
+-- one more byte
 pub longer : (s : List ℕ) (a i : ℕ) → a ≤ i → i < length s → slice a (suc i) s ≡ slice a i s ++ (getD s i 0 ∷ [])
 longer s a i g h =
     rw (take-suc s i 0 h) (drop-append-le a (take i s) (getD s i 0 ∷ []) (rw (length-take-le i s (omega arith)) g))
 
 module _ (s : List ℕ) (a : ℕ) where
-  -- what the frame comes to
+  -- the answer for the frame, from place i on
   unfoldable pub answerAt : ℕ → Found
   answerAt i = firstOf (walk (inside a (slice a i s)) i (drop i s))
 

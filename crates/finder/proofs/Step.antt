@@ -1,4 +1,4 @@
--- What a caller of `next` goes by: an answer is the next piece, and the cursor moves to its end. Assumes nothing.
+-- What a caller of `next` uses: an answer is the next piece, and the cursor moves to its end. Assumes nothing.
 use Prim.Native.Nat.{ℕ, zero, suc, _+_, _-_, _≤_, _<_}
 use mathlib.Core.List.{List, [], _∷_}
 use mathlib.Core.Bool.{true, false≢true}
@@ -14,7 +14,7 @@ use Rattle.finder.specs.Pieces.{Piece, whole, cut, startOf, bytesOf, end
 use Rattle.finder.specs.Demands.{isOpen, Right, All, InOrder}
 use Rattle.finder.proofs.Walk.{pieces-right, GoesOn, goes-on, pieces-ordered, fits}
 
--- p is the first of the pieces that are left at a cursor: the bytes from a up to e
+-- p is the first of the pieces that are left at a cursor; it is the bytes from a up to e
 pub record Next (s : List ℕ) (at a e : ℕ) (p : Piece) : Type 0 where
   pub rest : piecesFrom s at ≡ p ∷ piecesFrom s e
   pub from : at ≤ a
@@ -33,7 +33,7 @@ slice-is zero m l = rw (zero-add m)
 slice-is (suc a) m [] = rw (take-nil {A = ℕ} (suc a + m), take-nil {A = ℕ} m)
 slice-is (suc a) m (x ∷ l) = rw (suc-add a m) (slice-is a m l)
 
--- a part that is lent: the bytes from a up to e
+-- a part of a slice: the bytes from a up to e
 pub part-is : (s : List ℕ) (a e : ℕ) → a < e → slice a e s ≡ take (e - a) (drop a s)
 part-is s a e l = ap (λ (n : ℕ). slice a n s) (let k : e ≡ a + (e - a) = omega arith in k) ∙ slice-is a (e - a) s
 

@@ -1,4 +1,4 @@
--- A frame that a reader takes is found whole: its bytes between lead byte and CR are 20h to 7Eh. Assumes nothing.
+-- A frame that a reader accepts is found whole: its bytes between lead byte and CR are 20h to 7Eh. Assumes nothing.
 use Prim.Native.Nat.{ℕ, zero, suc, _+_, _/_, _%_, _≤_}
 use mathlib.Core.List.{List, [], _∷_, _++_, append-nil}
 use mathlib.Core.Bool.{Bool, true, false≢true, _||_}
@@ -78,7 +78,7 @@ requester-raw b e =
     (λ x. or-cases (between 48 57 b) (between 65 90 b) (isRaw b ≡ true) (range-raw 48 57 (omega arith) (omega arith) b) (range-raw 65 90 (omega arith) (omega arith) b) x)
     (range-raw 97 122 (omega arith) (omega arith) b) e
 
--- ---- a layout all of whose fields are written in such bytes
+-- ---- a layout whose fields are all written in such bytes
 
 data Printed {R : Type 0} : Layout R → Type 1 where
   printed : {A : Type 0} {at : ℕ} {shape : Shape A} {rule : A → Bool} {part : R → A} {next : A → Layout R}
@@ -101,7 +101,7 @@ within-printed of whole (printed some shows rest) = printed some shows λ v good
 within-printed of whole (printed-suits some rest) = printed-suits some (within-printed of whole rest)
 within-printed of whole printed-end = printed-end
 
--- ---- by its shape
+-- ---- such fields, by their shape
 
 module _ {R : Type 0} {at : ℕ} where
   module _ {rule : ℕ → Bool} {part : R → ℕ} {next : ℕ → Layout R} where
@@ -216,7 +216,7 @@ pub record Printable (lead : ℕ) (f : List ℕ) : Type 0 where
   pub raw : every isRaw inner ≡ true
 
 module _ {R : Type 0} (k : Kind R) (Whole : R → Type 0) (faithful : Faithful k Whole) (prints : Printed (k .fields)) where
-  -- a frame that is taken is the one that its record writes
+  -- a frame that is accepted is the one that its record writes
   taken-is : (f : List ℕ) (r : R) → read k f ≡ gives r → (wrongIn k r ≡ 0) × (frameOf k r ≡ f)
   unfolding writeTried
   taken-is f r e =

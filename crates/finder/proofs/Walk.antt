@@ -1,4 +1,4 @@
--- The walk over a capture: what it counts, what it cuts, and where it goes on after a piece. Assumes nothing.
+-- The walk over a capture: how many pieces it makes, what they are, and where it goes on after a piece. Assumes nothing.
 use Prim.Native.Nat.{ℕ, suc, _+_, _≤_}
 use mathlib.Core.List.{List, [], _∷_, _++_}
 use mathlib.Core.Bool.{Bool, true, false, false≢true, and-eq-true-iff}
@@ -15,12 +15,12 @@ use Rattle.finder.specs.Leads.{isLead}
 use Rattle.finder.specs.Pieces.{Piece, endOf, Place, outside, inside, walk, piecesFrom}
 use Rattle.finder.specs.Demands.{count, every, isInner, isOpen, Right, All, InOrder, total}
 
--- by the two values of a test
+-- cases by the result of a test
 pub cases : (b : Bool) {P : Type 0} → (b ≡ true → P) → (b ≡ false → P) → P
 cases true t f = t refl
 cases false t f = f refl
 
--- ---- as many pieces as lead bytes, and one for the frame that is open
+-- ---- as many pieces as lead bytes, and one more if a frame is open
 
 opened : Place → ℕ
 opened outside = 0
@@ -58,7 +58,7 @@ every-last p (y ∷ ys) x h e =
     let k = and-eq-true-iff (p y) (every p ys) .0 h in
     rw (k .0) (every-last p ys x (k .1) e)
 
--- a frame stays open by an inner byte
+-- a frame stays open after an inner byte
 open-last : (f : List ℕ) (x : ℕ) → isOpen f ≡ true → isInner x ≡ true → isOpen (f ++ (x ∷ [])) ≡ true
 unfolding isOpen
 open-last [] x h e = absurd (false≢true h)
@@ -147,9 +147,9 @@ module _ (s : List ℕ) where
   unfolding piecesFrom
   goes-on at = on (drop at s) outside at refl tt
 
--- ---- the pieces lie one after the other
+-- ---- the pieces are one after the other
 
--- where the next piece starts at the earliest
+-- the earliest place where the next piece can start
 earliest : Place → ℕ → ℕ → Type 0
 earliest outside lo n = lo ≤ n
 earliest (inside a f) lo n = (lo ≤ a) × (a + length f ≡ n)

@@ -16,7 +16,7 @@ use Rattle.finder.specs.declared.Cursor.{Cursor}
 use Rattle.finder.specs.Leads.{isLead}
 use Rattle.finder.specs.Pieces.{Piece, whole, cut, startOf, bytesOf, endOf, piecesFrom, pieces, foundFrom}
 
--- ---- frames found are the lead bytes of the capture
+-- ---- as many frames are found as the capture has lead bytes
 
 abbrev pub count : (ℕ → Bool) → List ℕ → ℕ
 count p [] = zero
@@ -35,20 +35,22 @@ every p (x ∷ xs) = p x && every p xs
 unfoldable pub isInner : ℕ → Bool
 isInner b = not (isLead b) && not (eqb b CR)
 
--- a frame up to its CR: a lead byte, and inner bytes
+-- a frame up to its CR: a lead byte, then bytes that are neither a lead byte nor CR
 unfoldable pub isOpen : List ℕ → Bool
 isOpen [] = false
 isOpen (x ∷ xs) = isLead x && every isInner xs
 
--- so a frame that is open holds no CR
+-- CR is no lead byte; so an open frame holds no CR
 abbrev pub CRIsNoLead : Type 0
 CRIsNoLead = isLead CR ≡ false
 
--- what cuts a frame: the end, or a lead byte
+-- what comes after a cut frame: the end of the capture, or a lead byte
 abbrev pub cuts : List ℕ → Bool
 cuts [] = true
 cuts (x ∷ xs) = isLead x
 
+-- a piece is right: its bytes are in the capture at its start. A whole frame ends with its CR.
+-- A cut frame has no CR, and after it comes what cuts it.
 abbrev pub Right : List ℕ → Piece → Type 0
 Right s (whole start bytes) =
     (take (length bytes) (drop start s) ≡ bytes)
@@ -67,7 +69,7 @@ PiecesAreRight = (s : List ℕ) → All (Right s) (pieces s)
 
 -- ---- the pieces are disjoint parts of the capture, in order
 
--- each piece starts at lo or after it and ends where the next may start; the last ends by hi
+-- the first piece starts at `lo` or later, each other one not before its predecessor's end; the last ends by `hi`
 abbrev pub InOrder : ℕ → List Piece → ℕ → Type 0
 InOrder lo [] hi = lo ≤ hi
 InOrder lo (p ∷ ps) hi = (lo ≤ startOf p) × InOrder (endOf p) ps hi
@@ -76,13 +78,15 @@ abbrev pub total : List Piece → ℕ
 total [] = zero
 total (p ∷ ps) = length (bytesOf p) + total ps
 
+-- the pieces are in order without overlap, and together they are no longer than the capture
 pub record Disjoint : Type 0 where
   pub in-order : (s : List ℕ) → InOrder 0 (pieces s) (length s)
   pub no-longer : (s : List ℕ) → total (pieces s) ≤ length s
 
 -- ---- calls, one after the other
 
--- the calls on s from a cursor on, each from the cursor that the one before gave, end with Nothing and tell these pieces
+-- the pieces that calls on s return, one after the other: each call starts from the cursor that the last one returned,
+-- and the last call returns Nothing
 pub data Run (s : List ℕ) : ℕ → List Piece → Type 0 where
   over : {at : ℕ} → foundFrom s at ≡ Nothing → Run s at []
   tells-whole : {at start end : ℕ} {next : Cursor} {ps : List Piece}
@@ -90,6 +94,7 @@ pub data Run (s : List ℕ) : ℕ → List Piece → Type 0 where
   tells-cut : {at start : ℕ} {next : Cursor} {ps : List Piece}
       → foundFrom s at ≡ Cut start next → Run s (next .at) ps → Run s at (cut start (slice start (next .at) s) ∷ ps)
 
+-- from any place, the calls return just the pieces of the capture from there on
 abbrev pub CallsTellPieces : Type 0
 CallsTellPieces = (s : List ℕ) (at : ℕ) → Run s at (piecesFrom s at)
 
@@ -99,7 +104,7 @@ abbrev pub FoundWhole : Type 0
 FoundWhole = (s f rest : List ℕ) (at : ℕ) → isOpen f ≡ true → drop at s ≡ f ++ (CR ∷ []) ++ rest
     → piecesFrom s at ≡ whole at (f ++ (CR ∷ [])) ∷ piecesFrom s (at + length (f ++ (CR ∷ [])))
 
--- ---- and so is every frame that a reader takes: it holds no lead byte and no CR inside
+-- ---- every frame that a reader accepts is found whole too: it has no lead byte and no CR inside
 
 abbrev pub FindsWhole : {R : Type 0} → Kind R → Type 0
 FindsWhole {R} k = (s f rest : List ℕ) (at : ℕ) (r : R) → read k f ≡ gives r → drop at s ≡ f ++ rest

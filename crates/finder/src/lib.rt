@@ -1,4 +1,4 @@
-// Captured bytes cut into frames: the frame that a cursor comes to, one call after the other.
+// Cuts a capture into frames. Each call returns the next frame from a cursor on.
 use frames::dynamic::DYNAMIC_LEAD;
 use frames::reply::REPLY_LEAD;
 use frames::request::REQUEST_LEAD;
@@ -17,7 +17,7 @@ pub struct Cursor {
 }
 
 pub enum Found {
-    // The frame is the bytes from start up to end, its CR the last of them.
+    // The frame is the bytes from start up to end; the last of them is its CR.
     Whole {
         start: usize,
         end: usize,
@@ -28,11 +28,11 @@ pub enum Found {
         start: usize,
         next: Cursor,
     },
-    // No frame begins from the cursor on.
+    // No frame begins at the cursor or after it.
     Nothing,
 }
 
-// The first frame that begins at the cursor or after it; a cursor past the end finds nothing.
+// The first frame that begins at the cursor or after it. A cursor past the end finds nothing.
 pub fn next(s: &[u8], from: Cursor) -> Found
     ensures { λ r. ⌜ r ≡ foundFrom (now (s .entry)) (from .at) ⌝ }
 {
@@ -46,7 +46,7 @@ pub fn next(s: &[u8], from: Cursor) -> Found
     Found::Nothing
 }
 
-// The frame whose lead byte stands at start.
+// The frame whose lead byte is at start.
 fn frame_at(s: &[u8], start: usize) -> Found
     requires { ⌜ (start < length (now s)) × (isLead (getD (now s) start 0) ≡ true) ⌝ }
     ensures { λ r. ⌜ r ≡ foundFrom (now (s .entry)) start ⌝ }

@@ -1,4 +1,4 @@
--- The dynamic request: its layout is sound, and so what is demanded of it holds. Assumes nothing.
+-- The dynamic request: its layout is sound, so what is demanded of reading and writing holds. Assumes nothing.
 use Prim.Native.Nat.{ℕ, _≤_}
 use mathlib.Core.List.{List, [], _∷_, append-assoc}
 use mathlib.Core.Bool.{true}
@@ -72,7 +72,7 @@ dynamic-faithful = faithful dynamic-sound
 pub length-dynamic : (r : DynamicRequest) → wrongIn dynamic r ≡ 0 → length (frameOf dynamic r) ≡ 46
 length-dynamic r = length-frame dynamic-sound r
 
--- what the code sees of a frame
+-- the code's values and its first wrong offset are those of the layout
 pub sees-dynamic : (s : List ℕ) → isAddress (getD s 2 0) ≡ true → Sees dynamicFields 2 s (wrongIn dynamic (dynamicAt s)) (dynamicAt s)
 unfolding dynamicFields wrongIn recordWrong upTo between isDynamicChannel
 sees-dynamic s =
@@ -92,7 +92,7 @@ sees-dynamic s =
     sees-byte tt λ _.
     sees-end refl)
 
--- the stores of a record, one after the other, are one run
+-- the stores of a record, one after the other, are a single run
 pub stores-frame : (r : DynamicRequest) (l : List ℕ) →
     set (set (sets (sets (sets (sets (sets (sets (sets (sets (sets (sets (set (set (sets l 0 (19 ∷ letterR ∷ space ∷ [])) 3 (r .requester)) 4 (r .order)) 5 (digits 5 (r .bib))) 10 (digits 3 (r .channel))) 13 (digits 3 (r .run)))
     16 (digits 5 (r .«stop_bib»))) 21 (digits 3 (r .«stop_channel»))) 24 (digits 3 (r .«stop_run»))) 27 (digits 1 (r .sign))) 28 (clock .put (r .time))) 38 (digits 1 (r .days))) 39 (digits 5 (r .period))) 44 (r .output)) 45 CR

@@ -1,4 +1,4 @@
--- What is tried before the fields, and what is tried before a frame is written, test by test. Assumes nothing.
+-- The tests before the fields, and the tests before a frame is written, one by one. Assumes nothing.
 use Prim.Native.Nat.{ℕ, _-_, _≤_, _<_}
 use mathlib.Core.List.{List, [], _∷_}
 use mathlib.Core.Bool.{Bool, true, false, _&&_}
@@ -14,7 +14,7 @@ use Rattle.digits.proofs.Sure.{sure-refuses, sure-gives, sure-tried}
 use Rattle.frames.specs.Rules.{space, isAddress}
 use Rattle.frames.specs.Kind.{leadIs, letterR, CR, headTold, andThen, writeTried}
 
--- ---- answers that gave something
+-- ---- answers that are not refusals
 
 module _ {A : Type 0} where
   pub tried-gives : (t : Bool) (f : Refusal) (rest : Told A) (a : A) → tried t f rest ≡ gives a → (t ≡ true) × (rest ≡ gives a)
@@ -25,7 +25,7 @@ module _ {A : Type 0} where
   then-gives (gives x) rest a e = (refl, e)
   then-gives (refuses f) rest a e = absurd (let z : _≡_ {A = ℕ} 0 1 = cc in omega arith)
 
--- ---- refusals have a number
+-- ---- refusals are those of the table
 
 pub sure-then : {A : Type 0} (t : Told (Unit {0})) (rest : Told A) → Sure t → Sure rest → Sure (andThen t rest)
 sure-then (gives x) rest s s′ = s′
@@ -42,7 +42,7 @@ sure-head lead size s =
 
 -- ---- the head of a frame
 
--- a lead byte that is not 0 is told from an empty frame by the byte at 0
+-- the byte at 0 tests the lead byte, also for an empty frame, if the lead byte is not 0
 lead-at : (lead : ℕ) (s : List ℕ) → 0 < lead → leadIs lead s ≡ eqb (getD s 0 0) lead
 lead-at lead [] h = sym (ne-eqb 0 lead (λ (e : 0 ≡ lead). omega arith))
 lead-at lead (b ∷ s) h = refl

@@ -1,4 +1,4 @@
--- What a writer leaves as it was, once over every kind whose frames have the kind's size. Assumes nothing.
+-- What a writer leaves unchanged, for every kind whose frames have the kind's size. Assumes nothing.
 use Prim.Native.Nat.{ℕ}
 use mathlib.Core.List.{List, _++_}
 use mathlib.Core.Path.{_≡_, sym, ap, _∙_}

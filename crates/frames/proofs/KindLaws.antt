@@ -1,4 +1,4 @@
--- What is demanded of a kind of frame, once over every kind with a sound layout. Assumes nothing.
+-- What is demanded of a kind of frame, proved once for every kind with a sound layout. Assumes nothing.
 use Prim.Native.Nat.{ℕ, suc, _+_, _-_, _≤_, _<_}
 use mathlib.Core.List.{List, [], _∷_, _++_}
 use mathlib.Core.Bool.{Bool, true, _&&_, and-eq-true-iff}
@@ -55,7 +55,7 @@ passed lead size s e =
 with-last : (t : List ℕ) (n x : ℕ) → length t ≡ n + 1 → getD t n 0 ≡ x → take n t ++ (x ∷ []) ≡ t
 with-last t n x h e = rw (← e, ← take-suc t n 0 (omega arith)) (take-all (suc n) t (omega arith))
 
--- a frame is its marks and what stands between them
+-- a frame is lead byte, R and CR, and what is between them
 whole-frame : (lead n : ℕ) (s : List ℕ) → Passed lead (n + 3) s → lead ∷ letterR ∷ (take n (drop 2 s) ++ (CR ∷ [])) ≡ s
 whole-frame lead n [] p = absurd (let h = p .long in omega arith)
 whole-frame lead n (x ∷ []) p = absurd (let h = p .long in omega arith)
@@ -72,7 +72,7 @@ pub record SoundKind {R : Type 0} (k : Kind R) (Whole : R → Type 0) : Type 1 w
   pub sound : Sound Whole (k .fields) (λ _. Unit {0}) (Unit {0}) bytes
   pub size : k .size ≡ bytes + 3
   pub some : 0 < k .lead
-  -- the first byte that is written is an address
+  -- the first byte of the fields is an address
   pub address : (r : R) → wrongIn k r ≡ 0 → isAddress (getD (frameOf k r) 2 0) ≡ true
 
 module _ {R : Type 0} {k : Kind R} {Whole : R → Type 0} (g : SoundKind k Whole) where
@@ -95,7 +95,7 @@ module _ {R : Type 0} {k : Kind R} {Whole : R → Type 0} (g : SoundKind k Whole
       let last : getD s (k .size - 1) 0 ≡ CR = getD-at (k .lead ∷ letterR ∷ write (k .fields) r) CR [] 0 (k .size - 1) (omega (arith, g .size)) in
       rw (← head-good (k .lead) (k .size) s (g .some) refl long last refl (g .address r e)) q
 
-  -- an accepted frame is that of a well formed record, which is whole
+  -- an accepted frame is the frame of a well formed record whose arrays have their lengths
   pub record Own (s : List ℕ) (r : R) : Type 0 where
     pub has : Whole r
     pub fine : wrongIn k r ≡ 0
@@ -131,9 +131,9 @@ module _ {R : Type 0} {k : Kind R} {Whole : R → Type 0} (g : SoundKind k Whole
     );
   }
 
--- ---- `read`, from the head and from what the code sees of the fields
+-- ---- `read`, from the tests of the head and from what the code reads of the fields
 
--- what is seen from the byte after the address on, where the head is good
+-- the fields after the address, if the address is good
 pub sees-address : {R : Type 0} {part : R → ℕ} {next : ℕ → Layout R} {s : List ℕ} {w : ℕ} {r : R}
     → Sees (next (getD s 2 0)) 3 s w r → isAddress (getD s 2 0) ≡ true → Sees (field 2 byte isAddress part next) 2 s w r
 sees-address {R} {part} {next} {s} {w} {r} rest good =
@@ -156,11 +156,11 @@ pub read-head : {R : Type 0} (k : Kind R) (s : List ℕ) (h : ReadVerdict) (f : 
 unfolding read
 read-head k s h f is e = rw (← e, is)
 
--- ---- what a writer owes
+-- ---- the promise of a writer
 
 module _ {R : Type 0} (k : Kind R) (r : R) (out : List ℕ) (long : wrongIn k r ≡ 0 → length (frameOf k r) ≡ k .size)
     (a : WriteAnswer) (is : writeTold a ≡ writeTried (wrongIn k r) (k .size) (length out)) where
-  -- the text that was stored is the frame of a well formed record
+  -- the text that was stored is the frame of the record, if that is well formed
   pub wrote-text : (text out′ : List ℕ) → (wrongIn k r ≡ 0 → text ≡ frameOf k r) → a ≡ Written → out′ ≡ sets out 0 text → Wrote k r out Written out′
   unfolding writeTried
   wrote-text text out′ own w e =

@@ -1,4 +1,4 @@
--- The fields, once over every sound layout: what is written is read, what is read was written so, and what the code sees is what is read. Assumes nothing.
+-- The fields, for every sound layout: what is written reads back, what was read is written the same, and the code reads what the layout says. Assumes nothing.
 use Prim.Native.Nat.{ℕ, _+_, _-_, _^_, _≤_, _<_}
 use mathlib.Core.List.{List, _++_, append-assoc}
 use mathlib.Core.Bool.{Bool, true, false, _&&_}
@@ -17,14 +17,14 @@ use Rattle.frames.specs.Shape.{Value, is, none, Shape, byte, number, tim
 use Rattle.frames.specs.Layout.{Layout, field, suits, end, wrongUnless, taken, fieldsOf, recordWrong, write, within}
 use Rattle.frames.proofs.ShapeLaws.{both-hold, Inverse, one-inverse, digits-inverse, run-inverse, join}
 
--- ---- tests that came out well
+-- ---- tests that passed
 
 pub unless-none : (t : Bool) (at rest : ℕ) → 0 < at → wrongUnless t at rest ≡ 0 → (t ≡ true) × (rest ≡ 0)
 unless-none true at rest h e = (refl, e)
 unless-none false at rest h e = absurd (omega arith)
 
 module _ {R A : Type 0} where
-  -- a field that was taken
+  -- a field that was accepted
   record Kept (rule : A → Bool) (x : Value A) (rest : A → Told R) (r : R) : Type 0 where
     of : A
     there : x ≡ is of
@@ -41,16 +41,16 @@ module _ {R A : Type 0} where
 
 -- ---- what makes a layout sound over n bytes
 
--- P is what is known of a record whose parts hold the values met so far, F that these values fit, and W that a record is whole
+-- P is what is known of a record from the values so far, F says that these values fit, and W that a record is whole
 pub data Sound {R : Type 0} (W : R → Type 0) : Layout R → (R → Type 0) → Type 0 → ℕ → Type 1 where
-  -- an offset that is not 0, a shape that fits and that reads and writes what the rule takes, and after each such value a sound rest
+  -- an offset that is not 0, a shape that fits and that reads and writes what the rule takes, and a sound rest after each such value
   field-sound : {A : Type 0} {at n : ℕ} {shape : Shape A} {rule : A → Bool} {part : R → A} {next : A → Layout R} {P : R → Type 0} {F : Type 0} {Fit : A → Type 0}
       → 0 < at → shape .width ≤ n → Inverse shape rule Fit → ((r : R) → W r → Fit (part r))
       → ((v : A) → rule v ≡ true → Sound W (next v) (λ r. P r × (part r ≡ v)) (F × Fit v) (n - shape .width))
       → Sound W (field at shape rule part next) P F n
   suits-sound : {at n : ℕ} {test : R → Bool} {rest : Layout R} {P : R → Type 0} {F : Type 0}
       → 0 < at → Sound W rest (λ r. P r × (test r ≡ true)) F n → Sound W (suits at test rest) P F n
-  -- the record is the only whole one of which all this is known
+  -- the record is the only whole one for which all this holds
   end-sound : {q : R} {P : R → Type 0} {F : Type 0} → P q → (F → W q) → ((r : R) → W r → P r → q ≡ r) → Sound W (end q) P F 0
 
 -- a record that was read from n bytes
@@ -144,14 +144,14 @@ module _ {Q R : Type 0} (of : R → Q) (whole : Q → R) where
     within-sound (end-sound {q} own fits one) O G facts inner outer same =
         end-sound (outer q own) (λ g. up q (fits (facts g))) (λ r u o. ap whole (one (of r) (down r u) (inner r o)) ∙ same r o)
 
--- ---- what the code sees of a frame: a value for each field, and the offset of the first that is wrong
+-- ---- what the code reads of a frame: a value for each field, and the offset of the first wrong one
 
--- the value that the code holds is the one that stands there; where none does, it is one that the rule does not take
+-- the value that the code holds is the one in the frame; if there is none, it is one that the rule does not take
 abbrev pub HeldAs : {A : Type 0} → (A → Bool) → Value A → A → Type 0
 HeldAs rule (is u) v = u ≡ v
 HeldAs rule none v = rule v ≡ false
 
--- the code's offset of the first wrong field, 0 for none, and its record
+-- the code's offset of the first wrong field (0 for none), and its record
 pub data Sees {R : Type 0} : Layout R → ℕ → List ℕ → ℕ → R → Type 1 where
   sees-field : {A : Type 0} {at p w : ℕ} {s : List ℕ} {r : R} {shape : Shape A} {rule : A → Bool} {part : R → A} {next : A → Layout R}
       → (v : A) → T (ltb 0 at) → HeldAs rule (shape .got s p) v → (rule v ≡ true → Sees (next v) (p + shape .width) s w r)
@@ -189,7 +189,7 @@ module _ {Q R : Type 0} (of : R → Q) (whole : Q → R) where
   sees-within (sees-suits rest) e = sees-suits (sees-within rest e)
   sees-within (sees-end f) e = sees-end (ap whole f ∙ e)
 
--- ---- sound fields, each by its shape; at a field of digits the rule's highest value
+-- ---- sound fields, by their shape; a field of digits needs the highest value of its rule
 
 pub byte-inverse : {rule : ℕ → Bool} → Inverse byte rule (λ _. Unit {0})
 byte-inverse = one-inverse (record { lawful = byte-lawful; back = λ v h. refl })

@@ -1,4 +1,4 @@
--- Fields stand where they say, field by field; so a refusal of reading is one of the table. Assumes nothing.
+-- Each field is where it says, field by field; so the refusals of reading are those of the table. Assumes nothing.
 use Prim.Native.Nat.{ℕ, _+_, _<_}
 use mathlib.Core.List.{List}
 use mathlib.Core.Bool.{Bool, true, false, not}
@@ -60,7 +60,7 @@ reply-stands =
 pub fields-stand-where-they-say : FieldsStandWhereTheySay
 fields-stand-where-they-say = (request-stands, reply-stands, dynamic-stands)
 
--- ---- a place that is not 0 is told
+-- ---- an offset that is not 0 makes a refusal of the table
 
 field-told : (at : ℕ) → 0 < at → isRefusal (FIELD at) ≡ true
 field-told at h = ap not (ne-eqb at 0 (λ (e : at ≡ 0). omega arith))

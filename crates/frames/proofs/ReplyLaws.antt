@@ -1,4 +1,4 @@
--- The static reply: its layout is sound, and what the code's steps come to. Assumes nothing.
+-- The static reply: its layout is sound, and what the code's steps compute. Assumes nothing.
 use Prim.Native.Nat.{ℕ, _+_, _≤_}
 use mathlib.Core.List.{List, [], _∷_, _++_, append-assoc}
 use mathlib.Core.Bool.{Bool, true, false, cond}
@@ -52,7 +52,7 @@ channel-bound v = or-one v _ 255 tt (or-one v _ 255 tt (or-one v _ 255 tt (or-on
 abbrev WholeTail : Tail → Type 0
 WholeTail t = WholeTimes (t .times)
 
--- from the bib on, whatever the least run, the letters and the kind of time that a letter asks for
+-- from the bib on, for any least run, letters and kind of time for each letter
 tail-sound : (least : ℕ) (letters : ℕ → Bool) (kind : ℕ → TimingKind) → Sound WholeTail (fromBib least (number 3) (upTo 999) letters kind) (λ _. Unit {0}) (Unit {0}) 38
 unfolding fromBib
 tail-sound least letters kind =
@@ -123,7 +123,7 @@ length-reply = length-frame reply-sound
 abbrev kindIn : StaticReply → TimingKind
 kindIn r = timingKind (r .head .status) (r .head .information)
 
--- what time and date say of a record is what its whole layout says of them
+-- the test of time and date alone agrees with that of the whole layout
 times-wrong : (r : StaticReply) → headWrong (r .head) (recordWrong (timed (kindIn r)) (tailOf r .times)) ≡ wrongIn reply r
 unfolding headWrong wrongIn replyFields fromBib recordWrong
 times-wrong r =
@@ -152,11 +152,11 @@ head-none h rest e =
     (last-none (isRaw (h .mode)) _ _
     (last-none (isRaw (h .program)) _ _ e tt) tt) tt) tt) tt) tt) tt) tt) tt) tt) tt
 
--- time and date of a record that is not wrong
+-- if a record is well formed, so are its time and date
 pub times-fine : (r : StaticReply) → wrongIn reply r ≡ 0 → recordWrong (timed (kindIn r)) (tailOf r .times) ≡ 0
 times-fine r e = head-none (r .head) _ (times-wrong r ∙ e)
 
--- ---- what the code sees of a frame
+-- ---- what the code reads of a frame
 
 abbrev kindAt : List ℕ → TimingKind
 kindAt s = timingKind (getD s 5 0) (getD s 29 0)
@@ -210,7 +210,7 @@ text-is-frame r e =
     ∙ ap (λ (l : List ℕ). numbers ++ (l ++ (CR ∷ []))) q
     ∙ ap (λ (l : List ℕ). numbers ++ l) (append-assoc t (bytesOf (r .spare) 0 2) (CR ∷ []))))
 
--- the stores of a reply are one run
+-- the stores of a reply are a single run
 pub head-stores : (h : ReplyHead) (l : List ℕ) →
     set (sets (sets (sets (sets (sets (sets (set (set (set (set (sets l 0 (18 ∷ letterR ∷ space ∷ [])) 3 (h .program)) 4 (h .mode)) 5 (h .status)) 6 (h .requester)) 7 (digits 5 (h .number))) 12 (digits 5 (h .bib)))
     17 (digits 3 (h .group))) 20 (digits 3 (h .run))) 23 (digits 3 (h .physical))) 26 (digits 3 (h .channel))) 29 (h .information)
@@ -235,7 +235,7 @@ reply-stores r l h =
     ap (λ (s : List ℕ). set (sets (sets (sets l 0 (headText (r .head))) 30 t) 48 s) 50 CR) (sym (all-bytes (r .spare) 2 (sym h)))
     ∙ sym (a ∙ rw (length-head (r .head), b, length-timing (r .timing) (r .«raw_time») (r .«raw_date»)))
 
--- reading: the head's refusal, and the fields
+-- reading: the refusals of the head, and then the fields
 pub refused-as : (s : List ℕ) (h : ReadVerdict) (f : ReadRefusal) (a : ReplyRead) → h ≡ Refused f → verdictTold h ≡ headTold 18 51 s → a ≡ refusedBy f → ReadAs s a
 unfolding read
 refused-as s h f a is e q =
@@ -267,7 +267,7 @@ read-as s h a is e q =
     let t = fields-told s h is e in
     rw q (record { told = judged-told (replyAt s) (wrongAt s) ∙ t; beside = judged-beside (replyAt s) (wrongAt s) ∙ ap orZero t })
 
--- ---- the check: as reading, with the label in place of the record
+-- ---- the check: like reading, with the label in place of the record
 
 labelled-tried : (t : Bool) (f : Refusal) (r : StaticReply) → tried t f (gives (labelOf r)) ≡ labelled (tried t f (gives r))
 labelled-tried true f r = refl

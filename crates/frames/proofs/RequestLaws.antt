@@ -1,4 +1,4 @@
--- The static request: its layout is sound, and so what is demanded of it holds. Assumes nothing.
+-- The static request: its layout is sound, so what is demanded of reading and writing holds. Assumes nothing.
 use Prim.Native.Nat.{ℕ, _≤_}
 use mathlib.Core.List.{List, [], _∷_, append-assoc}
 use mathlib.Core.Bool.{true}
@@ -66,7 +66,7 @@ request-fine s r e = frame-again request-sound s r e .fine
 pub length-request : (r : StaticRequest) → wrongIn request r ≡ 0 → length (frameOf request r) ≡ 24
 length-request r = length-frame request-sound r
 
--- what the code sees of a frame
+-- the code's values and its first wrong offset are those of the layout
 pub sees-request : (s : List ℕ) → isAddress (getD s 2 0) ≡ true → Sees requestFields 2 s (wrongIn request (requestAt s)) (requestAt s)
 unfolding requestFields wrongIn recordWrong upTo isRequestChannel
 sees-request s =
@@ -81,7 +81,7 @@ sees-request s =
     sees-byte tt λ _.
     sees-end refl)
 
--- the stores of a record, one after the other, are one run
+-- the stores of a record, one after the other, are a single run
 pub stores-frame : (r : StaticRequest) (l : List ℕ) →
     set (set (sets (sets (sets (set (sets (sets (set (sets l 0 (17 ∷ letterR ∷ space ∷ [])) 3 (r .requester)) 4 (digits 3 (r .number))) 7 (digits 5 (r .bib))) 12 (r .information)) 13 (digits 3 (r .channel)))
     16 (digits 3 (r .run))) 19 (digits 3 (r .group))) 22 (r .output)) 23 CR

@@ -1,4 +1,4 @@
--- What a rule that holds says of a value. Assumes nothing.
+-- What follows for a value from a rule that takes it. Assumes nothing.
 use Prim.Native.Nat.{ℕ, _≤_, _<_}
 use mathlib.Core.Bool.{Bool, true, false, _||_, and-eq-true-iff}
 use mathlib.Core.Path.{_≡_, refl}
@@ -16,7 +16,7 @@ pub or-cases : (a b : Bool) (P : Type 0) → (a ≡ true → P) → (b ≡ true 
 or-cases true b P f g e = f refl
 or-cases false b P f g e = g e
 
--- a rule that takes one number more
+-- a rule that takes one more number
 pub or-one : {a : Bool} (v n hi : ℕ) → T (leb n hi) → (a ≡ true → v ≤ hi) → (a || eqb v n) ≡ true → v ≤ hi
 or-one {a} v n hi t h e = or-cases a (eqb v n) (v ≤ hi) h (λ p. let k = leb→le n hi t in let q = eqb-true v n p in omega arith) e
 
@@ -24,11 +24,11 @@ pub in-range : (lo hi v : ℕ) → between lo hi v ≡ true → v ≤ hi
 unfolding between
 in-range lo hi v e = leb-true v hi (and-eq-true-iff (leb lo v) (leb v hi) .0 e .1)
 
--- what stands for no number is in no range
+-- the value that is held for no number is in no range
 pub none-in-range : (lo hi : ℕ) → hi < 4294967295 → between lo hi 4294967295 ≡ false
 unfolding between
 none-in-range lo hi h = over lo hi 4294967295 h
 
--- a logical channel, from its last single number on: all are below 256
+-- logical channels are all below 256
 pub to-240 : (v : ℕ) → leb v 240 ≡ true → v ≤ 255
 to-240 v e = let h = leb-true v 240 e in omega arith

@@ -1,4 +1,4 @@
--- What the code sees of a field, by its shape. Assumes nothing.
+-- What the code reads of a field, by its shape. Assumes nothing.
 use Prim.Native.Nat.{ℕ, _+_}
 use mathlib.Core.List.{List}
 use mathlib.Core.Bool.{Bool, true, false}
@@ -26,7 +26,7 @@ is-false : (b : Bool) → (b ≡ true → ⊥) → b ≡ false
 is-false true f = absurd (f refl)
 is-false false f = refl
 
--- no day has a part that is no number
+-- a date with a part that is no number is no real day
 held-date : (x y z : Number) → HeldAs isDate (pair (value x) (pair (value y) (value z))) (orNone x, (orNone y, orNone z))
 held-date (Is d) (Is m) (Is y) = refl
 held-date (Is d) (Is m) Wrong = is-false (realDay d m noNumber) (λ e. let b = day-bounds d m noNumber e in let h = b .year in omega arith)

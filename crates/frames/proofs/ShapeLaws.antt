@@ -1,4 +1,4 @@
--- Shapes: one number, two shapes after each other, and raw bytes are lawful, and what is written is read. Assumes nothing.
+-- Shapes: one number, two shapes in a row, and raw bytes are lawful, and what is written reads back. Assumes nothing.
 use Prim.Native.Nat.{ℕ, zero, suc, _+_, _-_, _^_, _≤_}
 use mathlib.Core.List.{List, [], _∷_, _++_, append-assoc, append-nil}
 use mathlib.Core.Bool.{Bool, true, false, _&&_}
@@ -15,15 +15,15 @@ use Rattle.digits.specs.Form.{Form}
 use Rattle.digits.proofs.Forms.{number-lawful, number-back}
 use Rattle.frames.specs.Shape.{Value, is, none, Shape, value, one, number, pair, both, bytesOf, run}
 
--- ---- what is asked of a shape
+-- ---- what every shape must meet
 
--- a value takes the shape's width, what is read goes by the shape's own bytes alone, and a value that was read is written as the bytes that were there
+-- a value takes the shape's width, reading depends only on the shape's own bytes, and a value that was read is written as the bytes that were there
 pub record Lawful {A : Type 0} (k : Shape A) : Type 0 where
   pub long : (v : A) → length (k .put v) ≡ k .width
   pub local : (pre t post : List ℕ) → length t ≡ k .width → k .got (pre ++ t ++ post) (length pre) ≡ k .got t 0
   pub again : (s : List ℕ) (p : ℕ) (v : A) → p + k .width ≤ length s → k .got s p ≡ is v → take (k .width) (drop p s) ≡ k .put v
 
--- and a good value that fits is read back from its writing: all that is read fits
+-- a lawful shape whose good values, if they fit, read back from their writing; every value that is read fits
 pub record Inverse {A : Type 0} (k : Shape A) (rule : A → Bool) (Fit : A → Type 0) : Type 0 where
   pub lawful : Lawful k
   pub fit : (s : List ℕ) (p : ℕ) (v : A) → k .got s p ≡ is v → Fit v
@@ -46,12 +46,12 @@ one-inverse {k} {rule} g = record {
   back = λ v h f. ap value (g .back v h);
 }
 
--- both of two tests that came out well
+-- both of two tests, if they hold together
 pub both-hold : (a b : Bool) → T (a && b) → T a × T b
 both-hold true b t = (tt, t)
 both-hold false b t = absurd t
 
--- w digits, by a rule whose highest value is hi
+-- w digits, with a rule whose highest value is hi
 pub digits-inverse : {rule : ℕ → Bool} (w hi : ℕ) → T (leb 1 w && leb w 10) → T (ltb hi (10 ^ w)) → ((v : ℕ) → rule v ≡ true → v ≤ hi) → Inverse (number w) rule (λ _. Unit {0})
 digits-inverse w hi t u below =
     let d = both-hold (leb 1 w) (leb w 10) t in

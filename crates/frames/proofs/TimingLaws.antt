@@ -1,4 +1,4 @@
--- Runs of bytes, and time and date of a reply: their layouts are sound, and the code checks, sees and stores what they say. Assumes nothing.
+-- Runs of bytes, and time and date of a reply: their layouts are sound, and the code tests, reads and stores what they say. Assumes nothing.
 use Prim.Native.Nat.{ℕ, zero, suc, _+_, _-_, _≤_, _<_}
 use mathlib.Core.List.{List, [], _∷_, _++_, append-assoc}
 use mathlib.Core.Bool.{Bool, true, false, _&&_, _||_, and-eq-true-iff}
@@ -47,7 +47,7 @@ unfolding allFrom
 run-done rule l i n all false h e = sym e
 run-done rule l i n all true h e = let k : n - i ≡ 0 = omega arith in sym (e ∙ rw k)
 
--- ---- stores that are one run
+-- ---- stores that are a single run
 
 pub clock-stores : (o : List ℕ) (ticks day month year : ℕ)
     → sets (sets (sets (sets o 30 (clock .put ticks)) 40 (digits 2 day)) 42 (digits 2 month)) 44 (digits 4 year) ≡ sets o 30 (clockText ticks day month year)
@@ -103,7 +103,7 @@ days-inverse ticks =
     (digits-inverse 7 9999999 tt tt (λ v h. leb-true v 9999999 h))
     (λ v h. (refl, le-leb (v .1) 9999999 (net-days (netOf ticks (v .0) (v .1)) (and-eq-true-iff (isSign (v .0)) (isNet (netOf ticks (v .0) (v .1))) .0 h .1))))
 
--- a record of the kind with these values, and unused bytes that are zero
+-- a record of this kind with these values, whose unused bytes are zero
 
 unused-are : (rt rd : List ℕ) → length rt ≡ 10 → length rd ≡ 8 → (areZero 10 rt && areZero 8 rd) ≡ true → (replicate 10 0 ≡ rt) × (replicate 8 0 ≡ rd)
 unused-are rt rd a b e =
@@ -140,7 +140,7 @@ raw-of Raw e = refl
 raw-of (Clock ticks d m y) e = absurd (let z : _≡_ {A = ℕ} 0 1 = cc in omega arith)
 raw-of (Net v) e = absurd (let z : _≡_ {A = ℕ} 0 1 = cc in omega arith)
 
--- what a net value's own parts are
+-- the parts of a net value
 module _ (ticks : ℕ) (days : ℕ × ℕ) (good : areDays ticks days ≡ true) where
   net-parts-are : netParts (netSum (netOf ticks (days .0) (days .1))) ≡ netOf ticks (days .0) (days .1)
   net-parts-are = net-inverse .back (netOf ticks (days .0) (days .1)) (and-eq-true-iff (isSign (days .0)) (isNet (netOf ticks (days .0) (days .1))) .0 good .1)
@@ -181,7 +181,7 @@ timed-sound rawKind =
     (λ f. record { time = f .0 .0 .1; date = f .0 .1; spare = f .1 })
     (λ t whole h. same-times (raw-of (t .timing) (h .0 .0 .0 .1)) (sym (h .0 .0 .1)) (sym (h .0 .1)) (sym (h .1))))
 
--- ---- `timing_wrong` is the first wrong part of time and date
+-- ---- `timing_wrong` returns the first wrong part of time and date
 
 pub timing-wrong-is : (kind : TimingKind) (t : Timing) (rt rd sp : List ℕ)
     → timingWrong kind t rt rd sp ≡ recordWrong (timed kind) (record { timing = t; rawTime = rt; rawDate = rd; spare = sp })
@@ -196,14 +196,14 @@ timing-wrong-is rawKind (Clock ticks day month year) rt rd sp = refl
 timing-wrong-is rawKind (Net value) rt rd sp = refl
 timing-wrong-is rawKind Raw rt rd sp = refl
 
--- the timing of a record that is not wrong in time and date is of the kind that is asked for
+-- if time and date of a record are not wrong, its timing has the kind that is asked for
 pub kind-fits : (kind : TimingKind) (t : Times) → recordWrong (timed kind) t ≡ 0 → isOf kind (t .timing) ≡ true
 unfolding timed recordWrong
 kind-fits clockKind t e = unless-none (isOf clockKind (t .timing)) 30 _ (omega arith) e .0
 kind-fits netKind t e = unless-none (isOf netKind (t .timing)) 30 _ (omega arith) e .0
 kind-fits rawKind t e = unless-none (isOf rawKind (t .timing)) 30 _ (omega arith) e .0
 
--- ---- `seen_at` sees a frame's time and date
+-- ---- `seen_at` reads a frame's time and date
 
 abbrev pub timesSeen : TimingKind → List ℕ → Times
 timesSeen kind s = record { timing = seenOf kind s .timing; rawTime = seenOf kind s .«raw_time»; rawDate = seenOf kind s .«raw_date»; spare = bytesOf s 48 2 }

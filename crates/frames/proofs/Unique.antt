@@ -1,4 +1,4 @@
--- No second outcome meets the promise of a reader or a writer. Assumes nothing.
+-- Only one outcome meets the promise of a reader or a writer. Assumes nothing.
 use Prim.Native.Nat.{ℕ}
 use mathlib.Core.List.{List}
 use mathlib.Core.Bool.{cond}
@@ -34,7 +34,7 @@ use Rattle.frames.specs.Reply.{reply, toldBy, ReadAs, checkTold}
 use Rattle.frames.specs.Unique.{OneOutcome}
 use Rattle.frames.proofs.RefusalLaws.{same-read-refusal}
 
--- ---- what was told leads back to the refusal
+-- ---- a refusal can be recovered from what it means on paper
 
 module _ (A : Type 0) where
   same-refusal : (f g : ReadRefusal) → _≡_ {A = Told A} (refuses (readRefused f)) (refuses (readRefused g)) → f ≡ g
@@ -69,7 +69,7 @@ same-check (Good k) (rejected g) e = absurd (not-given ReplyLabel k g e)
 same-check (rejected f) (Good l) e = absurd (not-given ReplyLabel l f (sym e))
 same-check (rejected f) (rejected g) e = ap rejected (same-refusal ReplyLabel f g e)
 
--- the verdict, and the record beside a refusal too
+-- the verdict, and also the record that comes with it
 one-reply : (s : List ℕ) → Once (ReadAs s)
 one-reply s a b p q =
     ap₂ (λ (v : ReadVerdict) (r : StaticReply). record { verdict = v; reply = r })

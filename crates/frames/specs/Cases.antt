@@ -1,4 +1,4 @@
--- Twelve worked cases, with both sides of each line, and each refusal of reading, writing and running time by its number, as one statement over the definitions.
+-- Twelve worked cases with both sides of each limit, and each refusal of reading, writing and running time by its number.
 use Prim.Native.Nat.{ℕ, zero, suc}
 use Prim.Native.String.{String}
 use mathlib.Core.List.{List, [], _∷_, _++_}
@@ -24,16 +24,16 @@ use Rattle.frames.specs.Dynamic.{dynamic}
 abbrev pub Good : {R : Type 0} → Kind R → List ℕ → Type 0
 Good {R} k s = (r : R) × (read k s ≡ gives r)
 
--- a frame is turned away by FIELD, which is 5, with this offset
+-- a frame is refused with FIELD, which is 5, at this offset
 abbrev pub FieldAt : {R : Type 0} → Kind R → List ℕ → ℕ → Type 0
 FieldAt k s at = read k s ≡ refuses (placed 5 at)
 
--- the answers to a frame with n bytes in turn, from a place on, each made 7Fh, which no field takes
+-- the answers to n frames, each of which is s with one byte made 7Fh, which no field takes: the byte at `at`, then the next, and so on
 abbrev pub damaged : {R : Type 0} → Kind R → List ℕ → ℕ → ℕ → List (Told R)
 damaged k s at zero = []
 damaged k s at (suc n) = read k (set s at 127) ∷ damaged k s (suc at) n
 
--- FIELD with each of these offsets
+-- the answers FIELD with these offsets
 abbrev pub fieldsAt : {R : Type 0} → List ℕ → List (Told R)
 fieldsAt [] = []
 fieldsAt (at ∷ more) = refuses (placed 5 at) ∷ fieldsAt more
@@ -43,7 +43,7 @@ abbrev pub asking : String → String → String → String → List ℕ
 asking requester letter channel run =
     17 ∷ (codes "R " ++ (codes requester ++ (codes "01200041" ++ (codes letter ++ (codes channel ++ (codes run ++ (codes "000S" ++ (13 ∷ []))))))))
 
--- the record of such a request from A, with letter 1 and channel 255
+-- the record of such a request from A with letter 1 and channel 255
 abbrev pub asked : ℕ → StaticRequest
 asked run = record { requester = 65; number = 12; bib = 41; information = 49; channel = 255; run = run; group = 0; output = 83 }
 
@@ -52,7 +52,7 @@ abbrev pub replying : String → String → String → String → String → Lis
 replying bib channel letter time date =
     18 ∷ (codes "R SOEA00012" ++ (codes bib ++ (codes "000001015" ++ (codes channel ++ (codes letter ++ (codes time ++ (codes date ++ (codes "  " ++ (13 ∷ [])))))))))
 
--- the record of such a reply with bib 41, channel 255 and no raw parts
+-- the record of such a reply with bib 41, channel 255 and no raw bytes
 abbrev pub replied : ℕ → Timing → StaticReply
 replied letter timing =
     record { head = record { program = 83; mode = 79; status = 69; requester = 65; number = 12; bib = 41; group = 0; run = 1; physical = 15; channel = 255; information = letter }; timing = timing; «raw_time» = zeros10; «raw_date» = zeros8; spare = 32 ∷ 32 ∷ [] }
@@ -69,14 +69,14 @@ running order bib period =
     19 ∷ (codes "R 1" ++ (codes order ++ (codes bib ++ (codes "00000160000255000" ++ (codes "000000000000" ++ (codes period ++ (codes "S" ++ (13 ∷ []))))))))
 
 pub record Worked : Type 0 where
-  -- 1. 235959.9999 is the last tick of a day; hour 24 is no time, in a clock reply and in a net one
+  -- 1. 23:59:59.9999 is the last tick of a day; hour 24 is no time, neither in a clock reply nor in a net reply
   pub last-tick : clock .got (codes "2359599999") 0 ≡ Is 863999999
   pub last-second : read reply (replying "00041" "255" "0" "2359599999" "29022024") ≡ gives (replied 48 (Clock 863999999 29 2 2024))
   pub hour-24 : FieldAt reply (replying "00041" "255" "0" "2400000000" "29022024") 30
   pub net-hour-24 : FieldAt reply (replying "00041" "255" "1" "2400000000" "+0000000") 30
-  -- 2. no days and a time
+  -- 2. net: zero days, and a time
   pub net-plus : read reply (replying "00041" "255" "1" "0001125400" "+0000000") ≡ gives (replied 49 (Net (pos 725400)))
-  -- 3. one day less and a time
+  -- 3. net: minus one day, and a time
   pub net-minus : read reply (replying "00041" "255" "1" "2359590000" "-0000001") ≡ gives (replied 49 (Net (negsuc 9999)))
   -- 4. 29 February
   pub leap-day : read reply (replying "00041" "255" "0" "0001125400" "29022024") ≡ gives (replied 48 (Clock 725400 29 2 2024))
@@ -84,28 +84,28 @@ pub record Worked : Type 0 where
   -- 5. the last run
   pub run-250 : Good request (asking "A" "1" "255" "250")
   pub run-251 : FieldAt request (asking "A" "1" "255" "251") 16
-  -- 6. a channel of replies alone
+  -- 6. a channel that only replies have
   pub asked-250 : FieldAt request (asking "A" "1" "250" "001") 13
   pub replied-250 : Good reply (replying "00041" "250" "1" "0001125400" "+0000000")
-  -- 7. a letter of requests alone
+  -- 7. a letter that only requests have
   pub asked-L : Good request (asking "A" "L" "255" "001")
   pub replied-L : FieldAt reply (replying "00041" "255" "L" "0001125400" "+0000000") 29
-  -- 8. no period
+  -- 8. a period of 0
   pub period-a : Good dynamic (running "a" "00041" "00000")
   pub period-A : FieldAt dynamic (running "A" "00041" "00000") 39
   pub period-B : FieldAt dynamic (running "B" "00041" "00000") 39
-  -- 9. nothing, and a lead byte alone
+  -- 9. an empty frame, and a frame that is only a lead byte
   pub empty-request : read request [] ≡ refuses (plain 1)
   pub empty-reply : read reply [] ≡ refuses (plain 1)
   pub empty-dynamic : read dynamic [] ≡ refuses (plain 1)
   pub lead-alone : read request (17 ∷ []) ≡ refuses (plain 2)
   pub lead-to-reply : read reply (17 ∷ []) ≡ refuses (plain 1)
   pub lead-to-dynamic : read dynamic (17 ∷ []) ≡ refuses (plain 1)
-  -- 10. a sign between Z and a
+  -- 10. a character between Z and a
   pub bracket : FieldAt request (asking "[" "1" "255" "001") 3
   -- 11. the lowest running time
   pub lowest : runningTime (record { bib = 1; tnow = 0; tev = 863999999; sign = 0; days = 9; time = 863999999 }) ≡ gives (negsuc 9503999997)
-  -- 12. the last bib
+  -- 12. the largest bib
   pub bib-59999 : Good reply (replying "59999" "255" "1" "0001125400" "+0000000")
   pub bib-60000 : FieldAt reply (replying "60000" "255" "1" "0001125400" "+0000000") 12
   pub running-60000 : Good dynamic (running "A" "60000" "00001")
@@ -116,7 +116,7 @@ pub record Worked : Type 0 where
   pub record-251 : writeTried (wrongIn request (asked 251)) 24 24 ≡ refuses (placed 6 16)
   pub room-23 : writeTried (wrongIn request (asked 250)) 24 23 ≡ refuses (plain 7)
   pub room-24 : writeTried (wrongIn request (asked 250)) 24 24 ≡ gives tt
-  -- of two faults the one that is tried first is told (KIND before LENGTH and LENGTH before END are among the cases of a lead byte alone)
+  -- of two faults, the one that is tested first is reported (the frames of case 9 show KIND before LENGTH, and LENGTH before END)
   pub end-before-address : read request (17 ∷ (codes "S A012000411255001000S" ++ (10 ∷ []))) ≡ refuses (plain 3)
   pub address-before-field : read request (17 ∷ (codes "S [012000411255001000S" ++ (13 ∷ []))) ≡ refuses (plain 4)
   pub first-field : read request (17 ∷ (codes "R [012000411255251000x" ++ (13 ∷ []))) ≡ refuses (placed 5 3)

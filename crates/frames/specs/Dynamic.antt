@@ -22,7 +22,7 @@ isOrder = oneOf (codes "ABabTt")
 unfoldable pub isDynamicChannel : ℕ → Bool
 isDynamicChannel v = leb v 240 || eqb v 250 || eqb v 255
 
--- a period of 0 is for the orders other than A and B
+-- a period of 0 is good only with an order other than A and B
 unfoldable pub leastPeriod : ℕ → ℕ
 leastPeriod order = cond (oneOf (codes "AB") order) 1 0
 
@@ -38,7 +38,7 @@ dynamicFields =
     field 16 (number 5) (between 1 60000) (λ r. r .«stop_bib») λ stopBib.
     field 21 (number 3) isDynamicChannel (λ r. r .«stop_channel») λ stopChannel.
     field 24 (number 3) (upTo 250) (λ r. r .«stop_run») λ stopRun.
-    -- the sign of Taux, 0 plus and 1 minus, its time and its days
+    -- Taux: its sign (0 plus, 1 minus), its time and its days
     field 27 (number 1) (upTo 1) (λ r. r .sign) λ sign.
     field 28 time isTime (λ r. r .time) λ ticks.
     field 38 (number 1) (upTo 9) (λ r. r .days) λ days.
@@ -49,11 +49,11 @@ dynamicFields =
 abbrev pub dynamic : Kind DynamicRequest
 dynamic = record { lead = 19; size = 46; fields = dynamicFields }
 
--- what the reader's answer says on paper
+-- what the reader's answer means on paper
 abbrev pub dynamicTold : DynamicRead → Told DynamicRequest
 dynamicTold (Request r) = gives r
 dynamicTold (Refused f) = refuses (readRefused f)
 
--- what is promised of reading s
+-- what is promised of reading s: on paper the answer is `read dynamic` of s
 abbrev pub DynamicAs : List ℕ → DynamicRead → Type 0
 DynamicAs s a = dynamicTold a ≡ read dynamic s

@@ -1,4 +1,4 @@
--- Worked cases of the dynamic request: one spelled in full, each byte of it damaged, both sides of each rule, and each part of its record out of range.
+-- Worked cases of the dynamic request: one written out in full, each byte of it damaged, both sides of each rule, and each part of its record out of range.
 use Prim.Native.Nat.{ℕ}
 use Prim.Native.String.{String}
 use mathlib.Core.List.{List, [], _∷_, _++_}
@@ -11,15 +11,15 @@ use Rattle.frames.specs.Kind.{read, wrongIn, frameOf}
 use Rattle.frames.specs.Dynamic.{dynamic}
 use Rattle.frames.specs.Cases.{Good, FieldAt, damaged, fieldsAt}
 
--- a good dynamic request, in which no two parts are alike; its time is 12:34:56.7890
+-- a good dynamic request in which no two parts are alike; its time is 12:34:56.7890
 abbrev pub good : List ℕ
 good = 19 ∷ (codes "R Cb34567178209456781932141" ++ (codes "1234567890" ++ (codes "708642B" ++ (13 ∷ []))))
 
--- and with this text at a place
+-- the same frame with this text at a place
 abbrev pub but : ℕ → String → List ℕ
 but at text = sets good at (codes text)
 
--- a record by its parts: the start, the stop, Taux, and the rest
+-- a record from its parts: requester, order, start, stop, Taux, period, output
 abbrev pub orders : ℕ → ℕ → ℕ → ℕ → ℕ → ℕ → ℕ → ℕ → ℕ → ℕ → ℕ → ℕ → ℕ → DynamicRequest
 orders requester order bib channel run stopBib stopChannel stopRun sign time days period output =
     record { requester = requester; order = order; bib = bib; channel = channel; run = run; «stop_bib» = stopBib; «stop_channel» = stopChannel; «stop_run» = stopRun; sign = sign; time = time; days = days; period = period; output = output }
@@ -28,10 +28,10 @@ pub record DynamicWorked : Type 0 where
   -- the frame and its record
   pub spelled : read dynamic good ≡ gives (orders 67 98 34567 178 209 45678 193 214 1 452967890 7 8642 66)
   pub written : frameOf dynamic (orders 67 98 34567 178 209 45678 193 214 1 452967890 7 8642 66) ≡ good
-  -- the minus of a Taux of zero is kept, read and written
+  -- the minus of a Taux of zero is kept when read and when written
   pub minus-zero : read dynamic (but 27 "100000000000") ≡ gives (orders 67 98 34567 178 209 45678 193 214 1 0 0 8642 66)
   pub minus-zero-written : frameOf dynamic (orders 67 98 34567 178 209 45678 193 214 1 0 0 8642 66) ≡ but 27 "100000000000"
-  -- each byte of the fields in turn: requester, order, bib, channel, run; stop bib, channel and run; sign, time, days; period, output
+  -- each byte of the fields damaged in turn: requester, order, bib, channel, run; stop bib, channel and run; sign, time, days; period, output
   pub offsets : damaged dynamic good 3 42 ≡ fieldsAt (3 ∷ 4 ∷ 5 ∷ 5 ∷ 5 ∷ 5 ∷ 5 ∷ 10 ∷ 10 ∷ 10 ∷ 13 ∷ 13 ∷ 13
       ∷ 16 ∷ 16 ∷ 16 ∷ 16 ∷ 16 ∷ 21 ∷ 21 ∷ 21 ∷ 24 ∷ 24 ∷ 24 ∷ 27 ∷ 28 ∷ 28 ∷ 28 ∷ 28 ∷ 28 ∷ 28 ∷ 28 ∷ 28 ∷ 28 ∷ 28 ∷ 38 ∷ 39 ∷ 39 ∷ 39 ∷ 39 ∷ 39 ∷ 44 ∷ [])
   -- both sides of the rules

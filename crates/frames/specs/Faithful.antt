@@ -1,4 +1,4 @@
--- What is demanded of reading and writing a kind of frame, in three statements. `Whole` says that a record's arrays have their lengths; a record without arrays is whole.
+-- What is demanded of reading and writing a kind of frame: three statements. `Whole` says that a record's arrays have their lengths; one without arrays is whole.
 use Prim.Native.Nat.{ℕ, _≤_}
 use mathlib.Core.List.{List, _++_}
 use mathlib.Core.Logic.{_↔_}
@@ -13,12 +13,12 @@ abbrev pub outputOf : {R : Type 0} → Kind R → R → List ℕ → List ℕ
 outputOf k r out = outputAfter (writeTried (wrongIn k r) (k .size) (length out)) (frameOf k r) (k .size) out
 
 pub record Faithful {R : Type 0} (k : Kind R) (Whole : R → Type 0) : Type 0 where
-  -- a well formed record, written with room enough, reads back as itself
+  -- a well formed record, written to an output with room enough, reads back as itself
   pub reads-back : (r : R) → Whole r → wrongIn k r ≡ 0 → (out : List ℕ) → k .size ≤ length out
       → (writeTried (wrongIn k r) (k .size) (length out) ≡ gives tt) × (read k (take (k .size) (outputOf k r out)) ≡ gives r)
   -- an accepted frame, written again, gives its own bytes
   pub writes-again : (s : List ℕ) (r : R) → read k s ≡ gives r → (out : List ℕ) → k .size ≤ length out
       → (writeTried (wrongIn k r) (k .size) (length out) ≡ gives tt) × (outputOf k r out ≡ s ++ drop (k .size) out)
-  -- a frame is turned away exactly if no well formed record writes it
+  -- a frame is refused exactly if no well formed record writes it
   pub turned-away : (s : List ℕ)
       → ((f : Refusal) × (read k s ≡ refuses f)) ↔ ((r : R) → Whole r → wrongIn k r ≡ 0 → frameOf k r ≡ s → ⊥)

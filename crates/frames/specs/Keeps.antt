@@ -1,4 +1,4 @@
--- What a writer leaves as it was: all of the output where it refuses, and else all but the frame's own bytes.
+-- What a writer leaves unchanged: the whole output if it refuses; otherwise the output's length, and every byte after the frame.
 use Prim.Native.Nat.{ℕ}
 use mathlib.Core.List.{List}
 use mathlib.Core.Path.{_≡_}

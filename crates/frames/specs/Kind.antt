@@ -29,12 +29,12 @@ fieldsBegin = 2
 
 -- ---- reading
 
--- an empty frame has no lead byte
+-- the lead byte is right; an empty frame has none
 abbrev pub leadIs : ℕ → List ℕ → Bool
 leadIs lead [] = false
 leadIs lead (b ∷ s) = eqb b lead
 
--- the refusals that go by lead byte, length and frame marks, in their order
+-- the refusals by lead byte, length, CR, and letter R with the address, in this order
 unfoldable pub headTold : ℕ → ℕ → List ℕ → Told (Unit {0})
 headTold lead size s =
     tried (leadIs lead s) KIND
@@ -44,19 +44,19 @@ headTold lead size s =
     (gives tt))))
 
 module _ {A : Type 0} where
-  -- a refusal stands, and after none the rest is tried
+  -- a refusal stays; if there is none, the rest is tried
   abbrev pub andThen : Told (Unit {0}) → Told A → Told A
   andThen (gives _) rest = rest
   andThen (refuses f) rest = refuses f
 
 module _ {R : Type 0} (k : Kind R) where
-  -- the head, then the fields
+  -- reading: first the tests above, then the fields
   unfoldable pub read : List ℕ → Told R
   read s = andThen (headTold (k .lead) (k .size) s) (fieldsOf (k .fields) fieldsBegin s)
 
   -- ---- writing
 
-  -- the offset of a record's first wrong part, or 0 where it is well formed
+  -- the offset of a record's first wrong part, or 0 if the record is well formed
   unfoldable pub wrongIn : R → ℕ
   wrongIn r = recordWrong (k .fields) r
 
@@ -64,16 +64,16 @@ module _ {R : Type 0} (k : Kind R) where
   unfoldable pub frameOf : R → List ℕ
   frameOf r = k .lead ∷ letterR ∷ (write (k .fields) r ++ (CR ∷ []))
 
--- the refusals of writing, in their order
+-- the refusals of writing, in their order: RECORD, then ROOM
 unfoldable pub writeTried : ℕ → ℕ → ℕ → Told (Unit {0})
 writeTried wrong size room = tried (eqb wrong 0) (RECORD wrong) (tried (leb size room) ROOM (gives tt))
 
--- an output after the writing of a frame: the frame in its first bytes, or no change
+-- an output after writing: the frame in its first bytes, or no change if it was refused
 abbrev pub outputAfter : Told (Unit {0}) → List ℕ → ℕ → List ℕ → List ℕ
 outputAfter (gives _) frame size out = frame ++ drop size out
 outputAfter (refuses f) frame size out = out
 
--- what is promised of writing the record r to the output out: the answer, and every byte
+-- what is promised of writing the record r to the output out: the answer, and every byte of the output
 pub record Wrote {R : Type 0} (k : Kind R) (r : R) (out : List ℕ) (answer : WriteAnswer) (out′ : List ℕ) : Type 0 where
   pub told : writeTold answer ≡ writeTried (wrongIn k r) (k .size) (length out)
   pub bytes : out′ ≡ outputAfter (writeTried (wrongIn k r) (k .size) (length out)) (frameOf k r) (k .size) out

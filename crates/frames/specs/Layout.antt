@@ -1,4 +1,4 @@
--- A layout: the fields of a kind of frame in order, and the parts of its record R that hold their values. What follows a field may go by the field's value.
+-- A layout: the fields of a kind of frame in order, and the parts of its record R that hold their values. The fields after a field may depend on its value.
 use Prim.Native.Nat.{ℕ, zero, suc, _+_}
 use mathlib.Core.List.{List, [], _++_}
 use mathlib.Core.Bool.{Bool, true, false}
@@ -8,26 +8,27 @@ use Rattle.digits.specs.Told.{Told, gives, refuses, tried}
 use Rattle.frames.specs.Shape.{Value, is, none, Shape}
 
 pub data Layout (R : Type 0) : Type 1 where
-  -- a field: its offset, its shape, the rule on its value, the part of a record that holds it, and what follows a value
+  -- a field: its offset, its shape, the rule for its value, the part of a record that holds the value, and the layout after it
   field : {A : Type 0} → ℕ → Shape A → (A → Bool) → (R → A) → (A → Layout R) → Layout R
-  -- what a record must be besides; where it is not, it is wrong at this offset
+  -- a further test of a record; if it fails, the record is wrong at this offset
   suits : ℕ → (R → Bool) → Layout R → Layout R
-  -- the record that has these values
+  -- the record with these values
   end : R → Layout R
 
--- the offset where a test fails; otherwise what the rest says
+-- the offset, if a test fails; otherwise what the rest says
 abbrev pub wrongUnless : Bool → ℕ → ℕ → ℕ
 wrongUnless true at rest = rest
 wrongUnless false at rest = at
 
 module _ {R : Type 0} where
-  -- ---- a frame: its fields from place p of the bytes s on
+  -- ---- a frame: its fields, from place p of the bytes s on
 
+  -- a field's value, tested: FIELD with its offset if there is no value or the rule fails; otherwise the rest
   abbrev pub taken : {A : Type 0} → ℕ → (A → Bool) → Value A → (A → Told R) → Told R
   taken at rule (is v) rest = tried (rule v) (FIELD at) (rest v)
   taken at rule none rest = refuses (FIELD at)
 
-  -- the record that they hold, or FIELD with the offset of the first that is wrong
+  -- the record that the fields hold, or FIELD with the offset of the first wrong one
   unfoldable pub fieldsOf : Layout R → ℕ → List ℕ → Told R
   fieldsOf (field at shape rule part next) p s = taken at rule (shape .got s p) λ v. fieldsOf (next v) (p + shape .width) s
   fieldsOf (suits at test rest) p s = fieldsOf rest p s
@@ -35,7 +36,7 @@ module _ {R : Type 0} where
 
   -- ---- a record
 
-  -- the offset of its first wrong part, or 0
+  -- the offset of its first wrong part, or 0 if none is wrong
   unfoldable pub recordWrong : Layout R → R → ℕ
   recordWrong (field at shape rule part next) r = wrongUnless (rule (part r)) at (recordWrong (next (part r)) r)
   recordWrong (suits at test rest) r = wrongUnless (test r) at (recordWrong rest r)
@@ -47,7 +48,7 @@ module _ {R : Type 0} where
   write (suits at test rest) r = write rest r
   write (end q) r = []
 
--- ---- the fields of a part Q, in a record that has more parts: `of` gives Q of a record, and `whole` the record that Q completes
+-- ---- a layout of a part Q, as the layout of a record R that has more parts: `of` is the part Q of a record, and `whole` makes the record from Q
 
 module _ {Q R : Type 0} (of : R → Q) (whole : Q → R) where
   abbrev pub within : Layout Q → Layout R
@@ -55,14 +56,14 @@ module _ {Q R : Type 0} (of : R → Q) (whole : Q → R) where
   within (suits at test rest) = suits at (λ r. test (of r)) (within rest)
   within (end q) = end (whole q)
 
--- ---- fields stand where they say
+-- ---- each field is at the offset that it states
 
--- a layout from place p on, in a frame of so many bytes
+-- a layout whose first field is at place p, in a frame of `size` bytes
 pub data Placed {R : Type 0} : Layout R → ℕ → ℕ → Type 1 where
-  -- a field's offset is its place
+  -- a field's stated offset is its place, and the next field is right after it
   stands : {A : Type 0} {p size : ℕ} {shape : Shape A} {rule : A → Bool} {part : R → A} {next : A → Layout R}
       → ((v : A) → rule v ≡ true → Placed (next v) (p + shape .width) size) → Placed (field p shape rule part next) p size
-  -- what else is asked of a record is told at the place that is reached
+  -- a further test reports the place that the fields have reached
   besides : {p size : ℕ} {test : R → Bool} {rest : Layout R} → Placed rest p size → Placed (suits p test rest) p size
-  -- the CR is the frame's last byte
+  -- after the last field only the CR is left, the frame's last byte
   ends : {p : ℕ} {r : R} → Placed (end r) p (suc p)

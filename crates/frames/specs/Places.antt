@@ -1,4 +1,4 @@
--- Fields stand where they say: the offset that a refusal tells is the place of the field's first byte, and the CR is the last byte of the kind's size.
+-- Each field is where it says: a refusal's offset is the place of the field's first byte, and the CR is the last byte of the kind's size.
 use Rattle.frames.specs.Layout.{Placed}
 use Rattle.frames.specs.Kind.{Kind, fieldsBegin}
 use Rattle.frames.specs.Request.{request}

@@ -25,14 +25,14 @@ use Rattle.frames.specs.Layout.{Layout, field, within}
 use Rattle.frames.specs.Kind.{Kind, read}
 use Rattle.frames.specs.Timing.{Times, timingKind, timed}
 
--- the request's letters without L t * l b c d q: 33
+-- 33 letters: the request's without L t * l b c d q
 unfoldable pub isLetter : ℕ → Bool
 isLetter = oneOf (codes "0123456789AQPaSsTKRGHhIiJjpkugWwX")
 
 unfoldable pub isReplyChannel : ℕ → Bool
 isReplyChannel v = leb v 240 || eqb v 245 || eqb v 248 || eqb v 249 || eqb v 250 || eqb v 255
 
--- a run of 0 is for status Z alone
+-- a run of 0 is good only with status Z
 unfoldable pub leastRun : ℕ → ℕ
 leastRun status = cond (isZ status) 0 1
 
@@ -47,7 +47,7 @@ pub record Tail : Type 0 where
   pub information : ℕ
   pub times : Times
 
--- by the least run, the physical channel's shape and rule, the letters, and the kind of time and date that a letter asks for
+-- the layout from the bib on, by the least run, the shape and rule of the physical channel, the rule for the letter, and the kind of time and date for each letter
 unfoldable pub fromBib : ℕ → Shape ℕ → (ℕ → Bool) → (ℕ → Bool) → (ℕ → TimingKind) → Layout Tail
 fromBib least shape isPhysical letters kind =
     field 12 (number 5) (upTo 59999) (λ t. t .bib) λ bib.
@@ -67,7 +67,7 @@ abbrev pub tailOf : StaticReply → Tail
 tailOf r =
     record { bib = r .head .bib; group = r .head .group; run = r .head .run; physical = r .head .physical; channel = r .head .channel; information = r .head .information; times = record { timing = r .timing; rawTime = r .«raw_time»; rawDate = r .«raw_date»; spare = r .spare } }
 
--- program, mode, status, requester and number, and then the tail
+-- a reply from program, mode, status, requester and number, and the tail
 abbrev pub withTail : ℕ → ℕ → ℕ → ℕ → ℕ → Tail → StaticReply
 withTail program mode status requester n t =
     record {
@@ -92,7 +92,7 @@ replyFields =
 abbrev pub reply : Kind StaticReply
 reply = record { lead = 18; size = 51; fields = replyFields }
 
--- the arrays have their lengths
+-- a record whose arrays have their lengths
 pub record Whole (r : StaticReply) : Type 0 where
   pub time : length (r .«raw_time») ≡ 10
   pub date : length (r .«raw_date») ≡ 8
@@ -100,7 +100,7 @@ pub record Whole (r : StaticReply) : Type 0 where
 
 -- ---- what the reader answers
 
--- beside a refusal stands a record of zeros
+-- the record that comes with a refusal: all zeros
 abbrev pub zeroHead : ReplyHead
 zeroHead = record { program = 0; mode = 0; status = 0; requester = 0; number = 0; bib = 0; group = 0; run = 0; physical = 0; channel = 0; information = 0 }
 
@@ -108,7 +108,7 @@ abbrev pub zeroReply : StaticReply
 zeroReply =
     record { head = zeroHead; timing = Raw; «raw_time» = replicate 10 0; «raw_date» = replicate 8 0; spare = replicate 2 0 }
 
--- what an answer says on paper
+-- what an answer means on paper
 abbrev pub toldBy : ReadVerdict → StaticReply → Told StaticReply
 toldBy Read r = gives r
 toldBy (Refused f) r = refuses (readRefused f)
@@ -117,12 +117,12 @@ abbrev pub orZero : Told StaticReply → StaticReply
 orZero (gives r) = r
 orZero (refuses f) = zeroReply
 
--- what is promised of reading s: the verdict, and the record beside it
+-- what is promised of reading s: on paper the answer is `read reply` of s, and with a refusal comes the record of zeros
 pub record ReadAs (s : List ℕ) (a : ReplyRead) : Type 0 where
   pub told : toldBy (a .verdict) (a .reply) ≡ read reply s
   pub beside : a .reply ≡ orZero (read reply s)
 
--- ---- what the check answers: as the reader, and of a good reply only where it belongs
+-- ---- what the check answers: the same refusals as the reader, and of a good reply only status, requester and number
 
 abbrev pub labelOf : StaticReply → ReplyLabel
 labelOf r = record { status = r .head .status; requester = r .head .requester; number = r .head .number }

@@ -1,4 +1,4 @@
--- Worked cases of the static reply: one of each kind of time and date spelled in full, each byte of it damaged, both sides of each rule, and each part of its record out of range.
+-- Worked cases of the static reply: one of each kind of time and date written out in full, each byte of it damaged, both sides of each rule, and each part of its record out of range.
 use Prim.Native.Nat.{ℕ}
 use Prim.Native.String.{String}
 use mathlib.Core.List.{List, [], _∷_, _++_}
@@ -15,61 +15,61 @@ use Rattle.frames.specs.Kind.{read, wrongIn, frameOf}
 use Rattle.frames.specs.Reply.{reply, orZero, labelled}
 use Rattle.frames.specs.Cases.{Good, FieldAt, damaged, fieldsAt}
 
--- a good net reply, in which no two parts are alike; its time is 12:34:56.7890
+-- a good net reply in which no two parts are alike; its time is 12:34:56.7890
 abbrev pub good : List ℕ
 good = 18 ∷ (codes "R PmED1234523456078209345167" ++ (codes "2" ++ (codes "1234567890-0000003" ++ (codes "uv" ++ (13 ∷ [])))))
 
--- and with this text at a place
+-- the same frame with this text at a place
 abbrev pub but : ℕ → String → List ℕ
 but at text = sets good at (codes text)
 
--- the same with letter, time and date of the clock, and raw
+-- the same frame with letter, time and date of a clock reply, and of a raw one
 abbrev pub goodClock : List ℕ
 goodClock = but 29 "K123456789028112031"
 
 abbrev pub goodRaw : List ℕ
 goodRaw = but 29 "Qabcdefghijklmnopqr"
 
--- a record by its parts
+-- a record from its parts
 abbrev pub tells : ℕ → ℕ → ℕ → ℕ → ℕ → ℕ → ℕ → ℕ → ℕ → ℕ → ℕ → Timing → List ℕ → List ℕ → List ℕ → StaticReply
 tells program mode status requester number bib group run physical channel letter timing rawTime rawDate spare =
     record { head = record { program = program; mode = mode; status = status; requester = requester; number = number; bib = bib; group = group; run = run; physical = physical; channel = channel; information = letter }; timing = timing; «raw_time» = rawTime; «raw_date» = rawDate; spare = spare }
 
--- the net reply's record, by the parts before time and date
+-- the net reply's record with these parts before time and date
 abbrev pub heads : ℕ → ℕ → ℕ → ℕ → ℕ → ℕ → ℕ → ℕ → ℕ → ℕ → ℕ → StaticReply
 heads program mode status requester number bib group run physical channel letter =
     tells program mode status requester number bib group run physical channel letter (Net (negsuc 2139032109)) (replicate 10 0) (replicate 8 0) (117 ∷ 118 ∷ [])
 
--- and with these parts from the letter on
+-- the same record with these parts from the letter on
 abbrev pub tails : ℕ → Timing → List ℕ → List ℕ → List ℕ → StaticReply
 tails = tells 80 109 69 68 12345 23456 78 209 345 167
 
--- raw time and date: a to j, and k to r
+-- raw time and date: the letters a to j, and k to r
 abbrev pub aToJ : List ℕ
 aToJ = 97 ∷ 98 ∷ 99 ∷ 100 ∷ 101 ∷ 102 ∷ 103 ∷ 104 ∷ 105 ∷ 106 ∷ []
 
 abbrev pub kToR : List ℕ
 kToR = 107 ∷ 108 ∷ 109 ∷ 110 ∷ 111 ∷ 112 ∷ 113 ∷ 114 ∷ []
 
--- the offset that each byte of the fields has: program, mode, status, requester, number, bib, group, run, both channels, letter, time, date, spare
+-- for each byte of the fields, the offset of its field: program, mode, status, requester, number, bib, group, run, both channels, letter, time, date, spare
 abbrev pub places : List ℕ
 places =
     3 ∷ 4 ∷ 5 ∷ 6 ∷ 7 ∷ 7 ∷ 7 ∷ 7 ∷ 7 ∷ 12 ∷ 12 ∷ 12 ∷ 12 ∷ 12 ∷ 17 ∷ 17 ∷ 17 ∷ 20 ∷ 20 ∷ 20 ∷ 23 ∷ 23 ∷ 23 ∷ 26 ∷ 26 ∷ 26 ∷ 29
     ∷ 30 ∷ 30 ∷ 30 ∷ 30 ∷ 30 ∷ 30 ∷ 30 ∷ 30 ∷ 30 ∷ 30 ∷ 40 ∷ 40 ∷ 40 ∷ 40 ∷ 40 ∷ 40 ∷ 40 ∷ 40 ∷ 48 ∷ 48 ∷ []
 
 pub record ReplyWorked : Type 0 where
-  -- the frames and their records: three days less and a time, a time of a day, and raw bytes
+  -- the frames and their records: minus three days and a time; a time of day with its date; raw bytes
   pub net : read reply good ≡ gives (tails 50 (Net (negsuc 2139032109)) (replicate 10 0) (replicate 8 0) (117 ∷ 118 ∷ []))
   pub clock : read reply goodClock ≡ gives (tails 75 (Clock 452967890 28 11 2031) (replicate 10 0) (replicate 8 0) (117 ∷ 118 ∷ []))
   pub raw : read reply goodRaw ≡ gives (tails 81 Raw aToJ kToR (117 ∷ 118 ∷ []))
   pub net-written : frameOf reply (tails 50 (Net (negsuc 2139032109)) (replicate 10 0) (replicate 8 0) (117 ∷ 118 ∷ [])) ≡ good
   pub clock-written : frameOf reply (tails 75 (Clock 452967890 28 11 2031) (replicate 10 0) (replicate 8 0) (117 ∷ 118 ∷ [])) ≡ goodClock
   pub raw-written : frameOf reply (tails 81 Raw aToJ kToR (117 ∷ 118 ∷ [])) ≡ goodRaw
-  -- where it belongs
+  -- what the check reports of the net reply: status, requester and number
   pub label : labelled (read reply good) ≡ gives (record { status = 69; requester = 68; number = 12345 })
-  -- beside a refusal stands a record of zeros
+  -- with a refusal comes a record of zeros
   pub zeros : orZero (read reply []) ≡ tells 0 0 0 0 0 0 0 0 0 0 0 Raw (0 ∷ 0 ∷ 0 ∷ 0 ∷ 0 ∷ 0 ∷ 0 ∷ 0 ∷ 0 ∷ 0 ∷ []) (0 ∷ 0 ∷ 0 ∷ 0 ∷ 0 ∷ 0 ∷ 0 ∷ 0 ∷ []) (0 ∷ 0 ∷ [])
-  -- each byte of the fields in turn
+  -- each byte of the fields damaged in turn
   pub net-offsets : damaged reply good 3 47 ≡ fieldsAt places
   pub clock-offsets : damaged reply goodClock 3 47 ≡ fieldsAt places
   pub raw-offsets : damaged reply goodRaw 3 47 ≡ fieldsAt places
@@ -92,7 +92,7 @@ pub record ReplyWorked : Type 0 where
   pub channel-251 : FieldAt reply (but 26 "251") 26
   pub letter-3 : Good reply (but 29 "3")
   pub letter-q : FieldAt reply (but 29 "q") 29
-  -- a minus before no days, and before one; a plus before none
+  -- a minus with zero days, a minus with one day, a plus with zero days
   pub minus-none : FieldAt reply (but 40 "-0000000") 40
   pub minus-one : Good reply (but 40 "-0000001")
   pub plus-none : Good reply (but 40 "+0000000")
@@ -108,11 +108,11 @@ pub record ReplyWorked : Type 0 where
   pub wrong-physical : wrongIn reply (heads 80 109 69 68 12345 23456 78 209 1000 167 50) ≡ 23
   pub wrong-channel : wrongIn reply (heads 80 109 69 68 12345 23456 78 209 345 241 50) ≡ 26
   pub wrong-letter : wrongIn reply (heads 80 109 69 68 12345 23456 78 209 345 167 76) ≡ 29
-  -- a timing of another kind than the letter asks for
+  -- a timing of another kind than status and letter ask for
   pub net-for-clock : wrongIn reply (heads 80 109 69 68 12345 23456 78 209 345 167 48) ≡ 30
   pub net-for-raw : wrongIn reply (heads 80 109 69 68 12345 23456 78 209 345 167 80) ≡ 30
   pub raw-for-net : wrongIn reply (tails 50 Raw aToJ kToR (117 ∷ 118 ∷ [])) ≡ 30
-  -- time, date and spare of each kind, and raw parts that are not used
+  -- a wrong time, date or spare, and raw arrays that are not used but not zero
   pub clock-time : wrongIn reply (tails 75 (Clock 864000000 28 11 2031) (replicate 10 0) (replicate 8 0) (117 ∷ 118 ∷ [])) ≡ 30
   pub clock-date : wrongIn reply (tails 75 (Clock 452967890 31 11 2031) (replicate 10 0) (replicate 8 0) (117 ∷ 118 ∷ [])) ≡ 40
   pub net-date : wrongIn reply (tails 50 (Net (pos 8640000000000000)) (replicate 10 0) (replicate 8 0) (117 ∷ 118 ∷ [])) ≡ 40

@@ -15,7 +15,7 @@ use Rattle.frames.specs.Shape.{byte, number}
 use Rattle.frames.specs.Layout.{Layout, field, end}
 use Rattle.frames.specs.Kind.{Kind, read}
 
--- 41 letters
+-- the 41 letters of a request
 unfoldable pub isInformation : ℕ → Bool
 isInformation = oneOf (codes "0123456789AQPaSsTKLtR*GHhIiJjpkugWwXlbcdq")
 
@@ -39,11 +39,11 @@ requestFields =
 abbrev pub request : Kind StaticRequest
 request = record { lead = 17; size = 24; fields = requestFields }
 
--- what the reader's answer says on paper
+-- what the reader's answer means on paper
 abbrev pub requestTold : RequestRead → Told StaticRequest
 requestTold (Request r) = gives r
 requestTold (Refused f) = refuses (readRefused f)
 
--- what is promised of reading s
+-- what is promised of reading s: on paper the answer is `read request` of s
 abbrev pub RequestAs : List ℕ → RequestRead → Type 0
 RequestAs s a = requestTold a ≡ read request s

@@ -1,4 +1,4 @@
--- Worked cases of the static request: one spelled in full, each byte of it damaged, both sides of each rule, and each part of its record out of range.
+-- Worked cases of the static request: one spelled out in full, each byte of it damaged, both sides of each rule, each part of its record out of range.
 use Prim.Native.Nat.{ℕ}
 use Prim.Native.String.{String}
 use mathlib.Core.List.{List, [], _∷_, _++_}
@@ -11,15 +11,15 @@ use Rattle.frames.specs.Kind.{read, wrongIn, frameOf}
 use Rattle.frames.specs.Request.{request}
 use Rattle.frames.specs.Cases.{Good, FieldAt, damaged, fieldsAt}
 
--- a good request, in which no two parts are alike
+-- a good request in which no two parts are alike
 abbrev pub good : List ℕ
 good = 17 ∷ (codes "R B12345678Q231156089A" ++ (13 ∷ []))
 
--- and with this text at a place
+-- the same frame with this text at a place
 abbrev pub but : ℕ → String → List ℕ
 but at text = sets good at (codes text)
 
--- a record by its parts
+-- a record from its parts
 abbrev pub asks : ℕ → ℕ → ℕ → ℕ → ℕ → ℕ → ℕ → ℕ → StaticRequest
 asks requester number bib information channel run group output =
     record { requester = requester; number = number; bib = bib; information = information; channel = channel; run = run; group = group; output = output }
@@ -28,9 +28,9 @@ pub record RequestWorked : Type 0 where
   -- the frame and its record
   pub spelled : read request good ≡ gives (asks 66 123 45678 81 231 156 89 65)
   pub written : frameOf request (asks 66 123 45678 81 231 156 89 65) ≡ good
-  -- each byte of the fields in turn: requester, number, bib, information, channel, run, group, output
+  -- each byte of the fields damaged in turn: requester, number, bib, information, channel, run, group, output
   pub offsets : damaged request good 3 20 ≡ fieldsAt (3 ∷ 4 ∷ 4 ∷ 4 ∷ 7 ∷ 7 ∷ 7 ∷ 7 ∷ 7 ∷ 12 ∷ 13 ∷ 13 ∷ 13 ∷ 16 ∷ 16 ∷ 16 ∷ 19 ∷ 19 ∷ 19 ∷ 22 ∷ [])
-  -- requesters, and the signs beside their three ranges
+  -- requesters, and the characters just outside their three ranges
   pub requester-0 : Good request (but 3 "0")
   pub requester-9 : Good request (but 3 "9")
   pub requester-A : Good request (but 3 "A")

@@ -1,4 +1,4 @@
--- Which values each rule of letters and channels takes, all of them, lowest first.
+-- All values that each rule for letters and channels takes, lowest first.
 use Prim.Native.Nat.{ℕ, zero, suc}
 use mathlib.Core.List.{List, [], _∷_, _++_}
 use mathlib.Core.Bool.{Bool, true, false, cond}
@@ -38,20 +38,20 @@ pub record RulesWorked : Type 0 where
   pub requesters : taken isRequester 256 ≡ codes "0123456789ABCDEFGHIJKLMNOPQRSTUVWXYZabcdefghijklmnopqrstuvwxyz"
   pub outputs : taken isOutput 256 ≡ codes "ABST"
   pub raw-bytes : taken isRaw 256 ≡ drop 32 (below 127)
-  -- 41 letters of a request, 33 of a reply: without * L b c d l q t
+  -- 41 letters of a request; 33 of a reply, which are those without * L b c d l q t
   pub information : taken Q.isInformation 256 ≡ codes "*0123456789AGHIJKLPQRSTWXabcdghijklpqstuw"
   pub letters : taken P.isLetter 256 ≡ codes "0123456789AGHIJKPQRSTWXaghijkpsuw"
   pub statuses : taken isStatus 256 ≡ codes "ERZ"
   pub orders : taken D.isOrder 256 ≡ codes "ABTabt"
   pub signs : taken isSign 256 ≡ codes "+-"
-  -- three digits of a channel
+  -- of the numbers of three digits, the channels
   pub request-channels : taken Q.isRequestChannel 1000 ≡ below 241 ++ (248 ∷ 249 ∷ 251 ∷ 255 ∷ [])
   pub reply-channels : taken P.isReplyChannel 1000 ≡ below 241 ++ (245 ∷ 248 ∷ 249 ∷ 250 ∷ 255 ∷ [])
   pub dynamic-channels : taken D.isDynamicChannel 1000 ≡ below 241 ++ (250 ∷ 255 ∷ [])
-  -- the letters of the clock and of net times, with status R; with Z there are none
+  -- the letters of clock and of net replies with status R; with status Z there are none
   pub clock-letters : taken (λ b. isClock (timingKind 82 b)) 256 ≡ codes "0KSas"
   pub net-letters : taken (λ b. isNetTime (timingKind 82 b)) 256 ≡ codes "123"
   pub clock-letters-of-Z : taken (λ b. isClock (timingKind 90 b)) 256 ≡ []
   pub net-letters-of-Z : taken (λ b. isNetTime (timingKind 90 b)) 256 ≡ []
-  -- the orders that need a period
+  -- the orders that need a period of at least 1
   pub periods : taken (λ b. eqb (D.leastPeriod b) 1) 256 ≡ codes "AB"

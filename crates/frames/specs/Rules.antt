@@ -1,4 +1,4 @@
--- Rules on the values of fields that several kinds of frame share.
+-- Rules for the values of fields that several kinds of frame share.
 use Prim.Native.Nat.{ℕ}
 use mathlib.Core.Bool.{Bool, _&&_, _||_}
 use lib.Dec.{leb, eqb}
@@ -10,7 +10,7 @@ between lo hi v = leb lo v && leb v hi
 unfoldable pub upTo : ℕ → ℕ → Bool
 upTo hi v = leb v hi
 
--- 0 to 9, A to Z, a to z: three ranges, with other signs between them
+-- 0 to 9, A to Z, a to z: three ranges with other characters between them
 unfoldable pub isRequester : ℕ → Bool
 isRequester b = between 48 57 b || between 65 90 b || between 97 122 b
 

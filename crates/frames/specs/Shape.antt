@@ -1,4 +1,4 @@
--- What a shape is: how the value of a field stands in a frame. It is one number, several after each other, or bytes kept as they are.
+-- What a shape is: how the value of a field is written in a frame. It is one number, several in a row, or bytes kept as they are.
 use Prim.Native.Nat.{ℕ, zero, suc, _+_}
 use mathlib.Core.List.{List, [], _∷_, _++_}
 use mathlib.Core.Bool.{Bool, true, _&&_}
@@ -9,12 +9,12 @@ use Rattle.digits.specs.Form as D
 use Rattle.digits.specs.Form.{Form}
 use Rattle.times.specs.Clock.{clock}
 
--- what stands where a value is looked for
+-- what is found at a place: a value, or none
 pub data Value (A : Type 0) : Type 0 where
   is : A → Value A
   none : Value A
 
--- so many bytes, the value that stands at a place, and a value's bytes
+-- its width in bytes, the value at a place of a frame, and the bytes of a value
 pub record Shape (A : Type 0) : Type 0 where
   pub width : ℕ
   pub got : List ℕ → ℕ → Value A
@@ -36,7 +36,7 @@ byte = one D.byte
 abbrev pub number : ℕ → Shape ℕ
 number w = one (D.number w)
 
--- HHMMSSdddd, in ticks
+-- a time of day, HHMMSSdddd, as ticks
 abbrev pub time : Shape ℕ
 time = one clock
 
@@ -57,7 +57,7 @@ module _ {A B : Type 0} where
 
 -- ---- n bytes, kept as they are
 
--- the n bytes of l from i on
+-- the n bytes of l from place i on
 abbrev pub bytesOf : List ℕ → ℕ → ℕ → List ℕ
 bytesOf l i zero = []
 bytesOf l i (suc n) = getD l i 0 ∷ bytesOf l (suc i) n
@@ -65,7 +65,7 @@ bytesOf l i (suc n) = getD l i 0 ∷ bytesOf l (suc i) n
 abbrev pub run : ℕ → Shape (List ℕ)
 run n = record { width = n; got = λ s p. is (bytesOf s p n); put = λ v. bytesOf v 0 n }
 
--- each of the n bytes of l from i on keeps a rule
+-- each of the n bytes of l from place i on meets the rule
 unfoldable pub allFrom : (ℕ → Bool) → List ℕ → ℕ → ℕ → Bool
 allFrom rule l i zero = true
 allFrom rule l i (suc n) = rule (getD l i 0) && allFrom rule l (suc i) n

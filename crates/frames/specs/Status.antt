@@ -1,4 +1,4 @@
--- The status letters of a reply: R is one record of an answer, E its last, Z says that there is none.
+-- The status letters of a reply: R is one record of an answer, E its last one, Z says that no record is available.
 use Prim.Native.Nat.{ℕ}
 use mathlib.Core.Bool.{Bool}
 use mathlib.Core.List.{[], _∷_}

@@ -1,4 +1,4 @@
--- Time and date of a reply, by its kind: of the clock, net or raw.
+-- Time and date of a reply, by their kind: clock, net or raw.
 use Prim.Native.Nat.{ℕ}
 use mathlib.Core.List.{List}
 use mathlib.Core.Bool.{Bool, true, false, cond, _&&_}
@@ -18,14 +18,14 @@ use Rattle.frames.specs.Status.{isZ}
 use Rattle.frames.specs.Shape.{Shape, byte, number, time, both, run, allFrom}
 use Rattle.frames.specs.Layout.{Layout, field, suits, end}
 
--- status Z is raw whatever the letter; five letters are of the clock, three are net, the other 25 are raw
+-- with status Z always raw; otherwise five letters are clock, three are net and the other 25 are raw
 unfoldable pub timingKind : ℕ → ℕ → TimingKind
 timingKind status letter =
     cond (isZ status) rawKind
     (cond (oneOf (codes "0KSsa") letter) clockKind
     (cond (oneOf (codes "123") letter) netKind rawKind))
 
--- ---- the parts of a record that hold time and date, and the two last bytes
+-- ---- the parts of a record that hold time and date, and the two spare bytes
 
 pub record Times : Type 0 where
   pub timing : Timing
@@ -44,22 +44,22 @@ isOf rawKind (Clock ticks day month year) = false
 isOf rawKind (Net value) = false
 isOf rawKind Raw = true
 
--- a record's timing is of the kind that status and letter ask for
+-- a record's timing has the kind that status and letter ask for
 abbrev pub timingIs : TimingKind → Times → Bool
 timingIs kind t = isOf kind (t .timing)
 
--- all n bytes are raw, or zero
+-- the first n bytes are all raw; the first n bytes are all zero
 abbrev pub areRaw : ℕ → List ℕ → Bool
 areRaw n l = allFrom isRaw l 0 n
 
 abbrev pub areZero : ℕ → List ℕ → Bool
 areZero n l = allFrom (λ b. eqb b 0) l 0 n
 
--- raw time and date, where the kind does not use them
+-- the arrays of raw time and date are all zero, as they must be when the kind does not use them
 abbrev pub rawUnused : Times → Bool
 rawUnused t = areZero 10 (t .rawTime) && areZero 8 (t .rawDate)
 
--- ---- of the clock: a time of day in ticks, and a day
+-- ---- clock: a time of day in ticks, and a day
 
 abbrev pub ticksIn : Timing → ℕ
 ticksIn (Clock ticks day month year) = ticks

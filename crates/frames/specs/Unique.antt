@@ -1,4 +1,4 @@
--- No second outcome meets the promise of a reader or of a writer. A writer's outcome is its answer and the output after it.
+-- Only one outcome meets the promise of a reader or of a writer. A writer's outcome is its answer and the output after it.
 use Prim.Native.Nat.{ℕ}
 use mathlib.Core.List.{List}
 use lib.ListN.{replicate}

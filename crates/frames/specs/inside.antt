@@ -1,4 +1,4 @@
--- What private steps of the code give. Nothing that is promised leans on this folder: a reader of the rules can leave it out.
+-- What private steps of the code return. No promise of a public call depends on this folder: a reader of the rules can skip it.
 pub mod Held
 pub mod Timing
 pub mod Reply

@@ -62,7 +62,7 @@ pub mod field {
     pub const END: usize = 45;
 }
 
-// Letters by their code. Sign, time in ticks and days are those of Taux; the sign is kept where time and days are zero.
+// Letters by their code. Sign, time in ticks and days are those of Taux; the sign is kept if time and days are zero.
 #[repr(C)]
 pub struct DynamicRequest {
     pub requester: u8,
@@ -139,7 +139,7 @@ fn judged(r: DynamicRequest) -> DynamicRead
     }
 }
 
-// The offset of the first wrong part, or 0.
+// The offset of the first wrong part, or 0 if none is wrong.
 fn dynamic_wrong(r: DynamicRequest) -> u8
     ensures { λ w. ⌜ w ≡ wrongIn dynamic r ⌝ }
 {

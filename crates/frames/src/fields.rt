@@ -1,4 +1,4 @@
-// What the fields of every kind are read, checked and written with.
+// What every kind uses to read, test and write its fields.
 use crate::refusals::WriteAnswer;
 use crate::refusals::WriteRefusal;
 use digits::Number;
@@ -14,10 +14,10 @@ ghost use Rattle.frames.specs.Refusals.{writeTold};
 ghost use Rattle.frames.specs.Kind.{writeTried};
 ghost use Rattle.frames.specs.inside.Held.{orNone};
 
-// What the code holds where no number stands: no rule takes it.
+// What the code holds if there is no number at a place: no rule takes it.
 pub const NO_NUMBER: u32 = 4_294_967_295;
 
-// The number at a place, NO_NUMBER where there is none.
+// The number at a place, or NO_NUMBER if there is none.
 pub fn number_or_none(s: &[u8], at: usize, width: usize) -> u32
     requires { ⌜ width ≤ 9 ⌝ }
     ensures { λ r. ⌜ r ≡ orNone (numberAt (now (s .entry)) at width) ⌝ }
@@ -44,7 +44,7 @@ pub fn within(lo: u32, hi: u32, v: u32) -> bool
     (lo <= v) & (v <= hi)
 }
 
-// A field's offset where it is wrong, and otherwise what the fields after it say.
+// A field's offset if the field is wrong, and otherwise what the fields after it say.
 pub fn wrong_unless(ok: bool, at: usize, rest: u8) -> u8
     requires { ⌜ at < 256 ⌝ }
     ensures { λ r. ⌜ r ≡ wrongUnless ok at rest ⌝ }
@@ -64,7 +64,7 @@ pub fn is_output(b: u8) -> bool
     (b == b'S') | (b == b'A') | (b == b'B') | (b == b'T')
 }
 
-// RECORD, then ROOM.
+// The refusals of writing, in their order: RECORD, then ROOM.
 pub fn write_tries(wrong: u8, size: usize, room: usize) -> WriteAnswer
     ensures { λ r. ⌜ writeTold r ≡ writeTried wrong size room ⌝ }
 {

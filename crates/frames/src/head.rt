@@ -1,4 +1,4 @@
-// The bytes around the fields of every kind: lead byte, R and address in front, CR behind.
+// The bytes around the fields of every kind: lead byte, R and address before them, CR after them.
 use crate::refusals::ReadRefusal;
 use crate::refusals::ReadVerdict;
 use digits::byte_at;
@@ -17,7 +17,7 @@ pub const SPACE: u8 = b' ';
 
 pub const CR: u8 = 13;
 
-// The first bytes, the length and the last byte, before any field.
+// Tests lead byte, length, last byte, R and address, before any field.
 pub fn head_of(s: &[u8], lead: u8, size: usize) -> ReadVerdict
     requires { ⌜ (0 < lead) × (0 < size) ⌝ }
     ensures { λ r. ⌜ verdictTold r ≡ headTold lead size (now (s .entry)) ⌝ }
@@ -40,7 +40,7 @@ pub fn head_of(s: &[u8], lead: u8, size: usize) -> ReadVerdict
     ReadVerdict::Read
 }
 
-// The lead byte, R and the address.
+// Stores the lead byte, R and the address.
 pub fn put_head(out: &mut [u8], lead: u8)
     ensures { λ _. ⌜ now (out .exit) ≡ sets (now (out .entry)) 0 (lead ∷ letterR ∷ space ∷ []) ⌝ }
 {

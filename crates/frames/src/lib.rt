@@ -1,4 +1,4 @@
-// Frames: each kind read and written, a module a kind.
+// Frames: reading and writing each kind, with a module for each.
 pub mod dynamic;
 mod fields;
 mod head;

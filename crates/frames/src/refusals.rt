@@ -1,4 +1,4 @@
-// Why a frame or a record is turned away, and what each says by the table of refusals.
+// Why a frame or a record is refused, and the number of each refusal in the table.
 use digits::refusal as table;
 use digits::refusal::Refusal;
 use digits::refusal::placed;
@@ -6,12 +6,12 @@ use digits::refusal::plain;
 ghost use mathlib.Core.Path.{_≡_};
 ghost use Rattle.frames.specs.Refusals.{readRefused, writeRefused};
 
-// Where a frame's first wrong field begins.
+// The offset at which a frame's first wrong field begins.
 pub struct Place {
     pub field: u8,
 }
 
-// In the order in which they are tried.
+// In the order in which they are tested.
 pub enum ReadRefusal {
     Kind,
     Length,

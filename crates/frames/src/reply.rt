@@ -65,7 +65,7 @@ pub mod field {
 
     pub const DATE: usize = 40;
 
-    // In a date: month and year of a day, and the days behind a net time's sign.
+    // Within the date: month and year of a day, and the days after a net time's sign.
     pub const MONTH: usize = DATE + 2;
 
     pub const YEAR: usize = DATE + 4;
@@ -77,19 +77,19 @@ pub mod field {
     pub const END: usize = 50;
 }
 
-// One record of an answer, its last, and "not available".
+// R is one record of an answer, E its last one, Z means "not available".
 pub const STATUS_R: u8 = b'R';
 
 pub const STATUS_E: u8 = b'E';
 
 pub const STATUS_Z: u8 = b'Z';
 
-// The 33 letters of a reply, as a set.
+// The 33 letters of a reply, as a set for in_set.
 const LETTERS_LOW: u64 = 0x3ff_0000_0000_0000;
 
 const LETTERS_HIGH: u64 = 0xa9_0f82_019f_0f82;
 
-// The parts before time and date. Letters, program and mode by their code.
+// The parts before time and date. Letters, program and mode are held by their code.
 #[repr(C)]
 pub struct ReplyHead {
     pub program: u8,
@@ -105,7 +105,7 @@ pub struct ReplyHead {
     pub information: u8,
 }
 
-// Raw time and date are zero where the timing is not raw.
+// Raw time and date are zero if the timing is not raw.
 pub struct StaticReply {
     pub head: ReplyHead,
     pub timing: Timing,
@@ -114,13 +114,13 @@ pub struct StaticReply {
     pub spare: [u8; 2],
 }
 
-// The record is all zero where the frame was refused.
+// The record is all zero if the frame was refused.
 pub struct ReplyRead {
     pub verdict: ReadVerdict,
     pub reply: StaticReply,
 }
 
-// What a good reply says of where it belongs; the requester by its code, as in a key.
+// Where a good reply belongs, and its status. The requester is held by its code, as in a key.
 pub struct ReplyLabel {
     pub status: u8,
     pub requester: u32,
@@ -132,7 +132,7 @@ pub enum ReplyCheck {
     Refused(ReadRefusal),
 }
 
-// The frame is all zero where the record was refused.
+// The frame is all zero if the record was refused.
 pub struct ReplyFrame {
     pub answer: WriteAnswer,
     pub frame: [u8; 51],
@@ -147,7 +147,7 @@ pub fn read_reply(s: &[u8]) -> ReplyRead
     }
 }
 
-// As read_reply, for a caller who needs no more than where a reply belongs: no record is made.
+// Like read_reply, for a caller who only needs to know where a reply belongs: no record is made.
 pub fn check_reply(s: &[u8]) -> ReplyCheck
     ensures { λ r. ⌜ CheckedAs (now (s .entry)) r ⌝ }
 {
@@ -170,7 +170,7 @@ pub fn write_reply(r: StaticReply, out: &mut [u8]) -> WriteAnswer
     }
 }
 
-// A reply held as a value.
+// The same for a reply that is held as a value.
 pub fn read_reply_value(frame: [u8; 51]) -> ReplyRead
     ensures { λ r. ⌜ ReadAs frame r ⌝ }
 {
@@ -256,7 +256,7 @@ fn judged(r: StaticReply, wrong: u8) -> ReplyRead
     refused(ReadRefusal::Field(Place { field: wrong }))
 }
 
-// The parts before time and date as a frame has them, wrong or not.
+// The parts before time and date as they are in a frame, wrong or not.
 fn head_at(s: &[u8]) -> ReplyHead
     ensures { λ r. ⌜ r ≡ I.headAt (now (s .entry)) ⌝ }
 {
@@ -290,7 +290,7 @@ fn reply_of(head: ReplyHead, seen: Seen, spare: [u8; 2]) -> StaticReply
     }
 }
 
-// The offset of the first wrong part, or 0.
+// The offset of the first wrong part, or 0 if none is wrong.
 fn reply_wrong(r: StaticReply) -> u8
     ensures { λ w. ⌜ w ≡ wrongIn reply r ⌝ }
 {
@@ -303,7 +303,7 @@ fn reply_wrong(r: StaticReply) -> u8
     head_wrong(head, timing_wrong(kind, timing, raw_time, raw_date, spare))
 }
 
-// The parts before time and date, and then the rest.
+// The offset of the first wrong part before time and date; otherwise what `rest` says.
 fn head_wrong(h: ReplyHead, rest: u8) -> u8
     ensures { λ w. ⌜ w ≡ I.headWrong h rest ⌝ }
 {

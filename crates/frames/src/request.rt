@@ -49,12 +49,12 @@ pub mod field {
     pub const END: usize = 23;
 }
 
-// The 41 letters of a request's information, as a set.
+// The 41 letters of a request's information, as a set for in_set.
 const INFORMATION_LOW: u64 = 0x3ff_0400_0000_0000;
 
 const INFORMATION_HIGH: u64 = 0xbb_1f9e_019f_1f82;
 
-// Letters by their code. A number can hold more than its field can show.
+// Letters are held by their code. A number can hold more than its field can show.
 #[repr(C)]
 pub struct StaticRequest {
     pub requester: u8,
@@ -121,7 +121,7 @@ fn judged(r: StaticRequest) -> RequestRead
     }
 }
 
-// The offset of the first wrong part, or 0.
+// The offset of the first wrong part, or 0 if none is wrong.
 fn request_wrong(r: StaticRequest) -> u8
     ensures { λ w. ⌜ w ≡ wrongIn request r ⌝ }
 {

@@ -1,4 +1,4 @@
-// Time and date of a reply, by its kind.
+// Time and date of a reply, by their kind.
 use crate::fields::clock_or_none;
 use crate::fields::number_or_none;
 use crate::fields::wrong_unless;
@@ -36,7 +36,7 @@ pub enum TimingKind {
     Raw,
 }
 
-// A time of day in ticks with a day; a net value in ticks; or raw, held beside it.
+// A time of day in ticks with a day; a net value in ticks; or raw, with the bytes in arrays beside it.
 pub enum Timing {
     Clock {
         ticks: u32,
@@ -81,7 +81,7 @@ pub(crate) fn is_raw(b: u8) -> bool
     (32 <= b) & (b <= 126)
 }
 
-// Whether the first n bytes are raw. No way out of the loop: so it takes many bytes at once.
+// Whether the first n bytes are raw. The loop has no early exit, so that many bytes can be tested at once.
 fn raw_run(s: &[u8], n: usize) -> bool
     ensures { λ r. ⌜ r ≡ T.areRaw n (now (s .entry)) ⌝ }
 {
@@ -107,7 +107,7 @@ fn zero_run(s: &[u8], n: usize) -> bool
     good
 }
 
-// The two last bytes, and then the parts that the kind does not use.
+// The offset of the two spare bytes if they are wrong, and otherwise what `rest` says.
 pub(crate) fn spare_wrong(spare: [u8; 2], rest: u8) -> u8
     ensures { λ r. ⌜ r ≡ I.spareWrong spare rest ⌝ }
 {
@@ -154,9 +154,9 @@ pub(crate) fn raw_wrong(raw_time: [u8; 10], raw_date: [u8; 8], rest: u8) -> u8
     wrong_unless(raw_run(&raw_time, 10), field::TIME, wrong)
 }
 
-// ---- a record's timing, against the kind that is asked for
+// ---- a record's timing, compared with the kind that is asked for
 
-// Where a timing of another kind is told: at the time.
+// A timing of another kind is reported at the offset of the time.
 const OTHER_KIND: u8 = field::TIME as u8;
 
 pub(crate) fn timing_wrong(
@@ -233,7 +233,7 @@ fn as_raw(timing: Timing, rest: u8) -> u8
     }
 }
 
-// ---- a frame's time and date: what they hold, wrong or not, and the offset of what is wrong first
+// ---- a frame's time and date: what they hold, wrong or not, and the offset of the first wrong part
 
 pub(crate) struct Seen {
     pub(crate) timing: Timing,
@@ -252,7 +252,7 @@ pub(crate) fn seen_at(s: &[u8], kind: TimingKind) -> Seen
     }
 }
 
-// The wrong offset alone, with nothing kept of what time and date hold.
+// Only the offset of the first wrong part: what time and date hold is not kept.
 pub(crate) fn timing_wrong_at(s: &[u8], kind: TimingKind) -> u8
     ensures { λ r. ⌜ r ≡ I.seenOf kind (now (s .entry)) .wrong ⌝ }
 {
@@ -316,7 +316,7 @@ fn seen_net(s: &[u8]) -> Seen
     }
 }
 
-// What is no net time is refused, whatever it holds here.
+// If the parts are no net time, the reply is refused, whatever this returns.
 fn net_timing(parts: NetParts) -> Timing
     ensures { λ r. ⌜ r ≡ I.netTiming parts ⌝ }
 {
@@ -385,7 +385,7 @@ pub(crate) fn spare_at(s: &[u8]) -> [u8; 2]
     [byte_past(s, field::SPARE, 0), byte_past(s, field::SPARE, 1)]
 }
 
-// ---- time and date stored
+// ---- storing time and date
 
 pub(crate) fn put_timing(timing: Timing, raw_time: [u8; 10], raw_date: [u8; 8], out: &mut [u8])
     ensures { λ _. ⌜ now (out .exit) ≡ sets (now (out .entry)) 30 (I.timingText timing «raw_time» «raw_date») ⌝ }

@@ -1,4 +1,4 @@
--- Laws of columns: the bytes that they show, and a row put column by column. Assumes nothing.
+-- Laws of columns: the bytes that they show, and a row that is put column by column. Assumes nothing.
 use Prim.Native.Nat.{ℕ, _+_, _≤_}
 use mathlib.Core.List.{List, [], _∷_, _++_, append-nil, append-assoc}
 use mathlib.Core.Bool.{Bool, true, _&&_}
@@ -22,7 +22,7 @@ pub heading-names-columns : HeadingNamesColumns
 unfolding columns
 heading-names-columns = refl
 
--- ---- one column more
+-- ---- one more column
 
 shown-last : (f : List ℕ) (cs : List Column) (c : Column) → shown f (cs ++ (c ∷ [])) ≡ shown f cs ++ (TAB ∷ slice (c .from) (c .to) f)
 shown-last f [] c = ap (λ (l : List ℕ). TAB ∷ l) (append-nil (slice (c .from) (c .to) f))
@@ -85,7 +85,7 @@ columns-whole f l = shown-whole f columns l refl
 pub row-whole : (s : ℕ) (f : List ℕ) → length f ≡ cellSize → length (rowText s f) ≡ width s + 53
 row-whole s f l = let r = row-length s f in let c = columns-whole f l in omega (arith, r, c)
 
--- ---- a row: columns and the end of the line put together on an array of their size, and that put behind the seat
+-- ---- a row: columns and LF are put together on an array of their size, which is then put after the seat
 
 module _ (s : ℕ) (f zeros : List ℕ) (q : ℕ) (shorter : List ℕ) (r : ℕ) (row : List ℕ) (l : length f ≡ cellSize) (z : length zeros ≡ 53) where
   together : Put zeros 0 (shown f columns) q shorter → Put shorter q (LF ∷ []) r row → row ≡ shown f columns ++ (LF ∷ [])

@@ -1,4 +1,4 @@
--- A list has as many rows as it tells replies collected: each held cell is one row, that of the seat which its mark names. Assumes nothing.
+-- A list has as many rows as it reports replies collected: each held cell is one row, for the seat that its mark names. Assumes nothing.
 use Prim.Native.Nat.{ℕ, zero, suc, _+_, _<_}
 use mathlib.Core.List.{List, [], _∷_}
 use mathlib.Core.Bool.{true, false, cond}

@@ -1,4 +1,4 @@
--- A list is that of the capture, and a call turned away changes nothing that is lent. Assumes nothing.
+-- A list is the list of the capture, and a refused call changes nothing that is lent. Assumes nothing.
 use Prim.Native.Nat.{ℕ}
 use mathlib.Core.Bool.{Bool, true, false}
 use mathlib.Core.Path.{_≡_, refl, sym, _∙_}

@@ -1,4 +1,4 @@
--- The lines of a list: a row has one, since no held frame shows a byte that ends a line. Assumes nothing.
+-- The lines of a list: a row is one line, since no held frame shows an LF. Assumes nothing.
 use Prim.Native.Nat.{ℕ, zero, suc, _+_, _-_, _≤_, _<_}
 use mathlib.Core.List.{List, [], _∷_, _++_}
 use mathlib.Core.Bool.{Bool, true, cond, false≢true, _&&_}
@@ -37,7 +37,7 @@ use Rattle.listing.specs.Sizes.{rowsIn, LinesAreRows}
 use Rattle.listing.proofs.StoreLaws.{store-desk}
 use Rattle.listing.proofs.CountLaws.{rows-are-collected}
 
--- ---- texts that end no line
+-- ---- texts without LF
 
 raw-none : (l : List ℕ) → every isRaw l ≡ true → lines l ≡ 0
 unfolding isRaw between
@@ -61,7 +61,7 @@ every-drop p (suc n) (x ∷ l) e = every-drop p n l (and-r (p x) (every p l) e)
 
 -- ---- a row
 
--- between lead byte and CR
+-- columns between lead byte and CR
 abbrev within : List Column → Bool
 within [] = true
 within (c ∷ cs) = (leb 1 (c .from) && leb 1 (c .to) && leb (c .to) (cellSize - 1)) && within cs

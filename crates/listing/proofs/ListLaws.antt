@@ -58,7 +58,7 @@ module _ (cells marks s : List ℕ) (m : Memory) where
       let z : _≡_ {A = ℕ} 0 1 = cc in absurd (omega arith)
 
 module _ (cells marks s : List ℕ) (t : Taken) (cells′ marks′ : List ℕ) (k : TakenAs cells marks s t cells′ marks′) where
-  -- what is held is there
+  -- the cells and marks that are held exist
   pub taken-fits : (t .count ≤ length marks′) × (t .count * cellSize ≤ length cells′)
   taken-fits =
       let f = after-fits cells marks s in
@@ -128,13 +128,13 @@ listed-long cells marks s out a out′ l w =
       marks = rw b (neither (after cells marks s .marks) marks (leb (length tooLong) (length out)));
     }
 
--- ---- what a caller goes by
+-- ---- what a caller uses
 
 given-is : (b : Bool) (n m : ℕ) → gives n ≡ tried b ROOM (gives m) → (b ≡ true) × (n ≡ m)
 given-is true n m e = (refl, let h : n ≡ m = cc in h)
 given-is false n m e = absurd (let z : _≡_ {A = ℕ} 0 1 = cc in omega arith)
 
--- what was written is there
+-- a list that was written is no longer than the output
 pub written-fits : (cells marks s out : List ℕ) (n : ℕ) (cells′ marks′ out′ : List ℕ) → Listed cells marks s out (Written n) cells′ marks′ out′ → n ≤ length out
 written-fits cells marks s out n cells′ marks′ out′ l =
     let g = given-is (leb (length (listOf cells marks s)) (length out)) n (length (listOf cells marks s)) (l .told) in

@@ -29,14 +29,14 @@ rows-more cells marks s i =
     rw (add-one i) (rows-both s (recordsOf cells marks s i) (cond (eqb (markAt marks i) s) (cellAt cells i ∷ []) [])
     ∙ ap (λ (l : List ℕ). rowsText s (recordsOf cells marks s i) ++ l) (row-or s (cellAt cells i) (eqb (markAt marks i) s)))
 
--- a cell that is there is whole
+-- a cell within the memory has its full length
 pub cell-whole : (cells : List ℕ) (i : ℕ) → i * cellSize + cellSize ≤ length cells → length (take (i * cellSize + cellSize - i * cellSize) (drop (i * cellSize) cells)) ≡ cellSize
 cell-whole cells i l =
     let a = length-take (i * cellSize + cellSize - i * cellSize) (drop (i * cellSize) cells) in
     let b = length-drop (i * cellSize) cells in
     omega (arith, a, b)
 
--- one cell more, and one seat more
+-- one more cell, and one more seat
 module _ (out : List ℕ) (at : ℕ) (cells marks : List ℕ) (p : ℕ) (mid : List ℕ) (q : ℕ) (out′ : List ℕ) (l : length out ≤ mostPlace) where
   pub seat-more : (s i : ℕ) → Put out at (rowsText s (recordsOf cells marks s i)) p mid
       → Put mid p (cond (eqb (markAt marks i) s) (rowText s (take (i * cellSize + cellSize - i * cellSize) (drop (i * cellSize) cells))) []) q out′

@@ -36,7 +36,7 @@ leads-most : (s : List ℕ) → count isLead s ≤ length s
 leads-most [] = omega arith
 leads-most (x ∷ s) = let h = leads-most s in by-test (isLead x) (λ e. rw e (omega arith)) (λ e. rw e (omega arith))
 
--- no count is more than the bytes of the capture
+-- no count is larger than the number of bytes of the capture
 record Few (c : Counts) (n : ℕ) : Type 0 where
   opened : c .opened ≤ n
   collected : c .collected ≤ n
@@ -62,7 +62,7 @@ numbers-are-whole = record {
   seat = λ s l. decimal-is-whole s (omega (arith, l));
 }
 
--- ---- rows: no more than the longest for each mark that names a seat
+-- ---- rows: at most the longest row for each mark that names a seat
 
 row-most : (s : ℕ) (f : List ℕ) → s < seatCount → length (rowText s f) ≤ longestRow
 unfolding longestRow

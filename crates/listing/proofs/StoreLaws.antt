@@ -1,4 +1,4 @@
--- Laws of memory that is kept aside and put back, and of what a capture leaves of it. Assumes nothing.
+-- Laws of memory that is copied aside and put back, and of what a capture leaves unchanged. Assumes nothing.
 use Prim.Native.Nat.{ℕ, _+_, _*_, _<_, _≤_, min}
 use mathlib.Core.List.{List, _++_}
 use mathlib.Core.Bool.{true}
@@ -29,9 +29,9 @@ copy-whole l vs n e =
     (λ h. run-whole l 0 vs n (omega (arith, e)) h)
     (λ h. sets-beyond l 0 (take n vs) h ∙ sym (sets-beyond l 0 vs h))
 
--- ---- put back
+-- ---- putting back
 
--- a list's first elements in place of another's
+-- a list whose first elements are replaced by those of another
 front : (l vs : List ℕ) (n : ℕ) → n ≡ min (length l) (length vs) → sets l 0 vs ≡ take n vs ++ drop n l
 front l vs n e =
     let t = length-take-le n vs (omega (arith, e)) in
@@ -39,7 +39,7 @@ front l vs n e =
     ∙ sets-eq (take n vs) l 0 (omega (arith, e, t))
     ∙ ap (λ (k : ℕ). take n vs ++ drop k l) (ap (λ (k : ℕ). 0 + k) t ∙ zero-add n)
 
--- what is behind n stayed, so it is behind the shorter of both too
+-- if all after n stayed, so did all after n or after the list's length, whichever is less
 behind-min : (n : ℕ) (c c′ : List ℕ) → length c′ ≡ length c → drop n c′ ≡ drop n c → drop (min (length c) n) c′ ≡ drop (min (length c) n) c
 behind-min n c c′ l d =
     by-less n (length c)
@@ -50,7 +50,7 @@ behind-min n c c′ l d =
     let b : length c ≤ length c = omega arith in
     rw e (drop-of-length-le c′ a ∙ sym (drop-of-length-le c b)))
 
--- kept on zeros, and put back on what has changed in the first n elements alone
+-- copied aside onto zeros, and put back onto a list that changed only in its first n elements
 pub restored : (n : ℕ) (c c′ zeros old back : List ℕ) → length zeros ≡ n → length c′ ≡ length c → drop n c′ ≡ drop n c → old ≡ sets zeros 0 c → back ≡ sets c′ 0 old → back ≡ c
 restored n c c′ zeros old back z l d o b =
     let m : ℕ = min (length c) n in
@@ -67,7 +67,7 @@ module _ (cells marks s : List ℕ) where
   pub after-leaves : Leaves (store cells marks) (after cells marks s)
   after-leaves = all-leaves (store cells marks) (pieces s)
 
-  -- what is held is there
+  -- the cells and marks that are held exist
   pub record Fits : Type 0 where
     pub most : after cells marks s .count ≤ mostCells
     pub marked : after cells marks s .count ≤ length (after cells marks s .marks)

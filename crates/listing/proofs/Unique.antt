@@ -1,4 +1,4 @@
--- No second outcome meets the promise of the listing. Assumes nothing.
+-- Only one outcome meets the promise of listing. Assumes nothing.
 use Prim.Native.Nat.{ℕ}
 use mathlib.Core.Path.{_≡_, refl, sym, ap, _∙_}
 use Rattle.digits.specs.Told.{Told, gives, refuses}

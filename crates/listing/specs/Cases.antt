@@ -1,4 +1,4 @@
--- A small capture with its list, spelled.
+-- A small capture and its list, written out.
 use Prim.Native.Nat.{ℕ}
 use Prim.Native.String.{String}
 use mathlib.Core.List.{List, [], _∷_, _++_}
@@ -9,11 +9,11 @@ use Rattle.digits.specs.Text.{codes}
 use Rattle.listing.specs.Listing.{short, listOf}
 use Rattle.listing.specs.Sizes.{longestList}
 
--- a frame of these letters between its lead byte and its CR
+-- a frame with this text between its lead byte and its CR, and then the rest
 abbrev pub framed : ℕ → String → List ℕ → List ℕ
 framed lead text rest = lead ∷ (codes text ++ (13 ∷ rest))
 
--- two requests; their replies mixed, a higher bib first; a dynamic request; a stray; bytes between frames; a frame cut short
+-- two requests; their replies mixed, with a higher bib first; a dynamic request; a stray; bytes between frames; a cut frame
 abbrev pub small : List ℕ
 small =
     framed 17 "R A00700000P000002000S"
@@ -32,8 +32,8 @@ pub record ListWorked : Type 0 where
       ++ codes "0\tA\t007\t00015\t003\t014\t015\t006\tP\t2122232425\t26272829\tE\n"
       ++ codes "1\t1\t012\t00009\t004\t001\t002\t003\tP\t1112131415\t16171819\tR\n"
       ++ codes "end\t2\t3\t1\t2\n"
-  -- 32,768 bytes are listed, one more is too long
+  -- 32,768 bytes are listed; one more is too long
   pub not-too-long : short [] [] (replicate 32768 0) ≡ true
   pub too-long : listOf [] [] (replicate 32769 0) ≡ codes "input too long\n"
-  -- and the longest list, written out
+  -- the length of the longest list, as a number
   pub longest : longestList ≡ 14170

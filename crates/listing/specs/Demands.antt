@@ -1,4 +1,4 @@
--- What is demanded of a list: it is that of the capture, and a call turned away changes nothing that is lent.
+-- What is demanded of a list: it is the list of the capture, and a refused call changes nothing that is lent.
 use Prim.Native.Nat.{ℕ}
 use mathlib.Core.List.{List}
 use mathlib.Core.Path.{_≡_}
@@ -8,7 +8,7 @@ use Rattle.desk.specs.Capture.{captures}
 use Rattle.listing.specs.declared.ListAnswer.{ListAnswer}
 use Rattle.listing.specs.Listing.{store, after, counts, listTold, Listed}
 
--- its rows and counts are those of the capture, taken on an emptied desk: what is proved of a capture holds of a list
+-- its rows and counts are those of the capture, taken on an emptied desk: so what is proved of a capture holds of a list too
 abbrev pub ListIsOfCapture : Type 0
 ListIsOfCapture = (cells marks s : List ℕ) → captures (store cells marks) s ≡ record { answer = gives (counts cells marks s); after = after cells marks s }
 

@@ -25,7 +25,7 @@ mostInput = 32768
 abbrev pub store : List ℕ → List ℕ → Memory
 store cells marks = record { row = emptyRow; bits = 0; count = 0; cells = cells; marks = marks }
 
--- the rows of the seats below n, lowest first, each seat's in order
+-- the rows of the seats below n, the lowest seat first, each seat's rows in order
 unfoldable pub seatsText : Memory → ℕ → List ℕ
 seatsText m zero = []
 seatsText m (suc n) = seatsText m n ++ rowsText n (heldBy m n)
@@ -36,7 +36,7 @@ listText m c = heading ++ seatsText m seatCount ++ endText c
 -- ---- a capture
 
 module _ (cells marks s : List ℕ) where
-  -- the desk after all of its frames, and their counts
+  -- the desk after all frames of the capture, and the counts
   abbrev pub after : Memory
   after = afterAll (store cells marks) (pieces s)
 
@@ -49,13 +49,13 @@ module _ (cells marks s : List ℕ) where
   unfoldable pub listOf : List ℕ
   listOf = cond short (listText after counts) tooLong
 
-  -- ---- on an output of so many bytes
+  -- ---- on an output `out`
 
   module _ (out : List ℕ) where
     abbrev pub fits : Bool
     fits = leb (length listOf) (length out)
 
-    -- the size of the list
+    -- the answer: the size of the list, or ROOM
     abbrev pub listed : Told ℕ
     listed = tried fits ROOM (gives (length listOf))
 
@@ -74,7 +74,7 @@ abbrev pub listTold : ListAnswer → Told ℕ
 listTold (Written n) = gives n
 listTold Room = refuses ROOM
 
--- what is promised of listing s to an output: the answer, and every byte and mark that is lent
+-- what is promised of listing s to an output: the answer, and all bytes and marks that are lent
 pub record Listed (lent-cells lent-marks s out : List ℕ) (answer : ListAnswer) (cells′ marks′ out′ : List ℕ) : Type 0 where
   pub told : listTold answer ≡ listed lent-cells lent-marks s out
   pub bytes : out′ ≡ outAfter lent-cells lent-marks s out

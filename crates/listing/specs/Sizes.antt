@@ -10,40 +10,40 @@ use Rattle.desk.specs.Memory.{Memory, heldBy}
 use Rattle.listing.specs.Text.{Column, columns, heading, end}
 use Rattle.listing.specs.Listing.{mostInput, after, counts, listOf}
 
--- the bytes that columns show, with their tabs
+-- how many bytes these columns take in a row, each with the tab in front of it
 abbrev pub columnsSize : List Column → ℕ
 columnsSize [] = 0
 columnsSize (c ∷ cs) = 1 + (c .to - c .from) + columnsSize cs
 
--- no row is longer: the last seat's digits, the columns, and the end of the line
+-- the length of the longest row: the digits of the last seat, the columns, and the LF
 unfoldable pub longestRow : ℕ
 longestRow = width (seatCount - 1) + columnsSize columns + 1
 
--- no end line is longer: four counts, each with its tab
+-- the length of the longest end line: the word end, four counts, each with the tab in front of it, and the LF
 unfoldable pub longestEnd : ℕ
 longestEnd = length end + 4 * (1 + width mostInput) + 1
 
--- no list is longer: an output of so many bytes has room for every one
+-- the length of the longest list: an output of so many bytes has room for every list
 abbrev pub longestList : ℕ
 longestList = length heading + mostCells * longestRow + longestEnd
 
 abbrev pub ListFits : Type 0
 ListFits = (cells marks s : List ℕ) → length (listOf cells marks s) ≤ longestList
 
--- the rows that a list has of the seats below n
+-- how many rows a list has for the seats below n
 unfoldable pub rowsIn : Memory → ℕ → ℕ
 rowsIn m zero = 0
 rowsIn m (suc n) = rowsIn m n + length (heldBy m n)
 
--- a list has as many rows as it tells replies collected
+-- a list has as many rows as it reports replies collected
 abbrev pub RowsAreCollected : Type 0
 RowsAreCollected = (cells marks s : List ℕ) → rowsIn (after cells marks s) seatCount ≡ counts cells marks s .collected
 
--- so a list has the heading, a line for each of these rows, and the end line
+-- so a list is the heading, a line for each of these rows, and the end line
 abbrev pub LinesAreRows : Type 0
 LinesAreRows = (cells marks s : List ℕ) → length s ≤ mostInput → lines (listOf cells marks s) ≡ 1 + counts cells marks s .collected + 1
 
--- every number of a list that is not copied from a frame is shown whole: its counts, and its seats
+-- the numbers of a list that are not copied from a frame are shown whole: its counts, and its seats
 pub record NumbersAreWhole : Type 0 where
   pub opened : (cells marks s : List ℕ) → length s ≤ mostInput → Whole (counts cells marks s .opened)
   pub collected : (cells marks s : List ℕ) → length s ≤ mostInput → Whole (counts cells marks s .collected)

@@ -8,14 +8,14 @@ use Rattle.text.specs.Decimal.{decimal}
 use Rattle.text.specs.Lines.{TAB, LF}
 use Rattle.desk.specs.declared.capture.Counts.{Counts}
 
--- ---- columns: a name, and the bytes of a frame that stand below it
+-- ---- columns: a name, and the bytes of a frame that are shown under it
 
 pub record Column : Type 0 where
   pub name : List ℕ
   pub from : ℕ
   pub to : ℕ
 
--- the number is shown as in the request: its last three digits, the first two being zero
+-- the number is shown as in the request, with its last three digits; the first two are zero
 unfoldable pub columns : List Column
 columns =
     record { name = codes "from"; from = 6; to = 7 }
@@ -40,7 +40,7 @@ abbrev pub named : List Column → List ℕ
 named [] = LF ∷ []
 named (c ∷ cs) = TAB ∷ (c .name ++ named cs)
 
--- it has the columns' names
+-- the heading has the names of the columns
 abbrev pub HeadingNamesColumns : Type 0
 HeadingNamesColumns = heading ≡ codes "seat" ++ named columns
 

@@ -1,4 +1,4 @@
--- No second outcome meets the promise of the listing: its answer, and all that is lent.
+-- Only one outcome meets the promise of listing: its answer, and all memory that is lent.
 use Prim.Native.Nat.{ℕ}
 use mathlib.Core.List.{List}
 use Rattle.digits.specs.Once.{Once}

@@ -1,3 +1,3 @@
--- What the private steps of the code compute. Nothing here is needed to read the promise of the call.
+-- What the private steps of the code compute. The promise of the call does not need it.
 pub mod Rows
 pub mod Steps

@@ -1,4 +1,4 @@
-// A capture to its list.
+// The list of a capture.
 mod line;
 mod rows;
 mod store;
@@ -32,25 +32,25 @@ pub const HEADING: [u8; HEADING_SIZE] =
 // A longer capture is not listed.
 pub const MOST_INPUT: usize = 32768;
 
-// No list is longer: an output of so many bytes has room for every one.
+// The length of the longest list: an output of so many bytes has room for every list.
 pub const LONGEST_LIST: usize = HEADING_SIZE + CELLS * LONGEST_ROW + LONGEST_END;
 
 const TOO_LONG: [u8; 15] = *b"input too long\n";
 
-// Written with so many bytes; or there is not room for them all.
+// Written, with this many bytes; or the output has no room for all of them.
 pub enum ListAnswer {
     Written(usize),
     Room,
 }
 
-// What is held after a capture, and the counts of its frames.
+// How many cells are held after a capture, and the counts of its frames.
 struct Taken {
     count: usize,
     counts: Counts,
 }
 
-// Writes the list of a capture, kept on an emptied desk in lent cells and marks, to the first bytes of out. Where out is too short
-// nothing that is lent changes.
+// Writes the list of a capture to the first bytes of out. The replies are kept in lent cells and marks, on an emptied desk. If out is
+// too short, nothing that is lent changes.
 pub fn list(capture: &[u8], cells: &mut [u8], marks: &mut [u32], out: &mut [u8]) -> ListAnswer
     ensures { λ r. ⌜ Listed (now (cells .entry)) (now (marks .entry)) (now (capture .entry)) (now (out .entry)) r (now (cells .exit)) (now (marks .exit)) (now (out .exit)) ⌝ }
 {
@@ -87,7 +87,7 @@ fn take(cells: &mut [u8], marks: &mut [u32], capture: &[u8]) -> Taken
             count: after.count as usize,
             counts,
         },
-        // An empty desk is one, so this is never met.
+        // An empty desk is a desk, so this case never occurs.
         CaptureAnswer::NoDesk => Taken {
             count: 0,
             counts: Counts {
@@ -100,7 +100,7 @@ fn take(cells: &mut [u8], marks: &mut [u32], capture: &[u8]) -> Taken
     }
 }
 
-// Heading, rows and end line.
+// Puts heading, rows and end line.
 fn put_list(out: &mut [u8], t: Taken, cells: &[u8], marks: &[u32]) -> usize
     requires { ⌜ (t .count ≤ length (now marks)) × (t .count * cellSize ≤ length (now cells)) ⌝ }
     ensures { λ r. ⌜ Put (now (out .entry)) 0 (listLines (now (cells .entry)) (now (marks .entry)) t) r (now (out .exit)) ⌝ }

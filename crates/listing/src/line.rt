@@ -1,4 +1,4 @@
-// Lines of a list put to an output, from a place on.
+// Puts the lines of a list on an output, from a place on.
 use desk::capture::Counts;
 use frames::reply::field;
 use text::LF;
@@ -20,8 +20,8 @@ ghost use Rattle.listing.specs.Text.{columns, shown, rowText, endText};
 
 const COLUMNS: usize = 11;
 
-// The bytes of a row that stand after the seat: columns, each with its tab, and the end of the line. Together the columns show all from
-// the status to the date but two digits of the number.
+// How many bytes a row has after the seat: the columns, each with its tab, and the LF. Together the columns show all bytes from the
+// status to the date, except two digits of the number.
 const AFTER_SEAT: usize = COLUMNS + (field::SPARE - field::STATUS - 2) + 1;
 
 // How many digits the last seat has, and how many a count has at most.
@@ -33,7 +33,7 @@ const END_SIZE: usize = 3;
 
 const END: [u8; END_SIZE] = *b"end";
 
-// No row is longer, and no end line, which has four counts.
+// The lengths of the longest row and of the longest end line, which has four counts.
 pub const LONGEST_ROW: usize = SEAT_DIGITS + AFTER_SEAT;
 
 pub const LONGEST_END: usize = END_SIZE + 4 * (1 + COUNT_DIGITS) + 1;
@@ -42,11 +42,11 @@ pub fn put_row(out: &mut [u8], at: usize, seat: usize, frame: &[u8]) -> usize
     requires { ⌜ length (now frame) ≡ cellSize ⌝ }
     ensures { λ r. ⌜ Put (now (out .entry)) at (rowText seat (now (frame .entry))) r (now (out .exit)) ⌝ }
 {
-    // On an output that has ended a row is only measured.
+    // If the output has ended already, the row is only measured.
     if out.len() <= at {
         return place_after(at, width_of(seat as u64) + AFTER_SEAT);
     }
-    // Put together at places that are known, then copied as one run.
+    // The row is put together at known places, and then copied at once.
     let mut row = [0u8; AFTER_SEAT];
     let q = put_columns(&mut row, frame);
     put_one(&mut row, q, LF);
@@ -69,7 +69,7 @@ pub fn put_end(out: &mut [u8], at: usize, c: Counts) -> usize
     put_one(out, p, LF)
 }
 
-// Each column up to the field behind. A request's number has three digits, so the first two of five are not shown.
+// Each column goes up to the next field. A request's number has three digits, so the first two of the reply's five are not shown.
 fn put_columns(out: &mut [u8], frame: &[u8]) -> usize
     requires { ⌜ length (now frame) ≡ cellSize ⌝ }
     ensures { λ r. ⌜ Put (now (out .entry)) 0 (shown (now (frame .entry)) columns) r (now (out .exit)) ⌝ }
@@ -87,7 +87,7 @@ fn put_columns(out: &mut [u8], frame: &[u8]) -> usize
     put_column(out, p, frame, field::STATUS, field::REQUESTER)
 }
 
-// With its tab in front.
+// Puts a column with a tab in front of it.
 fn put_column(out: &mut [u8], at: usize, frame: &[u8], from: usize, to: usize) -> usize
     requires { ⌜ (from < to) × (to ≤ length (now frame)) ⌝ }
     ensures { λ r. ⌜ Put (now (out .entry)) at (TAB ∷ slice from to (now (frame .entry))) r (now (out .exit)) ⌝ }

@@ -49,7 +49,7 @@ fn put_seat(
     p
 }
 
-// A row where the mark names the seat.
+// Puts a row if the mark names the seat.
 fn put_own(out: &mut [u8], at: usize, seat: usize, mark: u32, frame: &[u8]) -> usize
     requires { ⌜ length (now frame) ≡ cellSize ⌝ }
     ensures { λ r. ⌜ Put (now (out .entry)) at (cond (eqb mark seat) (rowText seat (now (frame .entry))) []) r (now (out .exit)) ⌝ }

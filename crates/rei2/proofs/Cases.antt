@@ -79,7 +79,7 @@ desk-calls = record {
   full = refl;
 }
 
--- ---- captures: first their frames, then what becomes of these
+-- ---- captures: first their frames, then what becomes of them
 
 capturedBy : Memory → List Piece → CapturedAnswer
 capturedBy m ps =

@@ -1,4 +1,4 @@
--- Lent calls one after the other are the run of their events, and so the rule of mixed replies holds of them. Assumes nothing.
+-- Lent calls, one after the other, are the run of their events; so the rule of mixed replies holds for them. Assumes nothing.
 use Prim.Native.Nat.{ℕ, _≤_}
 use mathlib.Core.Bool.{false}
 use mathlib.Core.List.{List, [], _∷_, _++_}
@@ -22,11 +22,11 @@ use Rattle.rei2.specs.Numbers.{numberIn, valueIn}
 use Rattle.rei2.specs.Lent.{answerOf, LentCall}
 use Rattle.rei2.specs.Chain.{Chain, none, opened, replied, answersOf, ChainsRun, SortsLentCalls}
 
--- the memory that a call leaves is the outcome's
+-- the memory that a call leaves is that of the outcome
 left : (o : Outcome) (r : DeskAnswer) (seats : List Seat) (cells marks : List ℕ) → LentCall o r seats cells marks → memory (r .desk) seats cells marks ≡ o .after
 left o r seats cells marks h = λ i. record { row = h .seats i; bits = h .answer i .desk .bits; count = h .answer i .desk .count; cells = h .cells i; marks = h .marks i }
 
--- one call more in front
+-- one more call in front
 module _ (o : Outcome) (r : DeskAnswer) (seats : List Seat) (cells marks : List ℕ) (h : LentCall o r seats cells marks) where
   one-more : (es : List Event) (rs : List DeskAnswer) (m : Memory) → (m ≡ run (memory (r .desk) seats cells marks) es) × (rs ≡ answersOf (memory (r .desk) seats cells marks) es)
       → (m ≡ run (o .after) es) × (r ∷ rs ≡ answerOf o ∷ answersOf (o .after) es)
@@ -45,14 +45,14 @@ chain-runs (replied {seats = seats} {desk = desk} {cells = cells} {marks = marks
 pub chains-run : ChainsRun
 chains-run m m′ es rs c = chain-runs c
 
--- ---- what the numbers say of the calls
+-- ---- what the numbers say about the calls
 
--- a reset that is done empties
+-- a reset that is not refused empties the desk
 reset-done : (m : Memory) → numberIn (resets m .answer) ≡ 0 → resets m .after ≡ emptied m
 unfolding resets
 reset-done m z = by-test (allSeats m) (λ b. rw b) (λ b. let d : DESK .number ≡ 0 = rw b at z in absurd (omega (arith, d)))
 
--- an opening that is done has its seat
+-- an opening that is not refused returns its seat
 seat-given : (t : Told ℕ) → Sure t → numberIn t ≡ 0 → t ≡ gives (valueIn 0 t)
 seat-given (gives s) sure z = refl
 seat-given (refuses f) sure z = absurd (let l = never-0 f (sure f refl) in omega (arith, l, z))

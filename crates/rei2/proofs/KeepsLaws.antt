@@ -1,4 +1,4 @@
--- A call that is turned away changes nothing. Assumes nothing.
+-- A refused call changes nothing. Assumes nothing.
 use Prim.Native.Nat.{ℕ, suc}
 use mathlib.Core.List.{List, [], _∷_, _++_}
 use mathlib.Core.Path.{_≡_, refl, ap, _∙_}
@@ -24,7 +24,7 @@ use Rattle.rei2.specs.Reply.{recordOf, triedInC}
 use Rattle.rei2.specs.Names.{nameTried}
 use Rattle.rei2.specs.Keeps.{Refusing, RefusedKeeps}
 
--- what refuses by a number is a refusal
+-- an answer with a refusal's number is a refusal
 is-refusal : {A B : Type 0} (t : Told A) → Refusing (numberIn t) → ((f : Refusal) → t ≡ refuses f → B) → B
 is-refusal (gives a) n k = absurd (n refl)
 is-refusal (refuses f) n k = k f refl
@@ -44,7 +44,7 @@ module _ (m : Memory) where
   capture-kept : (s : List ℕ) → Refusing (numberIn (captures m s .answer)) → captures m s .after ≡ m
   capture-kept s n = is-refusal (captures m s .answer) n (D.refused-keeps .capture m s)
 
--- all that is lent is as it was, where the memory is
+-- if the memory is as it was, so is all that is lent
 lent-kept : {A : Type 0} {says r : A} {after : Memory} {seats : List Seat} {cells marks : List ℕ} (m : Memory) → Lent says after r seats cells marks → after ≡ m
     → (seats ≡ m .row) × ((cells ≡ m .cells) × (marks ≡ m .marks))
 lent-kept m h e =

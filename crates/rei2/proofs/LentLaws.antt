@@ -1,5 +1,5 @@
--- What the walks of the lent calls go by: from what a call by value gives to the promise of the lent call, and the promise where
--- the row is not of sixteen seats. Assumes nothing.
+-- What the walks of the lent calls use: from what a call by value returns to the promise of the lent call, and the promise if
+-- the row does not have sixteen seats. Assumes nothing.
 use mathlib.Core.Path.{_≡_, refl, sym, subst, _∙_}
 use mathlib.Core.Bool.{false}
 use mathlib.Core.List.{List, []}
@@ -35,13 +35,13 @@ refusal-reply = refusal-reset
 abbrev pub refusal-capture : Desk → CapturedAnswer
 refusal-capture d = captureAnswer d (refuses DESK)
 
--- ---- a row that is not of sixteen seats makes no desk
+-- ---- a row that does not have sixteen seats is not a desk
 
 no-desk : (m : Memory) → eqb (length (m .row)) seatCount ≡ false → isDesk m ≡ false
 unfolding isDesk
 no-desk m e = rw e
 
--- a call that is turned away leaves the memory
+-- a refused call leaves the memory unchanged
 module _ (m : Memory) (f : List ℕ) (e : isDesk m ≡ false) where
   not-opened : opens m f ≡ record { answer = refuses DESK; after = m }
   unfolding opens openTried

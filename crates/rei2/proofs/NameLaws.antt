@@ -1,4 +1,4 @@
--- The names of refusals, and what is left where one is written. Assumes nothing.
+-- The names of refusals, and what an output holds after one is written. Assumes nothing.
 use Prim.Native.Nat.{ℕ, zero, suc, _+_, _<_, _≤_}
 use mathlib.Core.List.{List, [], _∷_, _++_}
 use mathlib.Core.Path.{_≡_, refl, sym, ap, _∙_}
@@ -14,7 +14,7 @@ use Rattle.digits.specs.Text.{codes}
 use Rattle.rei2.specs.declared.request.WrittenAnswer.{WrittenAnswer}
 use Rattle.rei2.specs.Names.{names, nameOf, NamesTell, NamedLent, nameSize, NamesFit}
 
--- past a table stands what is given for it
+-- past the end of a table, `getD` is the default
 past : (table : List (List ℕ)) (n : ℕ) (other : List ℕ) → length table ≤ n → getD table n other ≡ other
 past [] n other l = refl
 past (x ∷ xs) zero other l = absurd (omega (arith, l))
@@ -43,7 +43,7 @@ names-tell = record {
   others = λ n l. past names n (codes "UNKNOWN") l;
 }
 
--- a number that is none of the first ones
+-- a number that is not one of the first k
 abbrev pub NoneBelow : ℕ → ℕ → Type 0
 NoneBelow zero n = Unit {0}
 NoneBelow (suc k) n = NoneBelow k n × (n ≡ k → ⊥)

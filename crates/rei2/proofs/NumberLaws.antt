@@ -1,4 +1,4 @@
--- From what the calls below answer to the numbers of the host's answers. Assumes nothing.
+-- From the answers of the other crates' calls to the numbers of the host's answers. Assumes nothing.
 use mathlib.Core.Path.{_≡_, ap}
 use mathlib.Core.List.{List, []}
 use Prim.Native.Nat.{ℕ}

@@ -1,4 +1,4 @@
--- What a call by value hands back, taken apart: its row is an array of seats and its answer an answer, at the machine values that they have. Assumes nothing.
+-- What a call by value returns, taken apart: its row is an array of seats, and its answer an answer, with the machine values that they have. Assumes nothing.
 use mathlib.Core.Path.{sym, subst, _∙_}
 use mathlib.Core.List.{[], _∷_, List, map}
 use Prim.Native.Nat.{ℕ}

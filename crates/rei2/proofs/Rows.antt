@@ -1,4 +1,4 @@
--- A row of elements that is copied one by one, for any element type and any length. It says nothing of the crate.
+-- A row of elements that is copied one by one, for any element type and any length. Nothing in it is about this crate.
 --     mixed ys zs i    the first i elements of ys, and after them those of zs
 --     local-apart      a local array, written whole, is taken apart: its elements lie in a row
 --     local-whole      a row of n elements is a local array again, which is read whole
@@ -132,7 +132,7 @@ module _ {M : Type 1} {𝓤 : URA M} {H : Heap 𝓤} {A : Atoms 𝓤} {K : Type 
       use1 W (‵ (fat fullShare (tyArray (lone (R .mir)) n) b o (only (array-vals vals xs)))) (W .laws .raw-at fullShare (tyArray (lone (R .mir)) n) b o (only (array-vals vals xs))) $ move t (1 ∷ []) $
       peeks t (Array R n) (Is (Array R n)) (shows 𝓤 H A (Array R n)) xs (array-vals vals xs) (λ p. move t (1 ∷ 0 ∷ []) $ k p))
 
--- `if c { a }` and the rest, where a returns: the rest is run where the test fails. It names no code, so that none is compared
+-- `if c { a }` and the rest, if a returns: the rest runs when the test fails. It is stated for any code, so that no code has to be compared
 module _ {M : Type 1} {𝓤 : URA M} {H : Heap 𝓤} {A : Atoms 𝓤} {K : Type 0} {W : Given 𝓤 H A} {Γ : List (Item 𝓤)} {C : Calls 𝓤 H} {Λ : Loops 𝓤 H} {E : Env 𝓤 H} {q : Post 𝓤 H} where
   pub guards : K → {c : Operand} {a b : Body} {y : Bool} → Opd K W Γ E c (vbool y)
       → (T y → Seq K W Γ (runs C Λ E a (anyQ (afterSeq 𝓤 H (Wp 𝓤 H C Λ E b (post 𝓤 H q)) (post 𝓤 H q))))) → (T (not y) → Seq K W Γ (runs C Λ E b q))

@@ -1,6 +1,6 @@
 -- The calls of `load` and `store` as steps of a walk, for any function that makes one.
---     loads        with a `&mut [Seat]` of sixteen owned, a view of it goes to `load`; the row comes back as the result, and the slice as it was
---     stores       a `&mut [Seat]` of sixteen goes to `store` for good, and what says its last list comes back: the row
+--     loads        with a `&mut [Seat]` of sixteen owned, a view of it goes to `load`; the row is returned, and the slice comes back as it was
+--     stores       a `&mut [Seat]` of sixteen goes to `store` for good, and the statement of its last list comes back: the row
 -- Assumes `Given`, and that the callee meets its contract.
 use Rattle.desk.specs.Limits.{seatCount}
 use mathlib.Core.Path.{_≡_, refl, ap, subst}

@@ -1,4 +1,4 @@
--- The timing of a reply, in numbers and back, and what is written of a record that has one in numbers. Assumes nothing.
+-- The timing of a reply in numbers and back, and what is written of a record whose timing is in numbers. Assumes nothing.
 use mathlib.Core.Path.{_≡_, refl, sym, ap, ap₂, _∙_}
 use mathlib.Core.Bool.{Bool, true, false, cond, not, true≢false, false≢true, _&&_, and-eq-true-iff}
 use mathlib.Core.List.{List, _++_, append-nil}
@@ -83,12 +83,12 @@ none-over (Clock ticks day month year) = refl
 none-over (Net value) = refl
 none-over Raw = refl
 
--- ---- a record's first wrong part, and then what is left over
+-- ---- a record's first wrong part, and then a number left over
 
 first-then : (w : ℕ) (l : Bool) → l ≡ false → cond (eqb w 0) (cond l leftAt 0) w ≡ w
 first-then w l e = by-test (eqb w 0) (λ t. rw (t, e) (sym (eqb-true w 0 t))) (λ t. rw t)
 
--- what is told by the room that a record is given
+-- the answer, by the room that a record is given
 told-by : (w room : ℕ) (l : Bool) → orLeft l (writtenAnswer 51 (writeTried w 51 (roomIn l room))) ≡ writtenAnswer 51 (writeTried (cond (eqb w 0) (cond l leftAt 0) w) 51 room)
 unfolding writeTried
 told-by w room true = by-test (eqb w 0) (λ t. rw t) (λ t. rw (t, t))
@@ -103,7 +103,7 @@ written-all w frame out k e =
     ap₂ (λ (x y : List ℕ). outputAfter (writeTried w 51 (length x)) frame 51 x ++ y) (ap (λ (i : ℕ). take i out) e ∙ take-length out) (ap (λ (i : ℕ). drop i out) e ∙ drop-length out)
     ∙ append-nil (outputAfter (writeTried w 51 (length out)) frame 51 out)
 
--- and what is written to it: nothing without room, and with all of it what is written to the output
+-- what is written: nothing without room; with all of the room, what is written to the output
 written-by : (w : ℕ) (frame out : List ℕ) (l : Bool)
     → outputAfter (writeTried w 51 (length (midOf 0 (roomIn l (length out) - 0) out))) frame 51 (midOf 0 (roomIn l (length out) - 0) out) ++ postOf 0 (roomIn l (length out) - 0) out
     ≡ outputAfter (writeTried (cond (eqb w 0) (cond l leftAt 0) w) 51 (length out)) frame 51 out
@@ -148,7 +148,7 @@ is-zero : (v : ℤ) → isNothing v ≡ true → v ≡ pos 0
 is-zero (pos n) e = ap pos (eqb-true n 0 e)
 is-zero (negsuc n) e = absurd (false≢true e)
 
--- a code that is none is of no kind
+-- a code that is none of the three is of no kind
 no-time-wrong : (kind : TimingKind) (rawTime rawDate spare : List ℕ)
     → recordWrong (timed kind) (record { timing = noTime; rawTime = rawTime; rawDate = rawDate; spare = spare }) ≡ 0 → ⊥
 unfolding recordWrong timed
@@ -156,7 +156,7 @@ no-time-wrong clockKind a b c e = omega (arith, e)
 no-time-wrong netKind a b c e = omega (arith, e)
 no-time-wrong rawKind a b c e = omega (arith, e)
 
--- what tests that are all true say
+-- what follows from tests that are all true
 no-part : (a b c d : ℕ) → eqb a 0 && eqb b 0 && eqb c 0 && eqb d 0 ≡ true → (a ≡ 0) × ((b ≡ 0) × ((c ≡ 0) × (d ≡ 0)))
 no-part a b c d e =
     let x = and-eq-true-iff (eqb a 0 && eqb b 0 && eqb c 0) (eqb d 0) .0 e in

@@ -1,4 +1,4 @@
--- No second outcome meets the promise of a call on lent memory. Assumes nothing.
+-- Only one outcome meets the promise of a call on lent memory. Assumes nothing.
 use Prim.Native.Nat.{ℕ}
 use mathlib.Core.List.{List, []}
 use mathlib.Core.Path.{_≡_, sym, _∙_}

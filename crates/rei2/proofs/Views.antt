@@ -1,4 +1,4 @@
--- A `&κ mut [T]` that is lent as a `&κ′ [T]` for a lifetime κ′ of a call, and comes back as it was. It says nothing of the crate.
+-- A `&κ mut [T]` that is lent as a `&κ′ [T]` for the lifetime κ′ of a call, and comes back as it was. Nothing in it is about this crate.
 --     Viewed           what the holder keeps meanwhile: the lender's part at κ′, and its own borrow at κ, open, with both halves of its ghost variable
 --     lends-view       own (the `&κ mut [T]` ((b, o), γ, ys)) ∗ [κ]_q  ⊢ ⇛ ∃ γ₁. own (the `&κ′ [T]` ((b, o), γ₁, ys)) ∗ Viewed
 --     view-back        given `Room`:  [†κ′] ∗ Viewed  ⊢ ⇛ (own (the `&κ mut [T]` ((b, o), γ, ys)) ∗ [κ]_q)

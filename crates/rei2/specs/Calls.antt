@@ -1,4 +1,4 @@
--- The other calls, in numbers.
+-- The answers of the other calls, in numbers.
 use Prim.Native.Nat.{ℕ}
 use mathlib.Core.List.{List}
 use mathlib.Core.Path.{_≡_}
@@ -15,7 +15,7 @@ use Rattle.rei2.specs.declared.running.RunningAnswer.{RunningAnswer}
 use Rattle.rei2.specs.declared.listed.ListedAnswer.{ListedAnswer}
 use Rattle.rei2.specs.Numbers.{numberIn, valueIn}
 
--- what is found in a capture of so many bytes: a cut frame ends where the next call starts, and where nothing is left that is the end of the capture
+-- what is found in a capture of `size` bytes: a cut frame ends where the next call starts; if nothing is left, `next` is the capture's end
 abbrev pub frameAnswer : Found → ℕ → FrameAnswer
 frameAnswer (Whole start end next) size = record { kind = 1; start = start; end = end; next = next .at }
 frameAnswer (Cut start next) size = record { kind = 2; start = start; end = next .at; next = next .at }
@@ -31,7 +31,7 @@ runningAnswer t = record { refusal = numberIn t; ticks = valueIn (pos 0) t }
 abbrev pub listAnswer : Told ℕ → ListedAnswer
 listAnswer t = record { refusal = numberIn t; size = valueIn 0 t }
 
--- what is promised of listing s to an output: the answer, and every byte and mark that is lent
+-- what is promised of listing s to an output: the answer, and all bytes and marks that are lent
 pub record ListLent (lent-cells lent-marks s out : List ℕ) (answer : ListedAnswer) (cells′ marks′ out′ : List ℕ) : Type 0 where
   pub told : answer ≡ listAnswer (listed lent-cells lent-marks s out)
   pub bytes : out′ ≡ outAfter lent-cells lent-marks s out

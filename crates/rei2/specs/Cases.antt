@@ -1,4 +1,4 @@
--- The host's answers, worked out in numbers: each code and each zero where a host sees it.
+-- The host's answers, worked out in numbers: each code, and each zero that a host sees.
 use Prim.Native.Nat.{ℕ}
 use mathlib.Core.List.{List, [], _∷_, _++_}
 use mathlib.Core.Path.{_≡_}
@@ -30,7 +30,7 @@ use Rattle.rei2.specs.Calls.{frameAnswer, cellAnswer, runningAnswer, lis
 use Rattle.rei2.specs.Names.{nameOf, NamedLent}
 use Rattle.rei2.specs.Limits.{limits}
 
--- ---- frames in a capture: a whole one, one that the end cuts, one that a lead byte cuts
+-- ---- frames in a capture: a whole one, one cut by the end, one cut by a lead byte
 
 pub record FramesFound : Type 0 where
   pub nothing : frameAnswer (foundFrom [] 0) 0 ≡ record { kind = 0; start = 0; end = 0; next = 0 }
@@ -42,7 +42,7 @@ pub record FramesFound : Type 0 where
   pub cut-by-lead : frameAnswer (foundFrom (65 ∷ 17 ∷ 66 ∷ 19 ∷ 13 ∷ []) 0) 5 ≡ record { kind = 2; start = 1; end = 3; next = 3 }
   pub next-one : frameAnswer (foundFrom (65 ∷ 17 ∷ 66 ∷ 19 ∷ 13 ∷ []) 3) 5 ≡ record { kind = 1; start = 3; end = 5; next = 5 }
 
--- ---- held cells: three cells, the marks 4 5 4
+-- ---- held cells: three cells with the marks 4, 5 and 4
 
 pub record CellsHeld : Type 0 where
   pub first : cellAnswer (nextHeld 3 (replicate 153 0) (4 ∷ 5 ∷ 4 ∷ []) 5 0) ≡ record { found = 1; cell = 1 }
@@ -55,7 +55,7 @@ pub record CellsHeld : Type 0 where
 abbrev pub answering : ℕ → ℕ → ℕ → ℕ → ℕ → DeskAnswer
 answering bits count refusal offset seat = record { desk = record { bits = bits; count = count }; refusal = refusal; offset = offset; seat = seat }
 
--- no seats, with a state that is not empty
+-- no seats, and a state that is not empty
 abbrev pub noDesk : Memory
 noDesk = memory (record { bits = 5; count = 7 }) [] [] []
 
@@ -81,7 +81,7 @@ pub record DeskCalls : Type 0 where
   pub out-of-place : answerOf (replies (replies asked (replying "R") .after) (replying "Z")) ≡ answering 1 1 15 0 0
   pub full : answerOf (replies (replies (replies asked (replying "R") .after) (replying "R") .after) (replying "R")) ≡ answering 1 2 16 0 0
 
--- a request and three lead bytes; a reply; a dynamic request; and no desk
+-- a request and three lead bytes; a reply; a dynamic request; memory that is not a desk
 pub record CapturesTaken : Type 0 where
   pub asked-and-cut : capturedOf (captures bare (asking "1" "P" ++ (17 ∷ 18 ∷ 19 ∷ [])))
       ≡ record { desk = record { bits = 1; count = 0 }; refusal = 0; counts = record { opened = 1; collected = 0; dynamic = 0; refused = 3 } }
@@ -94,17 +94,17 @@ pub record CapturesTaken : Type 0 where
 
 -- ---- frames read
 
--- the record of a reply of the frames' cases with this bib, letter and timing, and no raw parts
+-- the record of a reply as in the cases of frames, with this bib, letter and timing, and no raw bytes
 abbrev pub told : ℕ → ℕ → TimingNumbers → ReplyRecord
 told bib letter timing =
     record { head = record { program = 83; mode = 79; status = 69; requester = 65; number = 12; bib = bib; group = 0; run = 1; physical = 15; channel = 255; information = letter }; timing = timing; «raw_time» = replicate 10 0; «raw_date» = replicate 8 0; spare = 32 ∷ 32 ∷ [] }
 
--- one with letter P and raw parts
+-- the same with bib 41 and letter P, and with raw bytes
 abbrev pub shownRaw : TimingNumbers → ReplyRecord
 shownRaw timing =
     record { head = record { program = 83; mode = 79; status = 69; requester = 65; number = 12; bib = 41; group = 0; run = 1; physical = 15; channel = 255; information = 80 }; timing = timing; «raw_time» = replicate 10 32; «raw_date» = replicate 8 33; spare = 32 ∷ 32 ∷ [] }
 
--- a time of the clock, with a net value beside it
+-- a clock timing with this net value beside it
 abbrev pub clocked : ℕ → TimingNumbers
 clocked net = record { kind = 1; ticks = 725400; day = 29; month = 2; year = 2024; net = pos net }
 
@@ -166,8 +166,9 @@ pub record OtherCalls : Type 0 where
   pub list : listAnswer (listed [] [] [] (replicate 100 0)) ≡ record { refusal = 0; size = 74 }
   pub no-room : listAnswer (listed [] [] [] []) ≡ record { refusal = 7; size = 0 }
 
--- ---- a refusal's name on an output: STRAY with a byte to spare, with just its room, and with one byte less
+-- ---- a refusal's name on an output: STRAY with a byte to spare, with exactly its room, and with one byte too few
 
+-- a promise on an answer and an output allows no other output than this one
 abbrev pub Leaves : (WrittenAnswer → List ℕ → Type 0) → List ℕ → Type 0
 Leaves Promise out = (b : WrittenAnswer) (out′ : List ℕ) → Promise b out′ → out′ ≡ out
 

@@ -1,4 +1,4 @@
--- Openings and replies on lent memory, one after the other: what they leave and answer is what the desk's calls in their order do.
+-- Openings and replies on lent memory, one after the other: they leave and answer what the desk's calls do in the same order.
 use Prim.Native.Nat.{ℕ, _≤_}
 use mathlib.Core.Bool.{false}
 use mathlib.Core.List.{List, [], _∷_}
@@ -17,7 +17,7 @@ use Rattle.desk.specs.Mix.{Event, toOpen, toReply, happens, run, openings, Stre
 use Rattle.rei2.specs.declared.lent.DeskAnswer.{DeskAnswer}
 use Rattle.rei2.specs.Lent.{answerOf, ResetLent, OpenLent, ReplyLent}
 
--- each call is given state and lent memory as the last one left them: the events, the answers, and the memory after the last
+-- each call is given the state and lent memory that the last one left: the events, the answers, and the memory after the last call
 pub data Chain : Memory → List Event → List DeskAnswer → Memory → Type 0 where
   none : {m : Memory} → Chain m [] [] m
   opened : {seats seats′ : List Seat} {desk : Desk} {cells marks frame : List ℕ} {r : DeskAnswer} {es : List Event} {rs : List DeskAnswer} {m : Memory}
@@ -39,18 +39,18 @@ ChainsRun = (m m′ : Memory) (es : List Event) (rs : List DeskAnswer) → Chain
 
 -- ---- mixed replies, over the lent calls
 
--- replies on m that leave m′: they are the desk's, and the request with key k at seat s is sorted as the rule says
+-- replies on m that leave m′: they do what the desk's calls do, and the request with key k at seat s is sorted as the rule says
 pub record SortedLent (m m′ : Memory) (es : List Event) (rs : List DeskAnswer) (s : ℕ) (k : Key) : Type 0 where
   pub leaves : m′ ≡ run m es
   pub answers : rs ≡ answersOf m es
   pub sorted : Sorted m es s k [] false false
 
--- a reset, openings, and then replies, strays and damaged frames with cells enough: each request that was opened, at the seat that its call answered with
+-- a reset, openings, then replies, strays and damaged frames with cells enough: each opened request is sorted, at the seat that its opening returned
 abbrev pub SortsLentCalls : Type 0
 SortsLentCalls =
     (seats : List Seat) (desk : Desk) (cells marks : List ℕ) (emptied : DeskAnswer) (seats₀ : List Seat)
     → ResetLent seats desk emptied seats₀ → emptied .refusal ≡ 0
-    -- openings, then the one of the request r, then other openings
+    -- openings, then the opening of the request r, then other openings
     → (before after : List Frame) (rs₁ rs₂ : List DeskAnswer) (desk₁ : Desk) (seats₁ : List Seat) (cells₁ marks₁ : List ℕ)
     → Chain (memory (emptied .desk) seats₀ cells marks) (openings before) rs₁ (memory desk₁ seats₁ cells₁ marks₁)
     → (f : Frame) (r : StaticRequest) (answer : DeskAnswer) (seats₂ : List Seat)

@@ -1,4 +1,4 @@
--- Reading and writing frames, in numbers.
+-- The answers of reading and writing frames, in numbers.
 use Prim.Native.Nat.{ℕ}
 use mathlib.Core.List.{List}
 use mathlib.Core.Path.{_≡_}
@@ -30,7 +30,7 @@ dynamicAnswer t = record { refusal = numberIn t; offset = offsetIn t; request = 
 
 -- ---- writing
 
--- the bytes that a frame took: its size, or none
+-- how many bytes were written: the frame's size, or 0 if it was refused
 abbrev pub sizeIn : ℕ → Told (Unit {0}) → ℕ
 sizeIn size (gives done) = size
 sizeIn size (refuses f) = 0

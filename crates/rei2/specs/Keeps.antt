@@ -1,4 +1,4 @@
--- A call that is turned away changes nothing: the state comes back as it was given, and so does every seat, cell, mark and byte that is lent to be written.
+-- A refused call changes nothing: the state is returned as it was given, and every seat, cell, mark and byte that is lent to be written stays as it was.
 use Prim.Native.Nat.{ℕ}
 use mathlib.Core.List.{List}
 use mathlib.Core.Path.{_≡_}
@@ -16,7 +16,7 @@ use Rattle.rei2.specs.Reply.{WroteReplyLent}
 use Rattle.rei2.specs.Calls.{ListLent}
 use Rattle.rei2.specs.Names.{NamedLent}
 
--- the number of an answer is a refusal's
+-- an answer's number is that of a refusal
 abbrev pub Refusing : ℕ → Type 0
 Refusing number = number ≡ 0 → ⊥
 
@@ -47,7 +47,7 @@ pub record RefusedKeeps : Type 1 where
   pub opening : (seats : List Seat) (desk : Desk) (cells marks frame : List ℕ) → OpenKeeps seats desk cells marks frame
   pub reply : (seats : List Seat) (desk : Desk) (cells marks frame : List ℕ) → ReplyKeeps seats desk cells marks frame
   pub capture : (seats : List Seat) (desk : Desk) (cells marks capture : List ℕ) → CaptureKeeps seats desk cells marks capture
-  -- request and dynamic request
+  -- of a request, and of a dynamic request
   pub writing : {R : Type 0} (k : Kind R) (r : R) → WriteKeeps (WroteLent k r)
   pub writing-reply : (c : ReplyRecord) → WriteKeeps (WroteReplyLent c)
   pub naming : (name : List ℕ) → WriteKeeps (NamedLent name)

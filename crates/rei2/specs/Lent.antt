@@ -1,5 +1,5 @@
--- The desk's calls on a row that is lent, of whatever length. What they do is what the calls by value do: a row that is not of
--- sixteen seats makes no desk.
+-- The desk's calls on a row that is lent, of any length. They do what the calls by value do. A row that does not have sixteen
+-- seats is not a desk.
 use Prim.Native.Nat.{ℕ}
 use mathlib.Core.List.{List}
 use mathlib.Core.Path.{_≡_}
@@ -22,7 +22,7 @@ stateIn m = record { bits = m .bits; count = m .count }
 abbrev pub deskAnswer : Desk → Told ℕ → DeskAnswer
 deskAnswer d t = record { desk = d; refusal = numberIn t; offset = offsetIn t; seat = valueIn 0 t }
 
--- what an outcome says, with the state that it leaves
+-- an outcome in numbers, with the state that it leaves
 abbrev pub answerOf : Outcome → DeskAnswer
 answerOf o = deskAnswer (stateIn (o .after)) (o .answer)
 
@@ -35,7 +35,7 @@ captureAnswer d t = record { desk = d; refusal = numberIn t; counts = valueIn no
 abbrev pub capturedOf : Captured → CapturedAnswer
 capturedOf o = captureAnswer (stateIn (o .after)) (o .answer)
 
--- ---- what is promised: the answer, and everything that is lent, is as after the call by value
+-- ---- what is promised: the answer, and everything that is lent, are as after the call by value
 
 pub record Lent {A : Type 0} (says : A) (after : Memory) (r : A) (seats′ : List Seat) (cells′ marks′ : List ℕ) : Type 0 where
   pub answer : r ≡ says
@@ -47,12 +47,12 @@ abbrev pub LentCall : Outcome → DeskAnswer → List Seat → List ℕ → List
 LentCall o = Lent (answerOf o) (o .after)
 
 module _ (seats : List Seat) (desk : Desk) where
-  -- cells and marks are not lent to a reset: whatever they are, they stay
+  -- cells and marks are not lent to a reset: whatever they hold stays
   abbrev pub ResetLent : DeskAnswer → List Seat → Type 0
   ResetLent r seats′ = (cells marks : List ℕ) → LentCall (resets (memory desk seats cells marks)) r seats′ cells marks
 
   module _ (cells marks : List ℕ) where
-    -- cells and marks are lent to be read
+    -- cells and marks are lent only to be read
     abbrev pub OpenLent : List ℕ → DeskAnswer → List Seat → Type 0
     OpenLent frame r seats′ = LentCall (opens (memory desk seats cells marks) frame) r seats′ cells marks
 

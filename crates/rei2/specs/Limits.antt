@@ -1,4 +1,4 @@
--- What a host must lend, by the limits of desk and list.
+-- What a host must lend, by the limits of the desk and of the list.
 use Rattle.desk.specs.Limits.{seatCount, mostCells, cellSize, storeSize}
 use Rattle.listing.specs.Listing.{mostInput}
 use Rattle.listing.specs.Sizes.{longestList}

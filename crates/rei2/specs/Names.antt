@@ -11,7 +11,7 @@ use Rattle.frames.specs.Kind.{outputAfter}
 use Rattle.rei2.specs.declared.request.WrittenAnswer.{WrittenAnswer}
 use Rattle.rei2.specs.Frames.{writtenAnswer}
 
--- by number, from 0 on
+-- by number, from 0 on; 0 is no refusal
 unfoldable pub names : List (List ℕ)
 names =
     codes "DONE"
@@ -33,7 +33,7 @@ names =
     ∷ codes "FULL"
     ∷ []
 
--- any other number is unknown
+-- any other number has the name UNKNOWN
 unfoldable pub nameOf : ℕ → List ℕ
 nameOf n = getD names n (codes "UNKNOWN")
 
@@ -58,18 +58,18 @@ pub record NamesTell : Type 0 where
   pub full : nameOf (FULL .number) ≡ codes "FULL"
   pub others : (n : ℕ) → 17 ≤ n → nameOf n ≡ codes "UNKNOWN"
 
--- ---- a name on an output, with a zero byte after it
+-- ---- a name on an output, followed by a zero byte
 
--- it is refused where the two do not fit
+-- it is refused if name and zero byte do not fit
 abbrev pub nameTried : List ℕ → List ℕ → Told (Unit {0})
 nameTried name out = tried (ltb (length name) (length out)) ROOM (gives tt)
 
--- what is promised of writing a name to out: the answer, with the size of the name alone, and every byte of the output
+-- what is promised of writing a name to out: the answer, whose size is that of the name without the zero byte, and every byte of the output
 pub record NamedLent (name out : List ℕ) (answer : WrittenAnswer) (out′ : List ℕ) : Type 0 where
   pub told : answer ≡ writtenAnswer (length name) (nameTried name out)
   pub bytes : out′ ≡ outputAfter (nameTried name out) (name ++ (0 ∷ [])) (suc (length name)) out
 
--- ---- room for every name
+-- ---- room for every name, with its zero byte
 
 abbrev pub nameSize : ℕ
 nameSize = 14

@@ -1,4 +1,4 @@
--- What an answer says on paper, in numbers: 0 where the call was done, otherwise the refusal's number with its offset.
+-- An answer on paper, in numbers: 0 if the call was done, otherwise the number of the refusal with its offset.
 use Prim.Native.Nat.{ℕ}
 use Rattle.digits.specs.declared.refusal.Refusal.{Refusal}
 use Rattle.digits.specs.Refusals.{plain}
@@ -15,7 +15,7 @@ module _ {A : Type 0} where
   abbrev pub offsetIn : Told A → ℕ
   offsetIn t = refusalIn t .offset
 
-  -- what is given, or the zero that stands beside a refusal
+  -- what is given, or the zero that comes with a refusal
   abbrev pub valueIn : A → Told A → A
   valueIn zero (gives a) = a
   valueIn zero (refuses f) = zero

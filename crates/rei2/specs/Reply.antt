@@ -1,4 +1,4 @@
--- The reply's record as C has it: a timing is a code and numbers.
+-- The reply's record in C: its timing is a code and numbers.
 use Prim.Native.Nat.{ℕ}
 use mathlib.Core.Bool.{Bool, false, cond, not, _&&_}
 use mathlib.Core.List.{List}
@@ -19,7 +19,7 @@ use Rattle.rei2.specs.declared.request.WrittenAnswer.{WrittenAnswer}
 use Rattle.rei2.specs.Numbers.{numberIn, offsetIn}
 use Rattle.rei2.specs.Frames.{writtenAnswer}
 
--- ---- a timing in numbers: the code of its kind, and 0 for what the kind does not use
+-- ---- a timing in numbers: the code of its kind, and 0 for each number that the kind does not use
 
 abbrev pub RAW : ℕ
 RAW = 0
@@ -35,9 +35,9 @@ numbersOf (Clock ticks day month year) = record { kind = CLOCK; ticks = ticks; d
 numbersOf (Net value) = record { kind = NET; ticks = 0; day = 0; month = 0; year = 0; net = value }
 numbersOf Raw = record { kind = RAW; ticks = 0; day = 0; month = 0; year = 0; net = pos 0 }
 
--- ---- and back, by the code alone
+-- ---- and back: the code says which timing it is
 
--- a time that is none: every kind turns it away, with RECORD at the time's offset
+-- a timing for a code that is none of these: every kind refuses it, with RECORD at the time's offset
 abbrev pub noTime : Timing
 noTime = Clock 4294967295 0 0 0
 
@@ -47,7 +47,7 @@ timingOf n =
     (cond (eqb (n .kind) CLOCK) (Clock (n .ticks) (n .day) (n .month) (n .year))
     (cond (eqb (n .kind) NET) (Net (n .net)) noTime))
 
--- ---- the numbers that the code's timing does not use
+-- ---- the numbers that a timing does not use
 
 abbrev pub isNothing : ℤ → Bool
 isNothing (pos n) = eqb n 0
@@ -56,7 +56,7 @@ isNothing (negsuc n) = false
 abbrev pub noDate : TimingNumbers → Bool
 noDate n = eqb (n .ticks) 0 && eqb (n .day) 0 && eqb (n .month) 0 && eqb (n .year) 0
 
--- one of them is not 0: a clock has no net value, a net one no date, a raw one neither
+-- a number that is not used is not 0: a clock timing has no net value, a net timing no ticks and no date, a raw one neither
 unfoldable pub leftOver : TimingNumbers → Bool
 leftOver n = not (cond (eqb (n .kind) CLOCK) (isNothing (n .net)) (cond (eqb (n .kind) NET) (noDate n) (isNothing (n .net) && noDate n)))
 
@@ -72,21 +72,21 @@ recordOf r =
 
 -- ---- reading
 
--- beside a refusal stands the record of zeros
+-- with a refusal comes the record of zeros
 abbrev pub replyAnswer : Told StaticReply → ReplyAnswer
 replyAnswer t = record { refusal = numberIn t; offset = offsetIn t; reply = shown (orZero t) }
 
 -- ---- writing
 
--- where a number left over is told: at the CR
+-- the offset at which a number left over is reported: that of the CR
 abbrev pub leftAt : ℕ
 leftAt = 50
 
--- the record's own first wrong part, and where there is none a number left over; 0 where it is well formed
+-- the offset of the record's own first wrong part; if there is none, that of a number left over; 0 if the record is well formed
 unfoldable pub wrongInC : ReplyRecord → ℕ
 wrongInC c = cond (eqb (wrongIn reply (recordOf c)) 0) (cond (leftOver (c .timing)) leftAt 0) (wrongIn reply (recordOf c))
 
--- what is told of writing it to out
+-- the answer of writing it to out
 abbrev pub triedInC : ReplyRecord → List ℕ → Told (Unit {0})
 triedInC c out = writeTried (wrongInC c) (reply .size) (length out)
 
@@ -95,11 +95,11 @@ pub record WroteReplyLent (c : ReplyRecord) (out : List ℕ) (answer : WrittenAn
   pub told : answer ≡ writtenAnswer (reply .size) (triedInC c out)
   pub bytes : out′ ≡ outputAfter (triedInC c out) (frameOf reply (recordOf c)) (reply .size) out
 
--- ---- nothing is lost between the two
+-- ---- nothing is lost between the record and its form in C
 
 pub record RecordsMatch : Type 0 where
   pub there-and-back : (r : StaticReply) → recordOf (shown r) ≡ r
-  -- nothing is left over in what a record shows
+  -- what a record shows has no number left over
   pub same-wrong : (r : StaticReply) → wrongInC (shown r) ≡ wrongIn reply r
   -- a well formed record of C is what a record shows
   pub back-and-there : (c : ReplyRecord) → wrongInC c ≡ 0 → shown (recordOf c) ≡ c

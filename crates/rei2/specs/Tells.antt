@@ -1,4 +1,4 @@
--- What is demanded of the numbers: 0 exactly if the call was done, otherwise one of the table, with an offset just at 5 and 6; and no two answers have the same numbers.
+-- What is demanded of the numbers: 0 exactly if the call was done, otherwise one of the table, with an offset just for 5 and 6; no two answers have the same numbers.
 use Prim.Native.Nat.{ℕ}
 use mathlib.Core.List.{List}
 use mathlib.Core.Path.{_≡_}
@@ -28,5 +28,5 @@ pub record NumbersTell : Type 1 where
   pub capture : (m : Memory) (s : List ℕ) → Sure (captures m s .answer)
   pub naming : (name out : List ℕ) → Sure (nameTried name out)
   pub listing : (cells marks s out : List ℕ) → Sure (listed cells marks s out)
-  -- so number, offset and value tell an answer
+  -- so number, offset and value together determine an answer
   pub told : {A : Type 0} (zero : A) (t t′ : Told A) → Sure t → Sure t′ → numberIn t ≡ numberIn t′ → offsetIn t ≡ offsetIn t′ → valueIn zero t ≡ valueIn zero t′ → t ≡ t′

@@ -1,4 +1,4 @@
--- No second outcome meets the promise of a call on lent memory: its answer and all that it leaves are fixed. The other promises are equations.
+-- Only one outcome meets the promise of a call on lent memory: its answer and everything that it leaves. The other promises are equations.
 use Prim.Native.Nat.{ℕ}
 use mathlib.Core.List.{List}
 use Rattle.digits.specs.Once.{Once}

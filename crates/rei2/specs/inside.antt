@@ -1,3 +1,3 @@
--- What the private steps of the code compute. Nothing here is needed to read a promise of a call.
+-- What the private steps of the code compute. No promise of a call needs it.
 pub mod Core
 pub mod Left

@@ -12,7 +12,7 @@ ghost use Rattle.frames.specs.Kind.{read};
 ghost use Rattle.frames.specs.Dynamic.{dynamic};
 ghost use Rattle.rei2.specs.Frames.{dynamicAnswer, zeroDynamic, WroteLent};
 
-// The record is all zero where the frame was refused.
+// The record is all zero if the frame was refused.
 #[repr(C)]
 pub struct DynamicAnswer {
     pub refusal: u32,
@@ -25,7 +25,7 @@ pub extern "C" fn rei2_read_dynamic(frame: &[u8]) -> DynamicAnswer
     ensures { λ r. ⌜ r ≡ dynamicAnswer (read dynamic (now (frame .entry))) ⌝ }
 {
     match read_dynamic(frame) {
-        // Part by part, as in the static request.
+        // Copied part by part, as in the static request.
         DynamicRead::Request(r) => DynamicAnswer {
             refusal: 0,
             offset: 0,

@@ -7,8 +7,8 @@ ghost use lib.ListN.{length};
 ghost use Rattle.finder.specs.Pieces.{foundFrom};
 ghost use Rattle.rei2.specs.Calls.{frameAnswer};
 
-// 1 a whole frame, 2 a cut one, 0 none. The frame is the bytes from start up to end, 0 and 0 where there is none. The next call starts at next,
-// which is the length of the capture where nothing is left.
+// `kind` is 1 for a whole frame, 2 for a cut one, 0 for none. The frame is the bytes from start up to end; both are 0 if there is none.
+// The next call starts at `next`, which is the length of the capture if nothing is left.
 #[repr(C)]
 pub struct FrameAnswer {
     pub kind: u32,

@@ -1,4 +1,4 @@
-// What a desk holds: seats in use, room, and the cells of a seat.
+// What a desk holds: seats in use, capacity, and the cells of a seat.
 use desk::held::Held;
 use desk::held::next_held;
 use desk::state::Desk;
@@ -9,7 +9,7 @@ ghost use Rattle.desk.specs.Memory.{capacityOf};
 ghost use Rattle.desk.specs.Calls.{seatsInUse, nextHeld};
 ghost use Rattle.rei2.specs.Calls.{cellAnswer};
 
-// 1 with the cell, or 0 with 0.
+// 1 and the cell, or 0 and 0 if there is none.
 #[repr(C)]
 pub struct CellAnswer {
     pub found: u32,

@@ -1,4 +1,4 @@
-// The desk's calls on a row that a host lends: the row is loaded, the call by value made, and the row stored back.
+// The desk's calls on a row that a host lends: the row is loaded, the call by value is made, and the row is stored back.
 use desk::capture::CaptureAnswer;
 use desk::capture::Counts;
 use desk::capture::take_capture;
@@ -23,7 +23,7 @@ ghost use Rattle.desk.specs.Capture.{captureTold};
 ghost use Rattle.rei2.specs.Lent.{deskAnswer, captureAnswer, ResetLent, OpenLent, ReplyLent, CaptureLent};
 ghost use Rattle.rei2.specs.inside.Core.{CoreReset, CoreOpen, CoreReply, CoreCapture};
 
-// The state after the call; the refusal by its number, 0 where the call was done, and its offset; the seat, 0 where it was refused.
+// The state after the call; the refusal by its number, 0 if the call was done, and its offset; the seat, 0 if the call was refused.
 #[repr(C)]
 pub struct DeskAnswer {
     pub desk: Desk,
@@ -32,7 +32,7 @@ pub struct DeskAnswer {
     pub seat: u32,
 }
 
-// The state after the call, the refusal, and what became of the frames of the capture, all 0 where it was refused.
+// The state after the call, the refusal, and what became of the frames of the capture: all counts are 0 if the call was refused.
 #[repr(C)]
 pub struct CapturedAnswer {
     pub desk: Desk,
@@ -40,7 +40,7 @@ pub struct CapturedAnswer {
     pub counts: Counts,
 }
 
-// What a call by value makes: the row to store, and the answer.
+// What a call by value returns: the row to store, and the answer.
 pub(crate) struct Out {
     pub row: [Seat; SEATS],
     pub answer: DeskAnswer,
@@ -51,7 +51,7 @@ pub(crate) struct Captured {
     pub answer: CapturedAnswer,
 }
 
-// ---- the row, in and out
+// ---- loading and storing the row
 
 pub(crate) fn load(s: &[Seat]) -> [Seat; SEATS]
     requires { ⌜ length (now s) ≡ seatCount ⌝ }
@@ -79,7 +79,7 @@ pub(crate) fn store(s: &mut [Seat], row: [Seat; SEATS])
 
 // ---- answers in numbers
 
-// Where the row is not of SEATS seats.
+// The answer if the row does not have SEATS seats.
 pub(crate) fn no_desk(desk: Desk) -> DeskAnswer
     ensures { λ r. ⌜ r ≡ deskAnswer desk (refuses DESK) ⌝ }
 {

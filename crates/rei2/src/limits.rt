@@ -8,8 +8,8 @@ use listing::MOST_INPUT;
 ghost use mathlib.Core.Path.{_≡_};
 ghost use Rattle.rei2.specs.Limits.{limits};
 
-// The seats of a row; the bytes of cells and the marks that the largest desk uses, more are left alone; the bytes of a cell; the longest capture
-// that is listed; and an output that every list fits.
+// The seats of a row; the bytes of cells and the marks that the largest desk uses (any more are left alone); the bytes of a cell; the length of
+// the longest capture that is listed; and the length of an output that has room for every list.
 #[repr(C)]
 pub struct LimitsAnswer {
     pub seats: usize,

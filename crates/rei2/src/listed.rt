@@ -4,7 +4,7 @@ use listing::ListAnswer;
 use listing::list;
 ghost use Rattle.rei2.specs.Calls.{ListLent};
 
-// The size of the list, 0 where it was not written.
+// The size of the list, 0 if it was not written.
 #[repr(C)]
 pub struct ListedAnswer {
     pub refusal: u32,

@@ -5,7 +5,7 @@ use digits::put_bytes;
 use digits::refusal as table;
 ghost use Rattle.rei2.specs.Names.{nameOf, NamedLent};
 
-// An output of so many bytes has room for every name and the zero byte after it.
+// An output of so many bytes has room for every name with the zero byte after it.
 pub const NAME_SIZE: usize = 14;
 
 #[no_mangle]
@@ -34,7 +34,7 @@ pub extern "C" fn rei2_refusal_name(refusal: u32, out: &mut [u8]) -> WrittenAnsw
     }
 }
 
-// The name and a zero byte.
+// Puts the name and a zero byte.
 fn put_name(out: &mut [u8], name: &[u8]) -> WrittenAnswer
     ensures { λ r. ⌜ NamedLent (now (name .entry)) (now (out .entry)) r (now (out .exit)) ⌝ }
 {

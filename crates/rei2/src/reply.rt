@@ -24,10 +24,10 @@ const CLOCK: u32 = 1;
 
 const NET: u32 = 2;
 
-// Where a number left over is told: at the CR.
+// The offset at which a number left over is reported: that of the CR.
 const LEFT_AT: u32 = field::END as u32;
 
-// A timing in numbers: its code; ticks, day, month and year of a clock; the value of a net one in ticks. What a kind does not use is 0.
+// A timing in numbers: its code; ticks, day, month and year of a clock; the ticks of a net value. What a kind does not use is 0.
 #[repr(C)]
 pub struct TimingNumbers {
     pub kind: u32,
@@ -47,7 +47,7 @@ pub struct ReplyRecord {
     pub spare: [u8; 2],
 }
 
-// The record is all zero where the frame was refused.
+// The record is all zero if the frame was refused.
 #[repr(C)]
 pub struct ReplyAnswer {
     pub refusal: u32,
@@ -90,7 +90,7 @@ pub extern "C" fn rei2_write_reply(record: ReplyRecord, out: &mut [u8]) -> Writt
     or_left(left, written(answer, REPLY_SIZE))
 }
 
-// With a number left over nothing is to be written: the record is given no room, and ROOM then says that nothing else is wrong in it.
+// A record with a number left over must not be written. It is tried without room: ROOM then means that nothing else is wrong in it.
 fn room_in(left: bool, size: usize) -> usize
     ensures { λ r. ⌜ r ≡ roomIn left size ⌝ }
 {
@@ -113,7 +113,7 @@ fn or_left(left: bool, answer: WrittenAnswer) -> WrittenAnswer
     answer
 }
 
-// What stands beside a refusal. The reader has it too, but a copy would wait for what it stored.
+// The record that comes with a refusal. It is made here, since a copy of the reader's record would have to wait until that is stored.
 fn no_reply() -> ReplyRecord
     ensures { λ r. ⌜ r ≡ shown zeroReply ⌝ }
 {
@@ -145,7 +145,7 @@ fn no_reply() -> ReplyRecord
     }
 }
 
-// ---- the timing, in numbers and back
+// ---- the timing in numbers, and back
 
 fn numbers_of(timing: Timing) -> TimingNumbers
     ensures { λ r. ⌜ r ≡ numbersOf timing ⌝ }
@@ -183,7 +183,7 @@ fn numbers_of(timing: Timing) -> TimingNumbers
     }
 }
 
-// A code that is none becomes a time that is none, which every kind turns away at the time's offset.
+// A code that is none of the three becomes a time that is none. Every kind refuses it, at the time's offset.
 fn timing_of(n: TimingNumbers) -> Timing
     ensures { λ r. ⌜ r ≡ timingOf n ⌝ }
 {
@@ -209,7 +209,7 @@ fn timing_of(n: TimingNumbers) -> Timing
     }
 }
 
-// A number that the code's timing does not use is not 0.
+// Whether a number that the timing does not use is not 0.
 fn left_over(n: TimingNumbers) -> bool
     ensures { λ r. ⌜ r ≡ leftOver n ⌝ }
 {
@@ -236,7 +236,7 @@ fn no_date(n: TimingNumbers) -> bool
     (n.ticks == 0) & (n.day == 0) & (n.month == 0) & (n.year == 0)
 }
 
-// ---- the record, as C has it and back
+// ---- the record in its form for C, and back
 
 fn shown(r: StaticReply) -> ReplyRecord
     ensures { λ a. ⌜ a ≡ shown r ⌝ }

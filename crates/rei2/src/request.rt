@@ -13,7 +13,7 @@ ghost use Rattle.frames.specs.Request.{request};
 ghost use Rattle.frames.specs.Refusals.{writeTold};
 ghost use Rattle.rei2.specs.Frames.{requestAnswer, zeroRequest, writtenAnswer, WroteLent};
 
-// The record is all zero where the frame was refused.
+// The record is all zero if the frame was refused.
 #[repr(C)]
 pub struct RequestAnswer {
     pub refusal: u32,
@@ -21,7 +21,7 @@ pub struct RequestAnswer {
     pub request: StaticRequest,
 }
 
-// The size of the frame, 0 where it was not written.
+// The size of the frame, 0 if it was not written.
 #[repr(C)]
 pub struct WrittenAnswer {
     pub refusal: u32,
@@ -34,7 +34,7 @@ pub extern "C" fn rei2_read_request(frame: &[u8]) -> RequestAnswer
     ensures { λ r. ⌜ r ≡ requestAnswer (read request (now (frame .entry))) ⌝ }
 {
     match read_request(frame) {
-        // Part by part: a copy as a whole would wait for what was stored in other pieces.
+        // Copied part by part: a copy of the whole record would have to wait until its parts are stored.
         RequestRead::Request(r) => RequestAnswer {
             refusal: 0,
             offset: 0,

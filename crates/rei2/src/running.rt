@@ -7,7 +7,7 @@ ghost use mathlib.Core.Path.{_≡_};
 ghost use Rattle.times.specs.Running.{runningTime};
 ghost use Rattle.rei2.specs.Calls.{runningAnswer};
 
-// The ticks are 0 where the running time was refused.
+// The ticks are 0 if the running time was refused.
 #[repr(C)]
 pub struct RunningAnswer {
     pub refusal: u32,

@@ -25,7 +25,7 @@ use spelling::line;
 use spelling::print;
 use spelling::told::print_told;
 
-// An opening is lent cells and marks to read alone: only state and seats can differ afterwards. So it is with a reset.
+// Cells and marks are lent to an opening only to be read: only state and seats can differ. So it is with a reset.
 pub fn opening(script: Script, s: &[u8], cells: &[u8], marks: &[u32]) -> Script {
     let mut frame = [0u8; 100];
     let n = line::bytes(s, 1, &mut frame);

@@ -1,4 +1,4 @@
-// Answers of the desk by the numbers of the table of refusals.
+// Answers of the desk, by the numbers of the table of refusals.
 use desk::opening::OpenAnswer;
 use desk::opening::of_opening;
 use desk::reply::ReplyAnswer;
@@ -6,7 +6,7 @@ use desk::reply::of_reply;
 use digits::refusal::Refusal;
 use spelling::told::done;
 
-// A refusal, or done, and the seat that the call answers with; 0 where there is none.
+// A refusal, or done; and the seat that the call returns, 0 if there is none.
 pub struct Said {
     pub told: Refusal,
     pub seat: u32,

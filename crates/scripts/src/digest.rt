@@ -1,4 +1,4 @@
-// A number over many numbers, taken in one after the other.
+// A checksum over many numbers, which are taken in one after the other.
 use crate::desk_told::Said;
 use crate::memory::mark_at;
 use desk::limits::SEATS;
@@ -7,7 +7,7 @@ use digits::byte_at;
 
 pub const START: u64 = 1;
 
-// The number is below 4294967291 all along, and whatever is taken in below 4294967296: the first two remainders change nothing.
+// The digest is always below 4294967291, and each number taken in below 4294967296: the first two remainders change nothing.
 pub fn take(digest: u64, x: u64) -> u64 {
     (digest % 4_294_967_291 * 1_000_003 + x % 4_294_967_296) % 4_294_967_291
 }

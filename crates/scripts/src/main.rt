@@ -1,4 +1,4 @@
-// Reads scripts of a desk from standard input, a line each, and prints the answer to each: docs/CASES.md has both texts.
+// Reads scripts of a desk from standard input, a line each, and prints the answer to each. docs/CASES.md describes both.
 mod desk_asked;
 mod desk_told;
 mod digest;
@@ -29,7 +29,7 @@ fn main() {
     }
 }
 
-// Answers a line, and gives the desk as it is afterwards.
+// Answers a line, and returns the desk as it is afterwards.
 fn answer_line(script: Script, s: &[u8], cells: &mut [u8], marks: &mut [u32]) -> Script {
     if line::asks(s, b"lend") {
         return script::lending(s, cells, marks);
@@ -41,7 +41,7 @@ fn answer_line(script: Script, s: &[u8], cells: &mut [u8], marks: &mut [u32]) ->
     answer_within(script, s, cells, marks)
 }
 
-// The rest is answered on what is lent, and no more.
+// All other lines are answered on the memory that is lent, and no more.
 fn answer_within(script: Script, s: &[u8], cells: &mut [u8], marks: &mut [u32]) -> Script {
     let cell_bytes = script.cell_bytes;
     let mark_count = script.mark_count;

@@ -1,8 +1,8 @@
-// Lent memory of the scripts: filled, copied, and told apart from what it was.
+// The lent memory of the scripts: filled, copied, and compared with what it was before.
 use digits::byte_at;
 use digits::put_byte;
 
-// What a script can lend at most.
+// How much a script can lend at most.
 pub const MOST_BYTES: usize = 15_400;
 
 pub const MOST_MARKS: usize = 310;
@@ -12,12 +12,12 @@ pub const FRESH_BYTE: u8 = 238;
 
 pub const FRESH_MARK: u32 = 4_008_636_142;
 
-// The mark at a place; past the end 0.
+// The mark at a place; past the end it is 0.
 pub fn mark_at(marks: &[u32], at: usize) -> u32 {
     if at < marks.len() { marks[at] } else { 0 }
 }
 
-// Stores a mark at a place; past the end nothing.
+// Stores a mark at a place; past the end it stores nothing.
 pub fn put_mark(marks: &mut [u32], at: usize, m: u32) {
     if at < marks.len() {
         marks[at] = m;
@@ -48,13 +48,13 @@ pub fn copy_marks(out: &mut [u32], marks: &[u32]) {
     }
 }
 
-// Places from start up to end; none where end is 0.
+// The places from start up to end; no places if end is 0.
 pub struct Span {
     pub start: usize,
     pub end: usize,
 }
 
-// The places from the first that differs to the last.
+// The places from the first one that differs to the last one.
 pub fn changed_bytes(before: &[u8], after: &[u8]) -> Span {
     let mut span = Span { start: 0, end: 0 };
     let mut i = 0;
@@ -77,7 +77,7 @@ pub fn changed_marks(before: &[u32], after: &[u32]) -> Span {
     span
 }
 
-// With the place i too, where it differs; next is the place after it.
+// The span with place i in it too, if that differs; `next` is the place after i.
 fn stretched(span: Span, i: usize, next: usize, differs: bool) -> Span {
     if !differs {
         return span;

@@ -1,4 +1,4 @@
-// Every mix of two answers, played on a desk of its own.
+// Every mix of the replies to two requests, each mix on a desk of its own.
 use crate::desk_told::opening_said;
 use crate::desk_told::reply_said;
 use crate::digest;
@@ -26,16 +26,16 @@ const REQUEST_A: [u8; 24] = *b"\x11R 100700000P000000000S\r";
 
 const REQUEST_B: [u8; 24] = *b"\x11R A00700000P000000000S\r";
 
-// A reply of A; its status stands at 5, its requester at 6, its bib at 12.
+// A reply to request A. Its status is at 5, its requester at 6, its bib at 12.
 const REPLY: [u8; 51] = *b"\x12R SOR10000700040000002000000P000000000000000000  \r";
 
-// How many mixes were played, and the number over all of them.
+// How many mixes were played, and the digest of all of them.
 struct Played {
     mixes: u64,
     sum: u64,
 }
 
-// The desk of a mix, how many replies of A and of B it was given, and the number so far.
+// The desk of a mix, how many replies to A and to B it was given, and the digest so far.
 struct Mix {
     desk: Desk,
     row: [Seat; SEATS],
@@ -51,7 +51,7 @@ pub fn playing(s: &[u8]) {
     print::end_line();
 }
 
-// How many letters the k-th word has, four at most.
+// How many letters the k-th word has, at most four.
 fn letters(s: &[u8], k: usize) -> usize
     ensures { λ r. ⌜ r ≤ 4 ⌝ }
 {
@@ -68,7 +68,7 @@ fn letters(s: &[u8], k: usize) -> usize
     if n < 4 { n } else { 4 }
 }
 
-// The letter i of the k-th word; past its end 0.
+// Letter i of the k-th word; past its end it is 0.
 fn letter(s: &[u8], k: usize, i: usize) -> u8 {
     let w = line::nth_word(s, k);
     let at = w.at;
@@ -82,7 +82,8 @@ fn letter(s: &[u8], k: usize, i: usize) -> u8 {
     0
 }
 
-// Every mix of n letters, b of them B's. With eight letters at most their numbers are below 256.
+// Plays every mix of n letters of which b are B's. A mix is a number with a bit for each letter.
+// With at most eight letters it is below 256.
 fn play_all(s: &[u8], b: usize, n: usize) -> Played
     requires { ⌜ n ≤ 8 ⌝ }
 {
@@ -110,7 +111,7 @@ fn play_if(p: Played, s: &[u8], b: usize, n: usize, m: u32) -> Played
     p
 }
 
-// No bit above n, and as many ones as B has letters.
+// No bit from n on is set, and as many bits are set as B has letters.
 fn is_mix(m: u32, b: usize, n: usize) -> bool
     requires { ⌜ n ≤ 8 ⌝ }
 {
@@ -166,7 +167,7 @@ fn opened(x: Mix, frame: &[u8], cells: &[u8], marks: &[u32]) -> Mix {
     }
 }
 
-// The next reply of A, or of B.
+// Plays the next reply to A, or to B.
 fn play_reply(x: Mix, s: &[u8], of_b: bool, cells: &mut [u8], marks: &mut [u32]) -> Mix {
     let a = x.a % 8;
     let b = x.b % 8;
@@ -198,7 +199,7 @@ fn reply_with(status: u8, requester: u8, bib: u64) -> [u8; 51] {
     frame
 }
 
-// A stray, a damaged one, and the reply.
+// Plays a stray, a damaged frame, and the reply itself.
 fn play_three(x: Mix, frame: [u8; 51], cells: &mut [u8], marks: &mut [u32]) -> Mix {
     let mut stray = frame;
     put_byte(&mut stray, 6, 97);
@@ -224,7 +225,7 @@ fn replied(x: Mix, frame: &[u8], cells: &mut [u8], marks: &mut [u32]) -> Mix {
     }
 }
 
-// All that a mix leaves behind.
+// The digest with all that a mix leaves.
 fn take_mix(x: Mix, cells: &[u8], marks: &[u32]) -> u64 {
     let desk = x.desk;
     let row = x.row;

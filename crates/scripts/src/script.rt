@@ -1,4 +1,4 @@
-// The desk of the scripts, which lasts from line to line: what it is at first, and how a script sets its parts.
+// The desk of the scripts, which is kept from line to line: what it is at first, and how a script sets its parts.
 use crate::memory::FRESH_BYTE;
 use crate::memory::FRESH_MARK;
 use crate::memory::fill_bytes;
@@ -20,7 +20,7 @@ pub struct Script {
     pub mark_count: usize,
 }
 
-// With all zero but what is lent.
+// All zero, except for how much is lent.
 pub fn empty(cell_bytes: usize, mark_count: usize) -> Script {
     let zero = Seat {
         requester: 0,

@@ -6,7 +6,8 @@ use digits::put_byte;
 ghost use Prim.Native.Nat.{_≤_};
 ghost use lib.ListN.{length};
 
-// Fills the buffer with the next line, without its LF, and gives its length; 0 at the end of the input.
+// Fills the buffer with the next line, without its LF, and returns its length.
+// It is 0 for an empty line and at the end of the input.
 pub fn read_line(buffer: &mut [u8]) -> usize
     ensures { λ r. ⌜ r ≤ length (now (buffer .exit)) ⌝ }
 {
@@ -31,7 +32,7 @@ pub struct Word {
     pub end: usize,
 }
 
-// The k-th word, counted from 0; past the last one an empty one.
+// The k-th word, counted from 0; after the last word it is empty.
 pub fn nth_word(s: &[u8], k: usize) -> Word {
     let mut at = 0;
     let mut left = k;
@@ -76,7 +77,7 @@ pub fn is_word(s: &[u8], k: usize, name: &[u8]) -> bool {
     p == end
 }
 
-// The number that the k-th word spells, of up to 19 digits.
+// The number that the k-th word spells, with at most 19 digits.
 pub fn number(s: &[u8], k: usize) -> u64 {
     let w = nth_word(s, k);
     let at = w.at;
@@ -104,12 +105,12 @@ fn digits_of(s: &[u8], at: usize, width: usize) -> u64 {
     }
 }
 
-// The same for a number that fits 32 bits.
+// The same for a number that fits in 32 bits.
 pub fn small(s: &[u8], k: usize) -> u32 {
     (number(s, k) % 4_294_967_296) as u32
 }
 
-// Stores the bytes that the k-th word spells, and gives how many there are.
+// Stores the bytes that the k-th word spells, and returns how many there are.
 pub fn bytes(s: &[u8], k: usize, out: &mut [u8]) -> usize
     ensures { λ r. ⌜ r ≤ length (now (out .exit)) ⌝ }
 {
@@ -132,7 +133,7 @@ pub fn bytes(s: &[u8], k: usize, out: &mut [u8]) -> usize
     n
 }
 
-// A hex digit's value.
+// The value of a hex digit.
 fn half(b: u8) -> u8
     ensures { λ r. ⌜ r ≤ 15 ⌝ }
 {

@@ -34,7 +34,7 @@ pub fn also_bytes(s: &[u8]) {
     bytes(s);
 }
 
-// Two hex digits a byte, and a dash for no bytes.
+// Two hex digits for each byte, or a dash if there are no bytes.
 pub fn bytes(s: &[u8]) {
     if s.len() == 0 {
         text(b"-");

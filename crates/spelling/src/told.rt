@@ -1,4 +1,4 @@
-// Answers by the numbers of the table of refusals.
+// Answers, by the numbers of the table of refusals.
 use crate::print;
 use digits::refusal::Refusal;
 

@@ -1,4 +1,4 @@
--- A decimal is shown whole, and how many digits it has. Assumes nothing.
+-- A number in decimal is shown whole, and how many digits it has. Assumes nothing.
 use Prim.Native.Nat.{ℕ, zero, suc, _+_, _-_, _/_, _%_, _^_, _≤_, _<_}
 use mathlib.Core.List.{List, [], _∷_, append-nil}
 use mathlib.Core.Bool.{true}
@@ -16,7 +16,7 @@ use Rattle.digits.proofs.Laws.{value-of-digits}
 use Rattle.text.specs.Put.{placeAfter, Put}
 use Rattle.text.specs.Decimal.{widthWithin, width, decimal, DecimalIsWhole}
 
--- ---- one digit, or one more than without the last
+-- ---- a number has one digit, or one more than without its last
 
 pub one-digit : (k n : ℕ) → n < 10 → widthWithin k n ≡ 1
 unfolding widthWithin
@@ -61,7 +61,7 @@ within-holds (suc k) n l =
     let r = within-holds k (n / 10) (omega (arith, l, pow-suc 10 (suc k))) in
     rw e (omega (arith, r, pow-suc 10 (widthWithin k (n / 10)))))
 
--- no digit is spare
+-- no digit is too many
 within-least : (k n v : ℕ) → 1 ≤ n → widthWithin k n ≡ suc v → 10 ^ v ≤ n
 unfolding widthWithin
 within-least k n zero h e = omega (arith, h, pow-zero 10)
@@ -87,7 +87,7 @@ pub decimal-length : (n : ℕ) → length (decimal n) ≡ width n
 unfolding decimal
 decimal-length n = length-digits (width n) n
 
--- ---- digits counted from the last to the first, as the loop does it: w with the last of m
+-- ---- digits counted from the last one to the first, as the loop does it: w of them, up to the last digit of m
 
 pub record Counted (n m w : ℕ) : Type 0 where
   pub most : w ≤ 20
@@ -117,7 +117,7 @@ counted-all n m w h c = let e = one-digit (20 - w) m (omega arith) in omega (ari
 
 -- ---- whole
 
--- a number whose first digit is 0 has a digit too many
+-- a number whose first digit is 0 has one digit too many
 first-zero : (w n : ℕ) → n < 10 ^ suc w → getD (digits (suc w) n) 0 0 ≡ 48 → n < 10 ^ w
 unfolding digits
 first-zero zero n l z = omega (arith, z)
@@ -151,7 +151,7 @@ decimal-is-whole n l =
       plain = plain-whole n (width n - 1) l (omega (arith, w .0));
     }
 
--- ---- as it is put
+-- ---- as the digits are put
 
 pub put-digits : (out : List ℕ) (at n w end : ℕ) (out′ : List ℕ) → w ≡ width n → end ≡ placeAfter at w → out′ ≡ sets out at (numberText w n) → Put out at (decimal n) end out′
 unfolding decimal

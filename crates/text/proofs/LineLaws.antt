@@ -23,7 +23,7 @@ digits-none (suc w) n =
     lines-both (digits w (n / 10)) ((48 + n % 10) ∷ [])
     ∙ rw (digits-none w (n / 10), ne-eqb (48 + n % 10) LF (λ q. omega arith))
 
--- a number ends no line
+-- a number in decimal has no LF
 pub decimal-none : (n : ℕ) → lines (decimal n) ≡ 0
 unfolding decimal
 decimal-none n = digits-none (width n) n

@@ -12,11 +12,11 @@ use Rattle.text.specs.Put.{mostPlace, placeAfter, Put}
 pub put-none : (out : List ℕ) (at : ℕ) → at ≤ mostPlace → Put out at [] at out
 put-none out at h = record { next = omega arith; bytes = refl }
 
--- a place past the end
+-- at a place past the end
 pub put-beyond : (out : List ℕ) (at : ℕ) (text : List ℕ) (end : ℕ) → length out ≤ at → end ≡ placeAfter at (length text) → Put out at text end out
 put-beyond out at text end h e = record { next = e; bytes = sym (sets-beyond out at text h) }
 
--- from the place after another text on
+-- a text stored at the place after another one
 after : (out : List ℕ) (at : ℕ) (a b : List ℕ) → length out ≤ mostPlace → sets (sets out at a) (placeAfter at (length a)) b ≡ sets out at (a ++ b)
 after out at a b l =
     by-less (at + length a) mostPlace
@@ -28,7 +28,7 @@ after out at a b l =
     sets-beyond (sets out at a) (placeAfter at (length a)) b (omega arith)
     ∙ sym (sets-append out at a b ∙ sets-beyond (sets out at a) (at + length a) b (omega arith)))
 
--- two texts put one after the other are both put as one
+-- two texts put one after the other are put as one
 pub put-then : (out : List ℕ) (at : ℕ) (a : List ℕ) (p : ℕ) (mid : List ℕ) (b : List ℕ) (q : ℕ) (out′ : List ℕ)
     → length out ≤ mostPlace → Put out at a p mid → Put mid p b q out′ → Put out at (a ++ b) q out′
 put-then out at a p mid b q out′ l x y = record {
@@ -36,13 +36,13 @@ put-then out at a p mid b q out′ l x y = record {
   bytes = y .bytes ∙ ap₂ (λ (m : List ℕ) (i : ℕ). sets m i b) (x .bytes) (x .next) ∙ after out at a b l;
 }
 
--- and a text, a byte and a text likewise
+-- the same for a text, a byte and a text
 pub put-parted : (out : List ℕ) (at : ℕ) (a : List ℕ) (p : ℕ) (mid : List ℕ) (b q : ℕ) (mid′ c : List ℕ) (r : ℕ) (out′ : List ℕ)
     → length out ≤ mostPlace → Put out at a p mid → Put mid p (b ∷ []) q mid′ → Put mid′ q c r out′ → Put out at (a ++ (b ∷ c)) r out′
 put-parted out at a p mid b q mid′ c r out′ l x y z =
     rw (← append-assoc a (b ∷ []) c) (put-then out at (a ++ (b ∷ [])) q mid′ c r out′ l (put-then out at a p mid (b ∷ []) q mid′ l x y) z)
 
--- a text as long as the output takes its place
+-- a text as long as the output replaces it
 pub put-whole : (out text : List ℕ) (end : ℕ) (out′ : List ℕ) → length text ≡ length out → Put out 0 text end out′ → out′ ≡ text
 put-whole out text end out′ l p =
     let h : 0 + length text ≤ length out = omega arith in

@@ -1,4 +1,4 @@
--- No second outcome meets the promise of a call that puts. Assumes nothing.
+-- Only one outcome meets the promise of a call that puts text. Assumes nothing.
 use Prim.Native.Nat.{ℕ}
 use mathlib.Core.List.{List, [], _∷_}
 use mathlib.Core.Path.{sym, _∙_}

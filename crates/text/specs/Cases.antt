@@ -1,4 +1,4 @@
--- Numbers, places and the bytes that end columns and lines, spelled.
+-- Worked cases: numbers in decimal, places, the bytes after a column and a line, and the lines of a text.
 use mathlib.Core.List.{[], _∷_}
 use mathlib.Core.Path.{_≡_}
 use Rattle.digits.specs.Text.{codes}

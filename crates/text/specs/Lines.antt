@@ -1,4 +1,4 @@
--- The bytes that end columns and lines, and how many lines a text has.
+-- The bytes that separate columns and end lines, and how many lines a text has.
 use Prim.Native.Nat.{ℕ, suc}
 use mathlib.Core.List.{List, [], _∷_}
 use mathlib.Core.Bool.{cond}

@@ -1,4 +1,4 @@
--- No second outcome meets the promise of a call that puts: the place after, and the output.
+-- Only one outcome meets the promise of a call that puts text. The outcome is the place after the text, and the output.
 use Prim.Native.Nat.{ℕ}
 use mathlib.Core.List.{List, [], _∷_}
 use Rattle.digits.specs.Once.{Once}

@@ -1,5 +1,5 @@
-// Bytes put one after the other on an output. A call takes the output, a place and what to put, and gives the place after it.
-// What has no room is dropped, so the same calls also measure.
+// Puts bytes one after the other on an output. A call takes output, place and what to put, and returns the place after it.
+// Bytes that have no room are dropped but still counted. So the same calls can measure a text.
 use digits::put_byte;
 use digits::put_bytes;
 use digits::put_number;
@@ -26,7 +26,7 @@ pub fn put_one(out: &mut [u8], at: usize, b: u8) -> usize
     place_after(at, 1)
 }
 
-// Without leading zeros.
+// In decimal, without leading zeros.
 pub fn put_decimal(out: &mut [u8], at: usize, n: u64) -> usize
     ensures { λ r. ⌜ Put (now (out .entry)) at (decimal n) r (now (out .exit)) ⌝ }
 {
@@ -48,7 +48,7 @@ pub fn width_of(n: u64) -> usize
     w
 }
 
-// The place n bytes on; the largest where that is past every place.
+// The place n bytes further on, or the largest number if that is past every place.
 pub fn place_after(at: usize, n: usize) -> usize
     ensures { λ r. ⌜ r ≡ placeAfter at n ⌝ }
 {

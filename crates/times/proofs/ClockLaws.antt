@@ -1,4 +1,4 @@
--- A time of day is a lawful form: each reads as one number of ticks, and each number of ticks of a day is written once. Assumes nothing.
+-- A time of day is a lawful form: each time reads as one number of ticks, and each number of ticks of a day is written in one way. Assumes nothing.
 use Prim.Native.Nat.{ℕ, _+_, _*_, _/_, _%_, _^_, _≤_, _<_}
 use mathlib.Core.List.{List, _++_}
 use mathlib.Core.Bool.{Bool, true, false, cond, _&&_, and-eq-true-iff}
@@ -19,7 +19,7 @@ use Rattle.digits.proofs.Forms.{number-lawful, number-back, renamed-lawful}
 use Rattle.times.specs.Clock.{aDay, lastTick, isTime, isHour, isSixtieth, hours, minutes, seconds, fraction, ticksOf, clockNumber, clock}
 use Rattle.times.specs.inside.Clock.{partOf, ticksFrom}
 
--- what the ticks of HHMMSSdddd say of it
+-- what follows for HHMMSSdddd if it has ticks
 record Time (n v : ℕ) : Type 0 where
   hour : hours n ≤ 23
   minute : minutes n ≤ 59
@@ -55,7 +55,7 @@ join-digits n = omega arith
 join-ticks : (v : ℕ) → ((v / 36000000 * 60 + v / 600000 % 60) * 60 + v / 10000 % 60) * 10000 + v % 10000 ≡ v
 join-ticks v = omega arith
 
--- ---- ticks lead back to the digits that gave them, and digits to the ticks that they show
+-- ---- the ticks of HHMMSSdddd lead back to it, and the ticks of a day, written as HHMMSSdddd, read back
 
 number-again : (n v : ℕ) → ticksOf n ≡ Is v → clockNumber v ≡ n
 unfolding clockNumber
@@ -97,7 +97,7 @@ clock-back v h = ap (named ticksOf) (number-back 10 (clockNumber v) (omega arith
 pub clock-inverse : Inverse clock isTime
 clock-inverse = record { lawful = clock-lawful; back = λ v e. let h = leb-true v lastTick e in clock-back v (omega arith) }
 
--- what is read as a time is one
+-- what is read as a time is less than a day
 pub time-below : (s : List ℕ) (p v : ℕ) → clock .got s p ≡ Is v → v < aDay
 time-below s p v e = go (number 10 .got s p) e
   where

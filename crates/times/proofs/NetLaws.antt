@@ -29,7 +29,7 @@ sum-of-parts (negsuc n) =
     let p = netParts (negsuc n) in
     sum-minus (p .days) (p .time) ∙ sub-neg (p .time) (p .days * aDay) n (omega arith)
 
--- ---- and parts are those of their sum, where a minus has a day at least
+-- ---- and the parts of a sum are those that were added, if a minus has at least one day
 
 abbrev parts : Bool → ℕ → ℕ → NetParts
 parts m d t = record { minus = m; days = d; time = t }

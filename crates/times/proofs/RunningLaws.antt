@@ -1,4 +1,4 @@
--- Running time as a difference of two natural numbers. Assumes nothing.
+-- Running time as the difference of two natural numbers. Assumes nothing.
 use mathlib.Core.Path.{_≡_, refl, sym, ap, _∙_}
 use mathlib.Core.Bool.{true, false}
 use Prim.Native.Nat.{ℕ, _+_, _*_}

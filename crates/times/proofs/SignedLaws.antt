@@ -51,7 +51,7 @@ module _ (a b : ℕ) (ha : a < 2 ^ 63) (hb : b < 2 ^ 63) where
       subst (λ (z : ℤ). SFits w64 z) (sym machine-sub)
       (record { sfits = omega (arith, mag-pick (ltb a b) (negsuc (b - suc a)) (pos (a - b)) 9223372036854775807 (omega arith) (omega arith)) })
 
--- ---- `apart`: a signed number's side of zero, and how far on it is
+-- ---- `apart`: whether a signed number is negative, and the rest
 
 not-below-zero : (n : ℕ) {X : Type 0} → ltb n 0 ≡ true → X
 not-below-zero n t = absurd (not-suc-le-zero (ltb-true n 0 t))
@@ -65,7 +65,7 @@ pos-rest (pos n) t = (tt, refl, refl)
 pos-rest (negsuc n) t = absurd (subst T t tt)
 
 module _ (v : ℤ) (s : SFits w64 v) where
-  -- what the machine holds of v is v
+  -- the machine's value of v is v
   pub held : toZ w64 (ofZ w64 v) ≡ v
   held = toZ-ofZ w64 v s
 

@@ -1,4 +1,4 @@
--- No second answer meets the promise of running time. Assumes nothing.
+-- Only one answer meets the promise of running time. Assumes nothing.
 use Prim.Native.Nat.{ℕ}
 use mathlib.Core.Path.{_≡_, refl, sym, _∙_}
 use native.Mathlib.Omega.{arith}

@@ -6,15 +6,15 @@ use Rattle.digits.specs.declared.Number.{Number}
 use Rattle.digits.specs.declared.Number.the-variants.{Is, Wrong}
 use Rattle.digits.specs.Form.{Form, number, renamed}
 
--- the ticks of a day
+-- how many ticks a day has
 abbrev pub aDay : ℕ
 aDay = 864000000
 
--- the last tick of a day, 235959.9999
+-- the last tick of a day: 23:59:59.9999
 abbrev pub lastTick : ℕ
 lastTick = aDay - 1
 
--- the parts of a number whose ten digits are HHMMSSdddd; dddd is 0000 to 9999 in each
+-- the parts of a number whose ten digits are HHMMSSdddd; any dddd, 0000 to 9999, is good
 abbrev pub hours : ℕ → ℕ
 hours n = n / 100000000
 
@@ -27,13 +27,14 @@ seconds n = n / 10000 % 100
 abbrev pub fraction : ℕ → ℕ
 fraction n = n % 10000
 
--- hours are 00 to 23, minutes and seconds 00 to 59
+-- hours are 00 to 23; minutes and seconds are 00 to 59
 abbrev pub isHour : ℕ → Bool
 isHour h = leb h 23
 
 abbrev pub isSixtieth : ℕ → Bool
 isSixtieth m = leb m 59
 
+-- the ticks of the time HHMMSSdddd, or Wrong if it is no time of day
 unfoldable pub ticksOf : ℕ → Number
 ticksOf n =
     cond (isHour (hours n) && isSixtieth (minutes n) && isSixtieth (seconds n))
@@ -44,10 +45,10 @@ ticksOf n =
 unfoldable pub clockNumber : ℕ → ℕ
 clockNumber v = ((v / 36000000 * 100 + v / 600000 % 60) * 100 + v / 10000 % 60) * 10000 + v % 10000
 
--- ten digits, read and written as ticks
+-- the form of a time: ten digits in the frame, ticks in the record
 abbrev pub clock : Form
 clock = renamed (number 10) ticksOf clockNumber
 
--- the ticks of a day
+-- a time of day in ticks: 0 to the last tick
 abbrev pub isTime : ℕ → Bool
 isTime v = leb v lastTick

@@ -1,4 +1,4 @@
--- Net times: signed days and a time of day as one signed value in ticks.
+-- Net times: signed days and a time of day, as one signed value in ticks.
 use Prim.Native.Nat.{ℕ, _+_, _-_, _/_, _%_}
 use mathlib.Core.Bool.{Bool, true, false, cond, not, _&&_}
 use mathlib.Core.Path.{_≡_}
@@ -10,33 +10,34 @@ use Rattle.times.specs.declared.net.NetValue.{NetValue}
 use Rattle.times.specs.declared.net.NetValue.the-variants.{Is, Wrong as no-value}
 use Rattle.times.specs.Clock.{aDay, lastTick}
 
--- n with a sign
+-- n, or -n if the flag is true
 abbrev pub signed : Bool → ℕ → ℤ
 signed true n = negℤ (pos n)
 signed false n = pos n
 
--- seven digits of days, a time of day, and no minus in front of no days
+-- a net time: days of at most seven digits, a time of day, and no minus with zero days
 unfoldable pub isNet : NetParts → Bool
 isNet p = leb (p .days) 9999999 && leb (p .time) lastTick && not (p .minus && eqb (p .days) 0)
 
--- signed days times a day, and the time: the minus covers the days alone
+-- the signed days in ticks plus the time: the minus covers only the days
 abbrev pub netSum : NetParts → ℤ
 netSum p = signed (p .minus) (p .days) *ℤ pos aDay +ℤ pos (p .time)
 
+-- the value of a net time; parts that are no net time have none
 unfoldable pub netValue : NetParts → NetValue
 netValue p = cond (isNet p) (Is (netSum p)) no-value
 
--- the parts whose sum a value is: whole days rounded down, and the time past them
+-- the parts that add up to a value: whole days, rounded down, and the time that is left
 abbrev pub netParts : ℤ → NetParts
 netParts (pos n) = record { minus = false; days = n / aDay; time = n % aDay }
 netParts (negsuc n) = record { minus = true; days = n / aDay + 1; time = lastTick - n % aDay }
 
--- both ways: parts that a net reply can show are those of their value, and a value whose parts can be shown is theirs
+-- both ways: taking apart the value of a net time returns its parts, and the parts of any number add up to that number
 pub record NetInverse : Type 0 where
   pub back : (p : NetParts) → isNet p ≡ true → netParts (netSum p) ≡ p
   pub again : (v : ℤ) → netSum (netParts v) ≡ v
 
--- a signed number as the code takes it apart
+-- a signed number as the code splits it: v is n, or -1 - n if it is negative
 abbrev pub apartOf : ℤ → SignAndRest
 apartOf (pos n) = record { negative = false; rest = n }
 apartOf (negsuc n) = record { negative = true; rest = n }

@@ -12,17 +12,17 @@ use Rattle.times.specs.declared.running.RunningOf.{RunningOf}
 use Rattle.times.specs.Clock.{aDay, lastTick}
 use Rattle.times.specs.Net.{signed}
 
--- Tnow and Tev are times of day, and Tev is 0 where the bib is 0; Taux is a sign of 0 or 1, days of one digit and a time of day
+-- Tnow and Tev are times of day, and Tev is 0 if the bib is 0; Taux has a sign of 0 or 1, days of one digit and a time of day
 unfoldable pub inRange : RunningOf → Bool
 inRange o =
     leb (o .tnow) lastTick && leb (o .tev) lastTick && (not (eqb (o .bib) 0) || eqb (o .tev) 0)
     && leb (o .sign) 1 && leb (o .days) 9 && leb (o .time) lastTick
 
--- here the minus covers days and time
+-- Taux in ticks: here the minus covers days and time together
 abbrev pub taux : RunningOf → ℤ
 taux o = signed (eqb (o .sign) 1) (o .days * aDay + o .time)
 
--- the only refusal: Tnow, Tev or Taux out of range
+-- Tnow - Tev - Taux; the only refusal is TIME, if a number is out of range
 unfoldable pub runningTime : RunningOf → Told ℤ
 runningTime o = tried (inRange o) TIME (gives ((pos (o .tnow) -ℤ pos (o .tev)) -ℤ taux o))
 
@@ -30,11 +30,11 @@ abbrev pub runningTold : Running → Told ℤ
 runningTold (Ticks v) = gives v
 runningTold Time = refuses TIME
 
--- what is promised of the answer
+-- what is promised of the answer: on paper it is the running time of these numbers
 abbrev pub RunningAs : RunningOf → Running → Type 0
 RunningAs of r = runningTold r ≡ runningTime of
 
--- worked cases: a minus covers days and time, and each number out of range is refused by 8
+-- worked cases: a minus covers days and time, and each number out of range is refused with 8
 pub record RunningWorked : Type 0 where
   pub minus : runningTime (record { bib = 1; tnow = 20; tev = 5; sign = 1; days = 1; time = 3 }) ≡ gives (pos 864000018)
   pub tnow : runningTime (record { bib = 1; tnow = 864000000; tev = 0; sign = 0; days = 0; time = 0 }) ≡ refuses (plain 8)

@@ -1,4 +1,4 @@
--- No second outcome meets the promise of a function that is no plain equation.
+-- Only one answer meets the promise of running_time. The other promises equate the answer itself with a definition.
 use Rattle.digits.specs.Once.{Once}
 use Rattle.times.specs.declared.running.RunningOf.{RunningOf}
 use Rattle.times.specs.Running.{RunningAs}

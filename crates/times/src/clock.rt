@@ -11,12 +11,12 @@ ghost use Rattle.digits.specs.Digits.{numberAt};
 ghost use Rattle.times.specs.Clock.{clockNumber, clock};
 ghost use Rattle.times.specs.inside.Clock.{partOf, ticksFrom};
 
-// The ticks of a day, and its last one, 235959.9999.
+// How many ticks a day has, and its last tick, 23:59:59.9999.
 pub const DAY_TICKS: u64 = 864_000_000;
 
 pub const LAST_TICK: u32 = (DAY_TICKS - 1) as u32;
 
-// The ticks of the time at a place; Wrong where ten digits of a time do not stand there. Its parts are read one by one, so that none waits for another.
+// The ticks of the time at a place; Wrong if there are no ten digits of a time. The four parts are read separately, so that none waits for another.
 pub fn clock_at(s: &[u8], at: usize) -> Number
     ensures { λ r. ⌜ r ≡ clock .got (now (s .entry)) at ⌝ }
 {
@@ -31,7 +31,7 @@ pub fn clock_at(s: &[u8], at: usize) -> Number
     }
 }
 
-// Stores a time from a place on; past the end nothing. Ticks of no day show the last ten digits of the same sum.
+// Stores a time from a place on; past the end nothing. If the ticks are no time of day, it stores the last ten digits of the same sum.
 pub fn put_clock(out: &mut [u8], at: usize, ticks: u32)
     ensures { λ _. ⌜ now (out .exit) ≡ sets (now (out .entry)) at (clock .put ticks) ⌝ }
 {
@@ -42,7 +42,7 @@ pub fn put_clock(out: &mut [u8], at: usize, ticks: u32)
     }
 }
 
-// Whether ten bytes stand from a place on.
+// Whether there are ten bytes from a place on.
 fn has_room(len: usize, at: usize) -> bool
     ensures { λ r. ⌜ r ≡ leb (at + 10) len ⌝ }
 {
@@ -55,7 +55,7 @@ fn has_room(len: usize, at: usize) -> bool
     true
 }
 
-// The number at a place, and 10,000, which is no part of a time, where there is none.
+// The number at a place. If there is none: 10,000, which no part of a time can be.
 fn part_at(s: &[u8], at: usize, width: usize) -> u64
     ensures { λ r. ⌜ r ≡ partOf (numberAt (now (s .entry)) at width) ⌝ }
 {

@@ -1,4 +1,4 @@
-// Net times: signed days and a time of day as one value in ticks, and back.
+// Net times: signed days and a time of day, as one value in ticks, and back.
 use crate::clock::DAY_TICKS;
 use crate::clock::LAST_TICK;
 use crate::signed::apart;
@@ -6,7 +6,7 @@ use crate::signed::diff;
 ghost use mathlib.Core.Path.{_≡_};
 ghost use Rattle.times.specs.Net.{isNet, netValue, netParts};
 
-// A sign, days and the ticks of a time. A net reply shows those that is_net takes.
+// A sign, days, and a time in ticks. They are a net time if is_net takes them.
 pub struct NetParts {
     pub minus: bool,
     pub days: u64,
@@ -25,7 +25,7 @@ pub fn is_net(parts: NetParts) -> bool
     (parts.days <= 9_999_999) & (parts.time <= LAST_TICK) & !(parts.minus & (parts.days == 0))
 }
 
-// The value of what a net reply shows; Wrong where none shows these parts.
+// The value of a net time; Wrong if the parts are no net time.
 pub fn net_value(parts: NetParts) -> NetValue
     ensures { λ r. ⌜ r ≡ netValue parts ⌝ }
 {
@@ -41,7 +41,7 @@ pub fn net_value(parts: NetParts) -> NetValue
     }
 }
 
-// The parts of a value: whole days rounded down, and the time past them.
+// The parts of a value: whole days, rounded down, and the time that is left.
 pub fn net_parts(value: i64) -> NetParts
     ensures { λ r. ⌜ r ≡ netParts value ⌝ }
 {

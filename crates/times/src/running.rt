@@ -10,7 +10,7 @@ pub enum Running {
     Time,
 }
 
-// The numbers that running time goes by. Taux is its sign (0 plus, 1 minus), days and time.
+// The numbers from which running time is computed. Taux is its sign (0 plus, 1 minus), days and time.
 #[repr(C)]
 pub struct RunningOf {
     pub bib: u32,

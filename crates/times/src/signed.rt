@@ -1,10 +1,10 @@
-// The two places where a signed number is made or taken apart; all else is unsigned.
+// The two functions that make a signed number or split one; all other arithmetic is unsigned.
 ghost use mathlib.Core.Path.{_≡_};
 ghost use Prim.Native.Nat.{_<_, _^_};
 ghost use lib.IntN.{subℕ};
 ghost use Rattle.times.specs.Net.{apartOf};
 
-// v is rest, or -1 - rest where it is negative.
+// A number is `rest`, or -1 - `rest` if it is negative.
 pub struct SignAndRest {
     pub negative: bool,
     pub rest: u64,

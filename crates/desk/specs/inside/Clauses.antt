@@ -1,4 +1,4 @@
--- The clauses of a desk as one run over the rows computes them.
+-- The clauses of a desk, as one pass over the rows computes them.
 use Prim.Native.Nat.{ℕ, _+_}
 use mathlib.Core.List.{List}
 use mathlib.Core.Bool.{Bool, true, cond, not, _&&_}
@@ -17,7 +17,7 @@ use Rattle.desk.specs.Seats.{seatAt, usedBit, keyed}
 use Rattle.desk.specs.Memory.{cellAt, markAt}
 use Rattle.desk.specs.Desk.{isZero, named, lastEnds, markGood, cellKeyed, heldRight, endedRight}
 
--- a legal key in use, or all zero
+-- a used seat has a legal key, an unused one is all zero
 unfoldable pub seatGood : Seat → ℕ → ℕ → Bool
 seatGood s bits i = cond (usedBit bits i) (isKey (seatKey s)) (isZero s)
 
@@ -30,11 +30,11 @@ apart a b bits i j = cond (usedBit bits i) (not (keyed b bits j (seatKey a))) tr
 abbrev pub noView : View
 noView = record { held = 0; ended = 0 }
 
--- a seat that holds so many records, ended or not, takes a reply of this status
+-- a seat with so many records, ended or not, takes a reply of this status
 unfoldable pub takes : ℕ → ℕ → ℕ → Bool
 takes held ended status = eqb ended 0 && inPlace held status
 
--- one more row of a seat: in order if it is a reply with the seat's key that the seat takes
+-- one more row of a seat: good if it is a reply with the seat's key that the seat takes
 unfoldable pub turnOf : View → Seat → Told ReplyLabel → Turn
 turnOf v seat got =
     record { good = hasKey (seatKey seat) got && takes (v .held) (v .ended) (statusIn got); view = record { held = v .held + 1; ended = endedIn got } }
@@ -45,11 +45,11 @@ agrees v seat bits i = cond (usedBit bits i) (eqb (seat .held) (v .held) && eqb 
 abbrev pub agreesAt : List View → List Seat → ℕ → ℕ → Bool
 agreesAt views row bits i = agrees (getD views i noView) (seatAt row i) bits i
 
--- what the first n rows say of seat s
+-- what the first n rows say about seat s
 abbrev pub viewOf : List ℕ → List ℕ → ℕ → ℕ → View
 viewOf cells marks n s = record { held = named marks s n; ended = lastEnds cells marks s n }
 
--- row i is taken by its seat as the rows before it left that
+-- row i is one that its seat takes after the rows before it
 abbrev pub takenAt : List ℕ → List ℕ → ℕ → Bool
 takenAt cells marks i =
     takes (named marks (markAt marks i) i) (lastEnds cells marks (markAt marks i) i) (statusIn (heard (cellAt cells i)))

@@ -1,4 +1,4 @@
--- A frame of a capture: met on a desk, and counted.
+-- A frame of a capture: given to the desk, and counted.
 use Prim.Native.Nat.{ℕ, _+_, _<_}
 use mathlib.Core.List.{List}
 use mathlib.Core.Path.{_≡_}

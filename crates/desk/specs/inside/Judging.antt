@@ -1,4 +1,4 @@
--- What a call finds before anything is changed.
+-- What a call finds before it changes anything.
 use Rattle.digits.specs.Told.{Told, gives, refuses}
 use Rattle.desk.specs.declared.opening.Opening.{Opening}
 use Rattle.desk.specs.declared.opening.OpenJudged.{OpenJudged}

@@ -1,4 +1,4 @@
--- `digits::byte_at` meets its contract: past the end `getD` gives 0. Assumes nothing.
+-- `digits::byte_at` meets its contract: past the end `getD` is 0. Assumes nothing.
 use mathlib.Core.Path.{sym}
 use borrow.Author.Needs.{needs}
 use Rattle.digits.proofs.byte_at.Statement.{statement}

@@ -1,4 +1,4 @@
--- `digits::put_byte` meets its contract: a store past the end is none. Assumes nothing.
+-- `digits::put_byte` meets its contract: a store past the end changes nothing. Assumes nothing.
 use mathlib.Core.Path.{sym}
 use borrow.Author.Needs.{needs}
 use Rattle.digits.proofs.put_byte.Statement.{statement}

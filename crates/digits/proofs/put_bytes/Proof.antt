@@ -1,4 +1,4 @@
--- `digits::put_bytes` meets its contract: each turn is one byte more of the run. Assumes nothing.
+-- `digits::put_bytes` meets its contract: each turn adds one byte to the run. Assumes nothing.
 use mathlib.Core.List.{List}
 use mathlib.Core.Path.{_≡_, refl, sym, ap, _∙_}
 use Prim.Native.Nat.{ℕ, _+_, _-_, _≤_}

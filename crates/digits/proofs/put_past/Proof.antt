@@ -1,4 +1,4 @@
--- `digits::put_past` meets its contract: a store past the end is none. Assumes nothing.
+-- `digits::put_past` meets its contract: a store past the end changes nothing. Assumes nothing.
 use native.Mathlib.Omega.{arith}
 use mathlib.Core.Path.{sym}
 use borrow.Author.Needs.{needs}

@@ -1,4 +1,4 @@
--- `finder::frame_at` meets its contract: the frame comes to the same from every byte on that was passed. Assumes nothing.
+-- `finder::frame_at` meets its contract: the answer is the same, seen from each byte that was passed. Assumes nothing.
 use Prim.Native.Nat.{_-_, _≤_, _<_}
 use mathlib.Core.Path.{_≡_, sym, _∙_}
 use native.Mathlib.Omega.{arith}

@@ -1,4 +1,4 @@
--- `finder::next` meets its contract: the bytes that were passed begin no frame. Assumes nothing.
+-- `finder::next` meets its contract: no frame begins at the bytes that were passed. Assumes nothing.
 use Prim.Native.Nat.{_-_}
 use mathlib.Core.Path.{_≡_, refl, sym, _∙_}
 use borrow.Author.Needs.{needs}

@@ -9,7 +9,7 @@ use Rattle.times.specs.Clock.{clock}
 use Rattle.frames.specs.declared.request.StaticRequest.{StaticRequest}
 use Rattle.frames.specs.declared.dynamic.DynamicRequest.{DynamicRequest}
 
--- what is held where no number stands: a value that no rule takes
+-- what the code holds if there is no number at a place: a value that no rule takes
 abbrev pub noNumber : ℕ
 noNumber = 4294967295
 

@@ -31,7 +31,7 @@ refusedBy f = record { verdict = Refused f; reply = zeroReply }
 unfoldable pub judgedAs : StaticReply → ℕ → ReplyRead
 judgedAs r wrong = cond (eqb wrong 0) (record { verdict = Read; reply = r }) (refusedBy (Field (record { field = wrong })))
 
--- the parts before time and date, as a frame has them
+-- the parts before time and date, as they are in a frame
 abbrev pub headAt : List ℕ → ReplyHead
 headAt s =
     record { program = getD s 3 0; mode = getD s 4 0; status = getD s 5 0; requester = getD s 6 0; number = orNone (numberAt s 7 5); bib = orNone (numberAt s 12 5); group = orNone (numberAt s 17 3); run = orNone (numberAt s 20 3); physical = orNone (numberAt s 23 3); channel = orNone (numberAt s 26 3); information = getD s 29 0 }
@@ -46,7 +46,7 @@ headWrong h rest =
     (wrongUnless (between (leastRun (h .status)) 250 (h .run)) 20 (wrongUnless (upTo 999 (h .physical)) 23 (wrongUnless (isReplyChannel (h .channel)) 26
     (wrongUnless (isLetter (h .information)) 29 rest))))))))))
 
--- what a frame's fields hold, wrong or not, and the offset of what is wrong first
+-- what the fields of a frame hold, wrong or not, and the offset of the first wrong one
 abbrev pub seenIn : List ℕ → Seen
 seenIn s = seenOf (timingKind (getD s 5 0) (getD s 29 0)) s
 

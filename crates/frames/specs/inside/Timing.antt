@@ -1,4 +1,4 @@
--- The checks of a reply's time and date, what a frame shows of them, and how they are stored.
+-- The tests of a reply's time and date, what a frame holds of them, and how they are stored.
 use Prim.Native.Nat.{ℕ}
 use mathlib.Core.List.{List, _∷_, _++_}
 use mathlib.Core.Bool.{_&&_}
@@ -37,7 +37,7 @@ netWrong time sign days rest = wrongUnless (isTime time) 30 (wrongUnless (isSign
 abbrev pub rawWrong : List ℕ → List ℕ → ℕ → ℕ
 rawWrong rawTime rawDate rest = wrongUnless (areRaw 10 rawTime) 30 (wrongUnless (areRaw 8 rawDate) 40 rest)
 
--- ---- a record's timing, against the kind that is asked for
+-- ---- a record's timing, compared with the kind that is asked for
 
 abbrev pub asClock : Timing → ℕ → ℕ
 asClock (Clock ticks day month year) rest = clockWrong ticks day month year rest

@@ -1,4 +1,4 @@
--- The text of a list, from lent cells and marks.
+-- The text of a list, made from lent cells and marks.
 use Prim.Native.Nat.{ℕ, zero, suc}
 use mathlib.Core.List.{List, [], _++_}
 use Rattle.desk.specs.Limits.{seatCount}

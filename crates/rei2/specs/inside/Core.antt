@@ -1,4 +1,4 @@
--- What the calls by value give that the lent calls are made of.
+-- What the calls by value return, from which the lent calls are made.
 use mathlib.Core.List.{List, []}
 use mathlib.Core.Path.{_≡_}
 use Prim.Native.Nat.{ℕ}
@@ -15,7 +15,7 @@ abbrev pub outOf : Outcome → Out
 outOf o = record { row = o .after .row; answer = answerOf o }
 
 module _ (row : List Seat) (desk : Desk) where
-  -- no cells and no marks are looked at
+  -- cells and marks are not looked at
   abbrev pub CoreReset : Out → Type 0
   CoreReset r = r ≡ outOf (resets (memory desk row [] []))
 

@@ -1,4 +1,4 @@
--- `cases::words::print_signed` is safe: a negative number's distance below -1 and its size fit. Assumes nothing.
+-- `cases::words::print_signed` is safe: both -1 - v and the size of a negative number v fit. Assumes nothing.
 use borrow.Author.Needs.{needs}
 use Rattle.cases.proofs.words.print_signed.Statement.{statement}
 use Rattle.cases.proofs.words.print_signed.Tie as tie

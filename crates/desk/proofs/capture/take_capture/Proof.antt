@@ -23,7 +23,7 @@ abbrev μ-loop : tie.MeasureT-loop
 abbrev Start : tie.Else1 Inv-loop μ-loop → Memory
 Start c = memory (c .before .before .before .before .before .before .before .args .desk) (c .before .before .before .before .before .before .before .args .row) (now (c .before .before .before .before .before .before .before .args .cells)) (now (c .before .before .before .before .before .before .before .args .marks))
 
--- what the answer of `next` tells, in a turn
+-- what the answer of `next` means in a turn of the loop
 here : (c : tie.After-next Inv-loop μ-loop) → Told (now (c .before .before .before .before .before .before .before .before .before .args .capture)) (c .before .loop .at) (c .next .result)
 here c =
     let s = now (c .before .before .before .before .before .before .before .before .before .args .capture) in

@@ -1,4 +1,4 @@
--- `desk::clauses::all_agree` meets its contract: all seats passed say what their rows say. Assumes nothing.
+-- `desk::clauses::all_agree` meets its contract: all seats so far say what their rows say. Assumes nothing.
 use Prim.Native.Nat.{_≤_, _-_}
 use mathlib.Core.Bool.{true}
 use mathlib.Core.Path.{_≡_, refl, sym}

@@ -1,4 +1,4 @@
--- `desk::clauses::all_apart` meets its contract: all seats passed are apart from those below them. Assumes nothing.
+-- `desk::clauses::all_apart` meets its contract: no seat so far shares a key with one below it. Assumes nothing.
 use mathlib.Core.Bool.{true}
 use Rattle.desk.specs.Below.{allBelow}
 use Rattle.desk.specs.Desk.{apartAt, apartBelow}

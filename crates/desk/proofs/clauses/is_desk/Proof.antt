@@ -1,4 +1,4 @@
--- `desk::clauses::is_desk` meets its contract: the clauses as one run computes them. Assumes nothing.
+-- `desk::clauses::is_desk` meets its contract: the clauses, as one pass computes them. Assumes nothing.
 use Prim.Native.Nat.{_^_}
 use native.Mathlib.Omega.{arith}
 use borrow.Author.Needs.{needs}

@@ -1,4 +1,4 @@
--- `desk::clauses::rows_hold` meets its contract: all rows passed are good, and the views are what they say. Assumes nothing.
+-- `desk::clauses::rows_hold` meets its contract: all rows so far are good, and the views are what they say. Assumes nothing.
 use Prim.Native.Nat.{ℕ, _≤_, _<_, _-_}
 use mathlib.Core.Bool.{true}
 use mathlib.Core.Path.{_≡_, refl, sym, ap, _∙_}

@@ -1,4 +1,4 @@
--- `desk::clauses::seats_good` meets its contract: all seats passed are good. Assumes nothing.
+-- `desk::clauses::seats_good` meets its contract: all seats so far are good. Assumes nothing.
 use Prim.Native.Nat.{_≤_, _-_}
 use mathlib.Core.Bool.{true}
 use mathlib.Core.Path.{_≡_, refl, sym}

@@ -1,4 +1,4 @@
--- `frames::dynamic::put_dynamic` meets its contract: its stores are one run. Assumes nothing.
+-- `frames::dynamic::put_dynamic` meets its contract: its stores are a single run. Assumes nothing.
 use mathlib.Core.Path.{_∙_}
 use borrow.Author.Needs.{needs}
 use Rattle.frames.proofs.dynamic.put_dynamic.Statement.{statement}

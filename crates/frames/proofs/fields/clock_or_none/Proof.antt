@@ -1,4 +1,4 @@
--- `frames::fields::clock_or_none` meets its contract: the ticks of a day fit 32 bits. Assumes nothing.
+-- `frames::fields::clock_or_none` meets its contract: the ticks of a day fit in 32 bits. Assumes nothing.
 use mathlib.Core.Path.{sym, ap, _∙_}
 use borrow.Author.Needs.{needs}
 use Rattle.frames.proofs.fields.clock_or_none.Statement.{statement}

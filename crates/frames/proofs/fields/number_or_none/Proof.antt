@@ -1,4 +1,4 @@
--- `frames::fields::number_or_none` meets its contract: a number of nine digits fits 32 bits. Assumes nothing.
+-- `frames::fields::number_or_none` meets its contract: a number of nine digits fits in 32 bits. Assumes nothing.
 use mathlib.Core.Path.{sym, ap, _∙_}
 use borrow.Author.Needs.{needs}
 use Rattle.frames.proofs.fields.number_or_none.Statement.{statement}

@@ -1,4 +1,4 @@
--- `frames::reply::put_reply` meets its contract: its stores are one run. Assumes nothing.
+-- `frames::reply::put_reply` meets its contract: its stores are a single run. Assumes nothing.
 use mathlib.Core.Path.{_≡_}
 use lib.ListN.{length}
 use borrow.Author.Needs.{needs}

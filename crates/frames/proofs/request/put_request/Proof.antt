@@ -1,4 +1,4 @@
--- `frames::request::put_request` meets its contract: its stores are one run. Assumes nothing.
+-- `frames::request::put_request` meets its contract: its stores are a single run. Assumes nothing.
 use mathlib.Core.Path.{_∙_}
 use borrow.Author.Needs.{needs}
 use Rattle.frames.proofs.request.put_request.Statement.{statement}

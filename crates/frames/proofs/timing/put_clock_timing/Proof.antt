@@ -1,4 +1,4 @@
--- `frames::timing::put_clock_timing` meets its contract: its stores are one run. Assumes nothing.
+-- `frames::timing::put_clock_timing` meets its contract: its stores are a single run. Assumes nothing.
 use borrow.Author.Needs.{needs}
 use Rattle.frames.proofs.timing.put_clock_timing.Statement.{statement}
 use Rattle.frames.proofs.timing.put_clock_timing.Tie as tie

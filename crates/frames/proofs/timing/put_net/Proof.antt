@@ -1,4 +1,4 @@
--- `frames::timing::put_net` meets its contract: its stores are one run. Assumes nothing.
+-- `frames::timing::put_net` meets its contract: its stores are a single run. Assumes nothing.
 use mathlib.Core.Path.{ap, _∙_}
 use borrow.Author.Needs.{needs}
 use Rattle.frames.proofs.timing.put_net.Statement.{statement}

@@ -1,4 +1,4 @@
--- `frames::timing::zero_run` meets its contract: the bytes passed are zero, or it is known that they are not. Assumes nothing.
+-- `frames::timing::zero_run` meets its contract: `good` says whether the bytes so far are zero. Assumes nothing.
 use native.Mathlib.Omega.{arith}
 use native.Mathlib.Nat.{sub-zero}
 use mathlib.Core.Bool.{Bool, _&&_}

@@ -1,4 +1,4 @@
--- `rei2::lent::load` meets its contract: a walk of its MIR, by hand, with a loop. The slice is looked into once, before the loop, and shut after it. The local array is taken apart before the loop, and is whole again after it.
+-- `rei2::lent::load` meets its contract: a walk of its MIR, by hand, with a loop. The slice is opened once, before the loop, and closed after it. The local array is taken apart before the loop, and is whole again after it.
 -- Assumes nothing.
 use Rattle.desk.specs.Limits.{seatCount}
 use mathlib.Core.Path.{_≡_, refl, sym, ap, subst, _∙_}
@@ -146,7 +146,7 @@ module _ {M : Type 1} (𝓤 : URA M) (H : Heap 𝓤) (A : Atoms 𝓤) (W : Given
       abbrev En : Env 𝓤 H
       En = (arr, l₀) ∷ (slice, l₁) ∷ (arr, l₂) ∷ (word, l₃) ∷ (tyPtr, l₄) ∷ (T′.mir, l₅) ∷ (tyBool, l₆) ∷ (word, l₇) ∷ (tyPtr, l₈) ∷ (T′.mir, l₉) ∷ (word, l₁₀) ∷ (tyPtr, l₁₁) ∷ (tyPtr, l₁₂) ∷ []
 
-      -- what holds when the loop's test is reached: the share of the slice, the local array, i, and what no turn touches
+      -- what holds when the loop's test is reached: the share of the slice, the local array, i, and what no turn changes
       abbrev I : Share → Turn N → List (Item 𝓤)
       I q′ t = ‵ (row R q′ ys b o) ∷ ‵ (row R fullShare (so-far (t .i)) l₂ 0) ∷ ‵ (fat fullShare word l₃ 0 (vint w64 (t .i)))
           ∷ ‵ (froom tyBool l₆ 0) ∷ ‵ (froom word l₇ 0) ∷ ‵ (froom tyPtr l₈ 0) ∷ ‵ (froom T′.mir l₉ 0) ∷ ‵ (froom word l₁₀ 0) ∷ ‵ (froom tyPtr l₁₁ 0) ∷ ‵ (froom tyPtr l₁₂ 0)
@@ -161,7 +161,7 @@ module _ {M : Type 1} (𝓤 : URA M) (H : Heap 𝓤) (A : Atoms 𝓤) (W : Given
         qed W ((‵ (flft κ q) ⊛ ‵ ftrue) ∷ ‵ (owns (ShrSlice (named 0) κ R ∷ []) a vals) ∷ []) ∵ enter ! C Λ code.function (s ∷ []) _ $
         alloc1 ! (λ l₀. alloc1 ! (λ l₁. alloc1 ! (λ l₂. alloc1 ! (λ l₃. alloc1 ! (λ l₄. alloc1 ! (λ l₅. alloc1 ! (λ l₆. alloc1 ! (λ l₇. alloc1 ! (λ l₈. alloc1 ! (λ l₉. alloc1 ! (λ l₁₀. alloc1 ! (λ l₁₁. alloc1 ! (λ l₁₂. alloc0 ! $ params1 ! $
         pass1 ! (init ! 22 refl (tt, (tt, (record { fits = room .0 }, tt)))) $ pass0 ! $
-        -- `[s[0]; SEATS]`, and the slice is looked into
+        -- `[s[0]; SEATS]`, and the slice is opened
         assigns ! (bin ! (load ! (from ! (fld ! refl (stop !))) (look-in ! 22 (sub ! 0 refl (whole !)))) (lit ! tt) tt) (from ! (stop !)) (init ! 16 refl (tt, tt)) $
         rewrite ! 16 (λ (p : ℕ). ‵ (fat fullShare tyPtr l₄ 0 (vptr b p))) (sym (place-is size o 0)) refl $
         move ! (27 ∷ []) $ fsplit ! $ fsplit ! $ move ! (1 ∷ []) $ fsplit ! $ move ! (30 ∷ []) $ split ! $ move ! (3 ∷ 0 ∷ []) $

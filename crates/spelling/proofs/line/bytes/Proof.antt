@@ -1,4 +1,4 @@
--- `spelling::line::bytes` is safe and ends, and its bytes fit the output. Assumes nothing.
+-- `spelling::line::bytes` is safe and ends, and its bytes fit in the output. Assumes nothing.
 use mathlib.Core.Path.{_≡_}
 use Prim.Native.Nat.{_-_, _≤_}
 use borrow.Author.Needs.{needs}

@@ -1,4 +1,4 @@
--- `spelling::line::read_line` is safe and ends, and a line fits the buffer. Assumes nothing.
+-- `spelling::line::read_line` is safe and ends, and a line fits in the buffer. Assumes nothing.
 use mathlib.Core.Path.{_≡_}
 use Prim.Native.Nat.{_-_, _≤_}
 use borrow.Author.Needs.{needs}

@@ -1,4 +1,4 @@
--- `times::net::net_value` meets its contract: what a net reply shows fits 63 bits. Assumes nothing.
+-- `times::net::net_value` meets its contract: the values of net times fit in 63 bits. Assumes nothing.
 use mathlib.Core.Path.{_≡_, sym, _∙_}
 use borrow.Author.Needs.{needs}
 use Rattle.times.proofs.net.net_value.Statement.{statement}
