@@ -1,5 +1,7 @@
 //! `links ROOT` checks that every relative link in the Markdown files below ROOT leads to a file or folder. A link with `#PART` must
-//! lead to a heading of its file.
+//! lead to a heading of its file. A name that a page cites from a source file must be defined there.
+
+mod names;
 
 use std::fs;
 use std::path::{Path, PathBuf};
@@ -10,34 +12,55 @@ fn main() -> ExitCode {
         eprintln!("usage: links ROOT");
         return ExitCode::from(2);
     };
-    let (pages, links, broken) = check(Path::new(&root));
-    for line in &broken {
+    let seen = check(Path::new(&root));
+    for line in &seen.broken {
         println!("{line}");
     }
-    println!("links: {pages} pages, {links} links, {} lead nowhere", broken.len());
-    if broken.is_empty() && links > 0 {
+    println!(
+        "links: {} pages, {} links, {} names, {} lead nowhere",
+        seen.pages,
+        seen.links,
+        seen.names,
+        seen.broken.len()
+    );
+    if seen.broken.is_empty() && seen.links > 0 {
         ExitCode::SUCCESS
     } else {
         ExitCode::FAILURE
     }
 }
 
-/// How many pages and relative links there are, and a line for each link that leads nowhere.
-fn check(root: &Path) -> (usize, usize, Vec<String>) {
+/// How many pages, relative links and cited names there are, and a line for each that leads nowhere.
+#[derive(Debug, Default, PartialEq, Eq)]
+struct Seen {
+    pages: usize,
+    links: usize,
+    names: usize,
+    broken: Vec<String>,
+}
+
+fn check(root: &Path) -> Seen {
     let mut pages = Vec::new();
     collect(root, &mut pages);
     pages.sort();
-    let (mut links, mut broken) = (0, Vec::new());
+    let mut seen = Seen { pages: pages.len(), ..Seen::default() };
     for page in &pages {
         let text = fs::read_to_string(page).unwrap_or_default();
+        let shown = page.strip_prefix(root).unwrap_or(page).display();
         for link in relative_links(&text) {
-            links += 1;
+            seen.links += 1;
             if let Err(why) = follow(page, &text, &link) {
-                broken.push(format!("{}: {link}: {why}", page.strip_prefix(root).unwrap_or(page).display()));
+                seen.broken.push(format!("{shown}: {link}: {why}"));
+            }
+        }
+        for cited in names::cited(&text) {
+            seen.names += 1;
+            if let Err(why) = names::look_up(page, &cited) {
+                seen.broken.push(format!("{shown}: `{}` in {}: {why}", cited.name, cited.file));
             }
         }
     }
-    (pages.len(), links, broken)
+    seen
 }
 
 /// The Markdown files below a folder. Hidden folders and those named `target` are skipped.
@@ -130,38 +153,45 @@ mod tests {
                 ("docs/B.md", "## The part\n[up](../A.md) [all](..)\n"),
             ],
         );
-        assert_eq!(check(&root), (2, 5, vec![]));
+        assert_eq!(check(&root), Seen { pages: 2, links: 5, ..Seen::default() });
     }
 
     #[test]
     fn a_missing_file_is_told() {
         let root = folder("file", &[("A.md", "[b](docs/B.md)")]);
-        assert_eq!(check(&root), (1, 1, vec!["A.md: docs/B.md: no such file".to_string()]));
+        assert_eq!(check(&root).broken, ["A.md: docs/B.md: no such file"]);
     }
 
     #[test]
     fn a_missing_heading_is_told() {
         let root = folder("heading", &[("A.md", "[b](B.md#other)"), ("B.md", "# One\n")]);
-        assert_eq!(check(&root), (2, 1, vec!["A.md: B.md#other: no such heading".to_string()]));
+        assert_eq!(check(&root).broken, ["A.md: B.md#other: no such heading"]);
     }
 
     #[test]
     fn a_missing_heading_of_the_page_itself_is_told() {
         let root = folder("own", &[("A.md", "[b](#other)\n# One")]);
-        assert_eq!(check(&root).2, vec!["A.md: #other: no such heading".to_string()]);
+        assert_eq!(check(&root).broken, ["A.md: #other: no such heading"]);
     }
 
     #[test]
     fn code_and_other_hosts_are_no_links() {
         let root = folder("code", &[("A.md", "`[b](nowhere)` and [c](https://example.org/x)\n\n    [d](nowhere)\n")]);
-        assert_eq!(check(&root), (1, 0, vec![]));
+        assert_eq!(check(&root), Seen { pages: 1, ..Seen::default() });
     }
 
     #[test]
     fn what_is_built_is_passed_over() {
         let root =
             folder("built", &[("target/A.md", "[b](nowhere)"), (".git/B.md", "[b](nowhere)"), ("C.md", "[own](C.md)")]);
-        assert_eq!(check(&root), (1, 1, vec![]));
+        assert_eq!(check(&root), Seen { pages: 1, links: 1, ..Seen::default() });
+    }
+
+    #[test]
+    fn a_name_that_its_file_does_not_define_is_told() {
+        let pages = [("A.md", "`leap` and `last` in [Day](Day.antt)"), ("Day.antt", "abbrev pub leap : A\n-- last\n")];
+        let seen = check(&folder("names", &pages));
+        assert_eq!((seen.names, seen.broken), (2, vec!["A.md: `last` in Day.antt: not defined there".to_string()]));
     }
 
     #[test]
