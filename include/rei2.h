@@ -1,26 +1,46 @@
 /* rei2.h: the REI2 desk for programs in C, C++ and other languages that call C. For x86-64 Linux, C11 or C++11.
 
-   MEMORY. The host owns all memory and lends it for the length of one call. The library keeps no pointer after a call,
-   has no variables of its own, allocates nothing, and does no input or output. What a desk knows between two calls is
-   the state, which goes in and comes back by value, and the seats, cells and marks, which the host keeps.
+   MEMORY. The host owns all memory and lends it for the length of one call. The library keeps no pointer after a call.
+   It has no variables of its own, allocates nothing, and does no input or output. Between two calls the host keeps
+   everything that a desk knows: the state, which is passed and returned by value, and the seats, cells and marks.
 
-   SLICES. A slice is two arguments: a pointer and how many elements it points to, which is named like it with _len
-   behind. The elements of cells are bytes, as those of frames, captures and outputs are. A pointer is aligned for its
-   elements. It may be null only where the count is 0. Where it is not const, the call may change the elements.
+   SLICES. A slice is two arguments: a pointer, and how many elements it points to. The second is named like the first,
+   with _len after it. The elements of cells, frames, captures and outputs are bytes. A pointer is aligned for its
+   elements. It may be null only if the count is 0. If it is not const, the call may change the elements.
 
    OVERLAP. A slice that a call may change overlaps no other slice of that call. The likely mistake is a frame that lies
-   in the cells: copy it out first. The library cannot see an overlap, a wrong count or a pointer to nowhere, and
-   promises nothing then.
+   in the cells: copy it out first. The library cannot notice an overlap, a wrong count or a bad pointer, and promises
+   nothing then.
 
    THREADS. Two calls that are lent the same memory must not run at once, unless both only read it. Calls on different
-   memory may, since the library has no state.
+   memory may run at once, because the library has no state.
 
-   ANSWERS. A refusal of 0 (REI2_DONE) says that the call was done; any other number says why it was not, as enum
-   rei2_refusal has it. Then the state that comes back is the one that went in, no lent byte has changed, the offset is
-   0 with all but REI2_FIELD and REI2_RECORD, and the rest of the answer is 0. rei2_refusal_name has the names. Structs
-   have padding, so compare them field by field; a seat has none.
+   ANSWERS. A refusal of 0 (REI2_DONE) says that the call was done. Any other number says why it was refused: see enum
+   rei2_refusal. A refused call returns the state that it was given and changes no lent byte. Its offset is 0 unless the
+   refusal is REI2_FIELD or REI2_RECORD, and the rest of its answer is 0. rei2_refusal_name has the names. Structs have
+   padding, so compare them field by field. A seat has none.
 
-   The example to start from is examples/watch/watch.c. */
+   EXAMPLES. The comment of each call ends with an example, a line that you can paste into a host. The examples use the
+   names below, which the host declares. docs/host.md says how to build a host. A whole one is examples/watch/watch.c.
+
+   static rei2_desk desk;                                 // the state of a desk
+   static rei2_seat seats[REI2_SEATS];                    // what the host lends to it
+   static uint8_t cells[REI2_CELLS * REI2_CELL_SIZE];
+   static uint32_t marks[REI2_CELLS];
+   static rei2_desk_answer a;                             // the answer of the last call on the desk
+   static const uint8_t *frame, *in;                      // a frame; a capture
+   static size_t size, at;                                // the size of either in bytes; the place to go on from
+   static uint8_t out[REI2_LONGEST_LIST];                 // for a frame or a list that is written
+   static uint8_t own_cells[REI2_CELLS * REI2_CELL_SIZE]; // for a list: not those of a desk
+   static uint32_t own_marks[REI2_CELLS];
+   static uint8_t name[REI2_NAME_SIZE];
+
+   Records to be written, their parts in the order of the structs below:
+
+   static rei2_static_request request = {'1', 7, 0, 'P', 0, 2, 0, 'S'};
+   static rei2_reply_record reply = {{'S', 'O', 'E', 'A', 12, 41, 0, 1, 15, 255, '1'},
+                                     {REI2_NET, 0, 0, 0, 0, 725400}, {0}, {0}, {' ', ' '}};
+   static rei2_dynamic_request dynamic = {'1', 'A', 41, 255, 1, 42, 255, 1, 0, 36000000, 0, 100, 'S'}; */
 #ifndef REI2_H
 #define REI2_H
 
@@ -30,42 +50,42 @@
 /* ---- constants */
 
 enum rei2_limit {
-    REI2_SEATS = 16,           /* in every row of seats */
-    REI2_CELLS = 256,          /* a desk holds at most, however many are lent */
+    REI2_SEATS = 16,           /* seats of a desk: every row has so many */
+    REI2_CELLS = 256,          /* the most cells that a desk uses, however many are lent */
     REI2_CELL_SIZE = 51,       /* bytes of a cell */
     REI2_REQUEST_SIZE = 24,    /* bytes of a static request */
     REI2_REPLY_SIZE = 51,      /* bytes of a static reply */
     REI2_DYNAMIC_SIZE = 46,    /* bytes of a dynamic request */
-    REI2_REQUEST_LEAD = 17,    /* first byte of a static request, DC1 */
-    REI2_REPLY_LEAD = 18,      /* first byte of a static reply, DC2 */
-    REI2_DYNAMIC_LEAD = 19,    /* first byte of a dynamic request, DC3 */
-    REI2_MOST_INPUT = 32768,   /* bytes of a capture that is listed */
-    REI2_LONGEST_LIST = 14170, /* no list has more bytes */
-    REI2_NAME_SIZE = 14        /* bytes of the longest name of a refusal, with its zero byte */
+    REI2_REQUEST_LEAD = 17,    /* the first byte of a static request, DC1 */
+    REI2_REPLY_LEAD = 18,      /* the first byte of a static reply, DC2 */
+    REI2_DYNAMIC_LEAD = 19,    /* the first byte of a dynamic request, DC3 */
+    REI2_MOST_INPUT = 32768,   /* the most bytes of a capture that is listed */
+    REI2_LONGEST_LIST = 14170, /* bytes that every list fits in */
+    REI2_NAME_SIZE = 14        /* bytes that the name of every refusal fits in, with its zero byte */
 };
 
 /* Why a call was refused. */
 enum rei2_refusal {
-    REI2_DONE = 0,           /* it was not */
+    REI2_DONE = 0,           /* it was not refused */
     REI2_KIND = 1,           /* the frame is empty, or its first byte is not the one that the call takes */
-    REI2_LENGTH = 2,         /* the frame has not the length of its kind */
+    REI2_LENGTH = 2,         /* the frame does not have the length of its kind */
     REI2_END = 3,            /* the last byte is not CR */
-    REI2_ADDRESS = 4,        /* byte 1 is not R, or byte 2 not a space */
-    REI2_FIELD = 5,          /* a field is wrong; offset: where the first wrong one begins */
-    REI2_RECORD = 6,         /* a part of the record is wrong; offset: where the first wrong one would be written */
+    REI2_ADDRESS = 4,        /* byte 1 is not R, or byte 2 is not a space */
+    REI2_FIELD = 5,          /* a field is wrong; offset: where the first wrong field begins */
+    REI2_RECORD = 6,         /* a part of the record is wrong; offset: where the first wrong part would be written */
     REI2_ROOM = 7,           /* the output is too short */
     REI2_TIME = 8,           /* a number of the running time is out of range */
     REI2_DESK = 9,           /* state, seats, cells and marks do not make a desk */
     REI2_NO_ANSWER_DUE = 10, /* a request with the information q, which asks for no answer */
-    REI2_IN_USE = 11,        /* requester and number are at a seat already, ended or not */
+    REI2_IN_USE = 11,        /* a seat has this requester and number already, ended or not */
     REI2_NO_SEAT = 12,       /* all seats are in use */
     REI2_STRAY = 13,         /* no seat has the reply's requester and number */
-    REI2_ENDED = 14,         /* that seat had its E or Z */
-    REI2_OUT_OF_PLACE = 15,  /* a Z at a seat that holds records */
+    REI2_ENDED = 14,         /* that seat has had its E or Z */
+    REI2_OUT_OF_PLACE = 15,  /* a Z for a seat that holds records */
     REI2_FULL = 16           /* no cell is free */
 };
 
-/* What time and date of a reply are. */
+/* What the time and the date of a reply are. */
 enum rei2_timing {
     REI2_RAW = 0,   /* bytes that are not interpreted */
     REI2_CLOCK = 1, /* a time of day and a day */
@@ -75,22 +95,23 @@ enum rei2_timing {
 /* What was found in a capture. */
 enum rei2_found {
     REI2_NOTHING = 0, /* no frame begins there or later */
-    REI2_WHOLE = 1,   /* a frame, its CR the last byte */
-    REI2_CUT = 2      /* a frame that the next one or the end of the capture cut off */
+    REI2_WHOLE = 1,   /* a frame that ends with its CR */
+    REI2_CUT = 2      /* a frame without its CR: the next frame begins first, or the capture ends */
 };
 
-/* ---- structs. In an answer, refusal is as enum rei2_refusal says, and offset is where the wrong field begins. A tick
-   is a ten-thousandth of a second; a day has 864000000. A uint8_t holds a byte of the frame as it is, a letter by its
-   code. */
+/* ---- structs. In an answer, refusal is a number of enum rei2_refusal, and offset is where the wrong field begins. A
+   tick is a ten-thousandth of a second; a day has 864000000 ticks. A uint8_t is a byte as it is in the frame: a letter
+   is its ASCII code. */
 
-/* The state of a desk: the seats in use, seat 0 as bit 0, and how many cells are held. {0, 0} is an empty desk's. */
+/* The state of a desk: a bit for each seat in use, bit 0 for seat 0, and how many cells are held. {0, 0} is the state
+   of an empty desk. */
 typedef struct rei2_desk {
     uint64_t bits;
     uint32_t count;
 } rei2_desk;
 
-/* A seat. Requester and number are the key of its request, held is how many records it has, ended is 1 once it had its
-   E or Z and 0 before. A seat that is not in use is all 0. */
+/* A seat. requester and number are the key of its request. held is how many records it holds. ended is 0 until it takes
+   an E or a Z, and 1 after that. A seat that is not in use is all 0. */
 typedef struct rei2_seat {
     uint32_t requester;
     uint32_t number;
@@ -98,7 +119,7 @@ typedef struct rei2_seat {
     uint32_t ended;
 } rei2_seat;
 
-/* The answer of a call on a desk: the state after it, and the seat that was opened or took the reply. */
+/* The answer of a call on a desk: the state after it, and the seat that was opened or that took the reply. */
 typedef struct rei2_desk_answer {
     rei2_desk desk;
     uint32_t refusal;
@@ -106,7 +127,8 @@ typedef struct rei2_desk_answer {
     uint32_t seat;
 } rei2_desk_answer;
 
-/* What became of the frames of a capture; the four add up to its lead bytes. A cut frame is refused. */
+/* What became of the frames of a capture: how many requests were opened, replies collected, dynamic requests found, and
+   frames refused. A cut frame is refused. The four add up to the lead bytes in the capture. */
 typedef struct rei2_counts {
     size_t opened;
     size_t collected;
@@ -114,7 +136,7 @@ typedef struct rei2_counts {
     size_t refused;
 } rei2_counts;
 
-/* The answer of a whole capture: the state after it, and the counts. */
+/* The answer for a whole capture: the state after it, and the counts. */
 typedef struct rei2_captured_answer {
     rei2_desk desk;
     uint32_t refusal;
@@ -140,8 +162,8 @@ typedef struct rei2_request_answer {
     rei2_static_request request;
 } rei2_request_answer;
 
-/* Time and date of a reply, as enum rei2_timing says: ticks of the day, day, month and year for REI2_CLOCK; net, in
-   ticks, for REI2_NET; none for REI2_RAW. What its kind does not use is 0. */
+/* Time and date of a reply. kind is a number of enum rei2_timing. REI2_CLOCK uses ticks (since midnight), day, month
+   and year. REI2_NET uses net, in ticks. REI2_RAW uses none of them. What the kind does not use is 0. */
 typedef struct rei2_timing_numbers {
     uint32_t kind;
     uint32_t ticks;
@@ -151,7 +173,7 @@ typedef struct rei2_timing_numbers {
     int64_t net;
 } rei2_timing_numbers;
 
-/* The parts of a static reply that stand before its time. */
+/* The parts of a static reply that come before its time. */
 typedef struct rei2_reply_head {
     uint8_t program;
     uint8_t mode;
@@ -166,7 +188,7 @@ typedef struct rei2_reply_head {
     uint8_t information;
 } rei2_reply_head;
 
-/* A static reply. raw_time and raw_date are the bytes of time and date where the timing is REI2_RAW, otherwise 0. */
+/* A static reply. raw_time and raw_date are the bytes of time and date if the timing is REI2_RAW, and otherwise 0. */
 typedef struct rei2_reply_record {
     rei2_reply_head head;
     rei2_timing_numbers timing;
@@ -182,7 +204,8 @@ typedef struct rei2_reply_answer {
     rei2_reply_record reply;
 } rei2_reply_answer;
 
-/* A dynamic request. sign (0 plus, 1 minus), time (in ticks) and days are those of Taux; minus zero keeps its sign. */
+/* A dynamic request. sign (0 plus, 1 minus), time (in ticks) and days are the parts of Taux. Minus zero keeps its
+   sign. */
 typedef struct rei2_dynamic_request {
     uint8_t requester;
     uint8_t order;
@@ -206,15 +229,16 @@ typedef struct rei2_dynamic_answer {
     rei2_dynamic_request request;
 } rei2_dynamic_answer;
 
-/* A frame or a name that was written: how many bytes it has. */
+/* A frame or a name that was written: size is how many bytes it has. */
 typedef struct rei2_written_answer {
     uint32_t refusal;
     uint32_t offset;
     size_t size;
 } rei2_written_answer;
 
-/* A frame that was found: kind as enum rei2_found says, its bytes from start up to, not with, end, and where to look
-   next. With REI2_NOTHING start and end are 0, and next is the length of the capture. */
+/* A frame that was found. kind is a number of enum rei2_found. start is the index of its first byte, end the index
+   after its last byte, and next where to look for the next frame. With REI2_NOTHING start and end are 0, and next is
+   the length of the capture. */
 typedef struct rei2_frame_answer {
     uint32_t kind;
     size_t start;
@@ -222,13 +246,15 @@ typedef struct rei2_frame_answer {
     size_t next;
 } rei2_frame_answer;
 
-/* A held cell: found is 1 with its index, or 0 with 0. Its bytes begin at cell * REI2_CELL_SIZE. */
+/* A held cell. If there is one, found is 1 and cell is its index; its bytes begin at cells[cell * REI2_CELL_SIZE].
+   Otherwise both are 0. */
 typedef struct rei2_cell_answer {
     uint32_t found;
     size_t cell;
 } rei2_cell_answer;
 
-/* What running time goes by. tnow, tev and time are ticks of a day; sign (0 plus, 1 minus), days and time are Taux. */
+/* What a running time is computed from. tnow and tev are times of day in ticks. sign (0 plus, 1 minus), days and time
+   (in ticks) are the parts of Taux. */
 typedef struct rei2_running_of {
     uint32_t bib;
     uint32_t tnow;
@@ -244,14 +270,15 @@ typedef struct rei2_running_answer {
     int64_t ticks;
 } rei2_running_answer;
 
-/* A list that was written: how many bytes it has. */
+/* A list that was written: size is how many bytes it has. */
 typedef struct rei2_listed_answer {
     uint32_t refusal;
     size_t size;
 } rei2_listed_answer;
 
-/* What a host must lend: the seats of a row; the bytes of cells and the marks that the largest desk uses, fewer make a
-   smaller one; the bytes of a cell; the most bytes of a capture that is listed; the bytes that every list fits in. */
+/* What a host must lend. seats: the seats of a row. cells, marks: the bytes of cells and the marks that the largest
+   desk uses; fewer make a smaller desk. cell_size: the bytes of a cell. most_input: the most bytes of a capture that is
+   listed. longest_list: the bytes that every list fits in. */
 typedef struct rei2_limits_answer {
     size_t seats;
     size_t cells;
@@ -261,7 +288,7 @@ typedef struct rei2_limits_answer {
     size_t longest_list;
 } rei2_limits_answer;
 
-/* ---- the layout that the library goes by. Where the compiler has another, it stops here. */
+/* ---- the layout that the library uses. A compiler with another layout stops here. */
 
 #ifdef __cplusplus
 #define REI2_IS(fact, text) static_assert(fact, text)
@@ -415,122 +442,201 @@ extern "C" {
 
 /* ---- limits and names */
 
-/* What a host must lend. The same numbers are REI2_SEATS, REI2_CELLS * REI2_CELL_SIZE, REI2_CELLS, REI2_CELL_SIZE,
-   REI2_MOST_INPUT and REI2_LONGEST_LIST, for arrays; a host that allocates, or that compares the library with the
-   header that it was built with, asks here. Never refused. */
+/* Returns what a host must lend. The same numbers are in the constants REI2_SEATS, REI2_CELLS * REI2_CELL_SIZE,
+   REI2_CELLS, REI2_CELL_SIZE, REI2_MOST_INPUT and REI2_LONGEST_LIST, for arrays. Call this to allocate memory, or to
+   check that the library is the one that the header was made for. Never refused.
+   Cost: a few steps.
+   Example:
+   rei2_limits_answer limits = rei2_limits(); */
 rei2_limits_answer rei2_limits(void);
 
-/* Writes the name of a refusal to out, in ASCII capitals with a zero byte after it, to be printed with %s: DONE for 0,
-   KIND to FULL for 1 to 16, with spaces as in NO ANSWER DUE, and UNKNOWN for any other number. An output of
-   REI2_NAME_SIZE bytes is always enough.
+/* Writes the name of a refusal to out, in ASCII capitals with a zero byte after it, so that it can be printed with %s.
+   The name of 0 is DONE. The names of 1 to 16 are KIND to FULL, with spaces as in NO ANSWER DUE. Any other number has
+   the name UNKNOWN. An output of REI2_NAME_SIZE bytes is always long enough.
    Refused with: ROOM.
-   Done: name and zero byte are the first bytes of out, and no other byte of out changes; size is that of the name
-   alone. */
+   Done: the name and its zero byte are the first bytes of out, and no other byte of out changes. size does not count
+   the zero byte.
+   Cost: one pass over the name.
+   Example:
+   rei2_written_answer named = rei2_refusal_name(a.refusal, name, sizeof name); */
 rei2_written_answer rei2_refusal_name(uint32_t refusal, uint8_t *out, size_t out_len);
 
-/* ---- the desk. seats is a row of REI2_SEATS seats, and another length is refused; cells are REI2_CELL_SIZE bytes
-   each, one behind the other; marks has a number for each cell, the seat that it belongs to. The first desk.count cells
-   and marks are held, the others are free and may have anything in them. rei2_open, rei2_reply and rei2_capture test
-   first whether all this makes a desk: they compare the keys of the seats and read each held cell once. So a call costs
-   more the more cells are held. */
+/* ---- the desk. seats is a row of REI2_SEATS seats; another length is refused. cells are REI2_CELL_SIZE bytes each,
+   one after the other. marks has a number for each cell: the seat that the cell belongs to. The first desk.count cells
+   and marks are held. The others are free and may have anything in them.
 
-/* Empties a desk, whatever state and seats were before, and makes the first one.
-   Refused with: DESK, only where the row is not of REI2_SEATS seats.
-   Done: the seats are all 0, and so is the answer's state. Cells and marks may stay as they are.
-   Costs a pass over the seats. */
+   Seats and cells are freed only by rei2_reset. There is no call yet that closes a single request. A request that has
+   ended keeps its seat and its cells until the next reset. So between two resets a desk takes at most sixteen requests
+   and at most 256 replies, or fewer replies if fewer cells or marks are lent.
+
+   rei2_open, rei2_reply and rei2_capture first test whether state, seats, cells and marks make a desk. For that they
+   compare the keys of the seats and read each held cell once. So the more cells are held, the more a call costs.
+
+   After each call go on with the state in its answer: desk = a.desk; */
+
+/* Empties a desk, whatever its state and seats were. This also makes the first desk.
+   Refused with: DESK, only if the row does not have REI2_SEATS seats.
+   Done: the seats are all 0, and so is the state in the answer. All seats and cells are free. Cells and marks need no
+   clearing.
+   Cost: one pass over the seats.
+   Example:
+   desk = rei2_reset(seats, REI2_SEATS, desk).desk; */
 rei2_desk_answer rei2_reset(rei2_seat *seats, size_t seats_len, rei2_desk desk);
 
-/* Opens the static request in frame: it takes the lowest seat that is not in use.
+/* Opens the static request in frame. It gets the lowest seat that is not in use.
    Refused with, in this order: DESK; KIND, LENGTH, END, ADDRESS, FIELD; NO_ANSWER_DUE, IN_USE, NO_SEAT.
-   Done: that seat has the request's key, no record and is not ended, and its bit is set. No other seat changes.
-   Costs a test of the desk. */
+   Done: the seat in the answer has the request's key, holds no record and is not ended, and its bit is set. No other
+   seat changes.
+   Cost: a test of the desk.
+   Example:
+   rei2_desk_answer a = rei2_open(seats, REI2_SEATS, desk, cells, sizeof cells, marks, REI2_CELLS, frame, size); */
 rei2_desk_answer rei2_open(rei2_seat *seats, size_t seats_len, rei2_desk desk, const uint8_t *cells, size_t cells_len,
                            const uint32_t *marks, size_t marks_len, const uint8_t *frame, size_t frame_len);
 
-/* Takes the static reply in frame to the seat with its key.
+/* Gives the static reply in frame to the seat that has its key.
    Refused with, in this order: DESK; KIND, LENGTH, END, ADDRESS, FIELD; STRAY, ENDED, OUT_OF_PLACE, FULL.
-   Done: the frame is in the next free cell, the seat in the mark beside it, the seat holds one record more and is ended
-   with an E or a Z; the count is one more. No other seat, byte or mark changes.
-   Costs a test of the desk. */
+   Done: the frame is in the first free cell, and that cell's mark is the seat. The seat holds one record more, and it
+   is ended if the status is E or Z. The count of the state is one more. No other seat, byte or mark changes.
+   Cost: a test of the desk.
+   Example:
+   rei2_desk_answer a = rei2_reply(seats, REI2_SEATS, desk, cells, sizeof cells, marks, REI2_CELLS, frame, size); */
 rei2_desk_answer rei2_reply(rei2_seat *seats, size_t seats_len, rei2_desk desk, uint8_t *cells, size_t cells_len,
                             uint32_t *marks, size_t marks_len, const uint8_t *frame, size_t frame_len);
 
-/* Takes all frames of a capture one after the other, as rei2_next_frame cuts it: static requests are opened, static
-   replies taken, valid dynamic requests counted. What a frame alone would be refused for is counted as refused.
+/* Takes all frames of a capture one after the other, as rei2_next_frame finds them. A static request is opened, a
+   static reply goes to its seat, and a well formed dynamic request is counted. A frame that its call would refuse is
+   counted as refused, and so is a cut frame.
    Refused with: DESK.
-   Done: seats, cells and marks are as after a call for each frame.
-   Costs one test of the desk and a reading of each frame, where a call for each frame would cost a test each. */
+   Done: seats, cells and marks are as they would be after a call for each frame.
+   Cost: one test of the desk and one reading of each frame. A call for each frame would cost a test each.
+   Example:
+   rei2_captured_answer a = rei2_capture(seats, REI2_SEATS, desk, cells, sizeof cells, marks, REI2_CELLS, in, size); */
 rei2_captured_answer rei2_capture(rei2_seat *seats, size_t seats_len, rei2_desk desk, uint8_t *cells, size_t cells_len,
                                   uint32_t *marks, size_t marks_len, const uint8_t *capture, size_t capture_len);
 
-/* How many seats are in use, ended ones too: the ones of desk.bits. Never refused. */
+/* Returns how many seats are in use, ended ones too: how many bits of desk.bits are set. Never refused.
+   Cost: a few steps.
+   Example:
+   uint32_t in_use = rei2_seats_in_use(desk); */
 uint32_t rei2_seats_in_use(rei2_desk desk);
 
-/* How many cells a desk can hold on so many bytes of cells and so many marks: the least of REI2_CELLS, the whole cells
-   and the marks. Never refused. */
+/* Returns how many cells a desk can hold if it is lent this many bytes of cells and this many marks: the least of
+   REI2_CELLS, the whole cells and the marks. Never refused.
+   Cost: a few steps.
+   Example:
+   size_t most = rei2_capacity(sizeof cells, REI2_CELLS); */
 size_t rei2_capacity(size_t cells, size_t marks);
 
-/* The first held cell at the index from or behind it that belongs to the seat. Start with 0 and go on behind the cell
-   found, until none is: these are the seat's records in the order in which they came. Takes any state and memory and is
-   never refused; it does not test the desk. Costs a look at each mark that it passes. */
+/* Finds the first held cell that belongs to the seat, beginning at the cell with the index from. To read all records of
+   a seat in the order in which they came, begin with 0 and go on with the index after the cell found, until none is
+   found. Takes any state and memory and is never refused. It does not test the desk.
+   Cost: a look at each mark that it passes.
+   Example:
+   rei2_cell_answer held = rei2_next_held(desk, cells, sizeof cells, marks, REI2_CELLS, a.seat, at); */
 rei2_cell_answer rei2_next_held(rei2_desk desk, const uint8_t *cells, size_t cells_len, const uint32_t *marks,
                                 size_t marks_len, uint32_t seat, size_t from);
 
-/* ---- frames: read to records, written from records. docs/RULES.md has what each field may hold. Each call costs one
-   pass over the frame.
+/* ---- frames. A reader turns the bytes of a frame into a record. A writer turns a record into the bytes of a frame. A
+   record that was read, written again, makes the same bytes. docs/RULES.md says what each field may hold. */
 
-   A reading takes any bytes. Refused with, in this order: KIND, LENGTH, END, ADDRESS, FIELD.
-   A writing is refused with, in this order: RECORD, ROOM. Done: the frame is the first bytes of out, and no other byte
-   of out changes. */
-
+/* Reads a static request: REI2_REQUEST_SIZE bytes, the first one REI2_REQUEST_LEAD. Takes any bytes.
+   Refused with, in this order: KIND, LENGTH, END, ADDRESS, FIELD.
+   Done: request has the values of all fields.
+   Cost: one pass over the frame.
+   Example:
+   rei2_request_answer asked = rei2_read_request(frame, size); */
 rei2_request_answer rei2_read_request(const uint8_t *frame, size_t frame_len);
 
+/* Writes a static request to out.
+   Refused with, in this order: RECORD, ROOM.
+   Done: the first REI2_REQUEST_SIZE bytes of out are the frame, and no other byte of out changes. size is
+   REI2_REQUEST_SIZE.
+   Cost: one pass over the frame.
+   Example:
+   rei2_written_answer written = rei2_write_request(request, out, sizeof out); */
 rei2_written_answer rei2_write_request(rei2_static_request record, uint8_t *out, size_t out_len);
 
+/* Reads a static reply: REI2_REPLY_SIZE bytes, the first one REI2_REPLY_LEAD. Takes any bytes.
+   Refused with, in this order: KIND, LENGTH, END, ADDRESS, FIELD.
+   Done: reply has the values of all fields. Its timing.kind says what time and date are.
+   Cost: one pass over the frame.
+   Example:
+   rei2_reply_answer got = rei2_read_reply(frame, size); */
 rei2_reply_answer rei2_read_reply(const uint8_t *frame, size_t frame_len);
 
-/* Status and information letter say which timing a reply has: REI2_RAW with status Z; otherwise REI2_CLOCK with one of
-   0 K S s a, REI2_NET with one of 1 2 3, and REI2_RAW with any other letter. Parts of the record that its timing does
-   not use must be 0. Behind the parts that stand before the time in the frame, RECORD has these offsets, the first that
-   applies:
+/* Writes a static reply to out.
+
+   Status and information letter say which timing a reply has. With status Z it is REI2_RAW. Otherwise it is REI2_CLOCK
+   with one of the letters 0 K S s a, REI2_NET with one of 1 2 3, and REI2_RAW with any other letter. Parts of the
+   record that its timing does not use must be 0.
+
+   Refused with, in this order: RECORD, ROOM. The parts of the head are checked first. After them RECORD has the first
+   of these offsets that applies:
    30 timing.kind is above 2 or is not the timing asked for; ticks is above 863999999; a byte of raw_time is not one of
       20h to 7Eh
    40 day, month and year are no day of 2000 to 2099; net has more days than seven digits show; a byte of raw_date is
       not one of 20h to 7Eh
    48 a byte of spare is not one of 20h to 7Eh
    50 a part that the timing does not use is not 0: ticks, day, month or year with REI2_NET or REI2_RAW, net with
-      REI2_CLOCK or REI2_RAW, a byte of raw_time or raw_date with REI2_CLOCK or REI2_NET */
+      REI2_CLOCK or REI2_RAW, a byte of raw_time or raw_date with REI2_CLOCK or REI2_NET
+
+   Done: the first REI2_REPLY_SIZE bytes of out are the frame, and no other byte of out changes. size is
+   REI2_REPLY_SIZE.
+   Cost: one pass over the frame.
+   Example:
+   rei2_written_answer written = rei2_write_reply(reply, out, sizeof out); */
 rei2_written_answer rei2_write_reply(rei2_reply_record record, uint8_t *out, size_t out_len);
 
+/* Reads a dynamic request: REI2_DYNAMIC_SIZE bytes, the first one REI2_DYNAMIC_LEAD. Takes any bytes.
+   Refused with, in this order: KIND, LENGTH, END, ADDRESS, FIELD.
+   Done: request has the values of all fields.
+   Cost: one pass over the frame.
+   Example:
+   rei2_dynamic_answer asked = rei2_read_dynamic(frame, size); */
 rei2_dynamic_answer rei2_read_dynamic(const uint8_t *frame, size_t frame_len);
 
+/* Writes a dynamic request to out.
+   Refused with, in this order: RECORD, ROOM.
+   Done: the first REI2_DYNAMIC_SIZE bytes of out are the frame, and no other byte of out changes. size is
+   REI2_DYNAMIC_SIZE.
+   Cost: one pass over the frame.
+   Example:
+   rei2_written_answer written = rei2_write_dynamic(dynamic, out, sizeof out); */
 rei2_written_answer rei2_write_dynamic(rei2_dynamic_request record, uint8_t *out, size_t out_len);
 
 /* ---- captures */
 
-/* The first frame that begins at the index at or behind it. Start with 0 and go on with the answer's next, until
-   REI2_NOTHING: then nothing is left, and next is the capture's length, however far behind the end the index was. A
-   frame begins with a lead byte and runs to its CR; bytes between frames are passed over. Any index is taken, and the
-   call is never refused. Costs a look at each byte up to the end of the frame that it finds. */
+/* Finds the first frame that begins at the index at or later. A frame begins with a lead byte and runs to its CR. Bytes
+   between frames are skipped. To find all frames, begin with 0 and go on with the answer's next, until the answer is
+   REI2_NOTHING. Then nothing is left, and next is the length of the capture, even if at was past its end. Takes any
+   index and is never refused.
+   Cost: a look at each byte up to the end of the frame that it finds.
+   Example:
+   rei2_frame_answer found = rei2_next_frame(in, size, at); */
 rei2_frame_answer rei2_next_frame(const uint8_t *capture, size_t capture_len, size_t at);
 
 /* Writes the list of a capture to out: a heading, the records of each seat in order, and an end line with the counts.
-   A capture of more than REI2_MOST_INPUT bytes gives the text "input too long" and LF, and nothing else. An output of
-   REI2_LONGEST_LIST bytes is always enough.
-   Refused with: ROOM, and then cells, marks and out are as they were.
-   Done: the list is the first bytes of out, and no other byte of out changes. Cells and marks serve as those of an
-   emptied desk: they are overwritten from the first on, one for each reply collected, so lend none that a desk is
-   using. Where the capture was too long they stay as they were.
-   Costs a reading of the capture, thirty-two looks at each held mark and one pass over the list. It keeps 256 cells and
-   marks aside on the stack, 14,080 bytes, beside what taking a capture needs. */
+   For a capture of more than REI2_MOST_INPUT bytes it writes the text "input too long" and LF, and nothing else. An
+   output of REI2_LONGEST_LIST bytes is always long enough.
+   Refused with: ROOM.
+   Done: the list is the first bytes of out, and no other byte of out changes. Cells and marks are used as those of an
+   empty desk: they are overwritten from the first one on, one for each reply collected. Do not lend those of a desk. If
+   the capture was too long they do not change.
+   Cost: one reading of each frame, thirty-two looks at each held mark, and one pass over the list. It keeps 256 cells
+   and marks aside on the stack, 14,080 bytes, in addition to what rei2_capture needs.
+   Example:
+   rei2_listed_answer a = rei2_list(in, size, own_cells, sizeof own_cells, own_marks, REI2_CELLS, out, sizeof out); */
 rei2_listed_answer rei2_list(const uint8_t *capture, size_t capture_len, uint8_t *cells, size_t cells_len,
                              uint32_t *marks, size_t marks_len, uint8_t *out, size_t out_len);
 
 /* ---- running time */
 
-/* Tnow - Tev - Taux in ticks, signed.
-   Refused with: TIME, where tnow, tev or time is above 863999999, sign is above 1, days are above 9, or the bib is 0
-   and tev is not. */
+/* Returns Tnow - Tev - Taux in ticks, with its sign.
+   Refused with: TIME, if tnow, tev or time is above 863999999, sign is above 1, days is above 9, or the bib is 0 and
+   tev is not 0.
+   Cost: a few steps.
+   Example:
+   rei2_running_of of = {41, 363000000, 360000000, 0, 0, 0}; rei2_running_answer running = rei2_running_time(of); */
 rei2_running_answer rei2_running_time(rei2_running_of of);
 
 #ifdef __cplusplus

@@ -1,6 +1,8 @@
-/* watch [FILE]: takes the bytes of the serial line as they come, from a file or from standard input, and says of each
-   frame what became of it. All memory is static; nothing is allocated. */
+/* watch [FILE]: reads the bytes of the serial line as they come, from a file, a device or standard input, and prints
+   for each frame what became of it. All memory is static; nothing is allocated. */
+#include <errno.h>
 #include <fcntl.h>
+#include <poll.h>
 #include <string.h>
 #include <unistd.h>
 
@@ -8,6 +10,11 @@
 
 /* The most bytes read at a time, and the most that are kept while a frame is not whole. Every good frame fits. */
 enum { PIECE = 64, BUFFER = 128 };
+
+/* The exit status. FAILED: the input cannot be read, the output cannot be written, or the library does not fit. */
+enum { DONE = 0, FAILED = 1, MISUSED = 2 };
+
+static const char usage[] = "usage: watch [FILE]: prints what becomes of each frame of FILE or of standard input\n";
 
 /* What the desk knows: its state, and the memory that it is lent for each call. */
 static rei2_desk desk;
@@ -17,15 +24,60 @@ static uint32_t marks[REI2_CELLS];
 
 static rei2_counts counts;
 
-/* Bytes that were read and are not done with, and how many of the stream came before them. A frame is handed to the
-   desk where it lies here, which is apart from the cells. */
+/* Bytes that were read and are not done with, and how many bytes of the stream came before them. The desk is lent a
+   frame where it lies in this buffer, which does not overlap the cells. */
 static uint8_t buffer[BUFFER];
 static size_t have, passed;
 
-/* ---- a line of output */
+/* ---- input and output */
 
+/* May a reading or a writing that failed be tried again? Yes if a signal interrupted it. Yes also if the file was
+   opened not to wait and is not ready; then this waits until it is. A live line is not at its end in either case. */
+static int may_try_again(int file, short event) {
+    struct pollfd awaited = {file, event, 0};
+    if (errno == EINTR) {
+        return 1;
+    }
+    return errno == EAGAIN && (poll(&awaited, 1, -1) >= 0 || errno == EINTR);
+}
+
+/* As read(2): how many bytes were read, 0 at the end of the input, less on an error. */
+static ssize_t read_some(int file, uint8_t *to, size_t size) {
+    ssize_t got;
+    do {
+        got = read(file, to, size);
+    } while (got < 0 && may_try_again(file, POLLIN));
+    return got;
+}
+
+/* Was all of it written? */
+static int write_all(int file, const char *text, size_t size) {
+    while (size > 0) {
+        ssize_t wrote = write(file, text, size);
+        if (wrote > 0) {
+            text += wrote;
+            size -= (size_t)wrote;
+        } else if (wrote == 0 || !may_try_again(file, POLLOUT)) {
+            return 0;
+        }
+    }
+    return 1;
+}
+
+/* Prints a line to standard error: the name of a file, what is wrong with it, and the system's reason. */
+static int failed(const char *name, const char *what) {
+    const char *const parts[] = {"watch: ", name, what, strerror(errno), "\n"};
+    for (size_t i = 0; i < sizeof parts / sizeof parts[0]; i++) {
+        write_all(2, parts[i], strlen(parts[i]));
+    }
+    return FAILED;
+}
+
+/* A line of output, made part by part. It is written when it ends, so that it appears at once. */
 static char line[160];
 static size_t used;
+
+/* 1 once a line could not be written. */
 static int unwritten;
 
 static void put_byte(uint32_t byte) {
@@ -40,7 +92,7 @@ static void put(const char *text) {
     }
 }
 
-/* In decimal, with zeros in front up to a width. */
+/* In decimal, with leading zeros up to a width. */
 static void put_number(size_t number, int width) {
     if (number >= 10 || width > 1) {
         put_number(number / 10, width - 1);
@@ -49,24 +101,26 @@ static void put_number(size_t number, int width) {
 }
 
 static void end_line(void) {
-    size_t done = 0;
     put_byte('\n');
-    while (done < used && !unwritten) {
-        ssize_t wrote = write(1, line + done, used - done);
-        unwritten = wrote <= 0;
-        done += wrote <= 0 ? 0 : (size_t)wrote;
+    if (!unwritten && !write_all(1, line, used)) {
+        unwritten = 1;
+        failed("the output", " cannot be written: ");
     }
     used = 0;
 }
 
 /* ---- frames */
 
-/* Says what a refused frame was refused for. */
-static void refused(const char *what, uint32_t refusal, uint32_t offset) {
+/* What a frame is, by its first byte. */
+static const char *kind_of(const uint8_t *frame) {
+    return frame[0] == REI2_REQUEST_LEAD ? "request" : frame[0] == REI2_REPLY_LEAD ? "reply" : "dynamic request";
+}
+
+/* Prints why a frame was refused. */
+static void refused(uint32_t refusal, uint32_t offset) {
     uint8_t name[REI2_NAME_SIZE];
     rei2_refusal_name(refusal, name, sizeof name);
     counts.refused++;
-    put(what);
     put(" refused, ");
     put((const char *)name);
     if (refusal == REI2_FIELD) {
@@ -75,15 +129,14 @@ static void refused(const char *what, uint32_t refusal, uint32_t offset) {
     }
 }
 
-/* Goes on with the state that a call gave, and says what it answered. */
-static void answered(rei2_desk_answer answer, const char *what, const char *done, size_t *count) {
+/* Goes on with the state that a call returned, and prints its answer. */
+static void answered(rei2_desk_answer answer, const char *done, size_t *count) {
     desk = answer.desk;
     if (answer.refusal != REI2_DONE) {
-        refused(what, answer.refusal, answer.offset);
+        refused(answer.refusal, answer.offset);
         return;
     }
     ++*count;
-    put(what);
     put(done);
     put_number(answer.seat, 1);
 }
@@ -91,37 +144,46 @@ static void answered(rei2_desk_answer answer, const char *what, const char *done
 static void dynamic(const uint8_t *frame, size_t size) {
     rei2_dynamic_answer answer = rei2_read_dynamic(frame, size);
     if (answer.refusal != REI2_DONE) {
-        refused("dynamic request", answer.refusal, answer.offset);
+        refused(answer.refusal, answer.offset);
         return;
     }
     counts.dynamic++;
-    put("dynamic request from ");
+    put(" from ");
     put_byte(answer.request.requester);
 }
 
-/* A whole frame goes where its first byte says. */
-static void meet(size_t start, size_t size) {
-    const uint8_t *frame = buffer + start;
-    put_number(passed + start, 1);
-    put(" ");
+/* A whole frame goes to the call for its first byte. */
+static void whole(const uint8_t *frame, size_t size) {
     if (frame[0] == REI2_REQUEST_LEAD) {
         answered(rei2_open(seats, REI2_SEATS, desk, cells, sizeof cells, marks, REI2_CELLS, frame, size),
-                 "request", " opened at seat ", &counts.opened);
+                 " opened at seat ", &counts.opened);
     } else if (frame[0] == REI2_REPLY_LEAD) {
         answered(rei2_reply(seats, REI2_SEATS, desk, cells, sizeof cells, marks, REI2_CELLS, frame, size),
-                 "reply", " taken by seat ", &counts.collected);
+                 " taken by seat ", &counts.collected);
     } else {
         dynamic(frame, size);
     }
-    end_line();
 }
 
-static void cut(size_t start, size_t size) {
+static void cut(size_t size) {
     counts.refused++;
-    put_number(passed + start, 1);
-    put(" cut after ");
+    put(" refused, cut after ");
     put_number(size, 1);
     put(" bytes");
+}
+
+/* Prints the line of a frame in the buffer: its place in the stream, its kind, and what became of it. */
+static void take(rei2_frame_answer found) {
+    const uint8_t *frame = buffer + found.start;
+    size_t size = found.end - found.start;
+    put_number(passed + found.start, 1);
+    put(" ");
+    put(kind_of(frame));
+    if (found.kind == REI2_WHOLE) {
+        whole(frame, size);
+    } else {
+        cut(size);
+    }
     end_line();
 }
 
@@ -132,41 +194,44 @@ static void drop(size_t count) {
     passed += count;
 }
 
-/* Meets the frames in the buffer. One without its CR is cut for good where another begins behind it, where the input is
-   at its end, and where it fills the whole buffer; otherwise the rest of it may still come, and it is kept. */
+/* Is a frame without its CR cut for good? It is if another frame begins after it, if the input is at its end, or if it
+   fills the whole buffer. Otherwise the rest of it may still come. */
+static int is_over(rei2_frame_answer found, int at_end) {
+    return found.next < have || at_end || found.end - found.start == BUFFER;
+}
+
+/* Takes the frames in the buffer. A last one that is not over is kept. */
 static void take_frames(int at_end) {
     rei2_frame_answer found = rei2_next_frame(buffer, have, 0);
     while (found.kind != REI2_NOTHING) {
-        size_t size = found.end - found.start;
-        if (found.kind == REI2_WHOLE) {
-            meet(found.start, size);
-        } else if (found.next < have || at_end || size == BUFFER) {
-            cut(found.start, size);
-        } else {
+        if (found.kind == REI2_CUT && !is_over(found, at_end)) {
             drop(found.start);
             return;
         }
+        take(found);
         found = rei2_next_frame(buffer, have, found.next);
     }
     drop(have);
 }
 
-/* Reads to the end of input or to an error. The buffer is never full before a reading, since take_frames drops what
-   fills it. Gives what the last reading gave: 0 at the end, less on an error. */
-static ssize_t watch(int file) {
+/* Reads to the end of the input, to an error, or until the output cannot be written. The buffer is never full before a
+   reading, because take_frames drops what fills it. Returns 0 at the end of the input, and errno on an error. */
+static int watch(int file) {
     ssize_t got;
+    int error;
     do {
         size_t room = BUFFER - have;
-        got = read(file, buffer + have, room < PIECE ? room : PIECE);
+        got = read_some(file, buffer + have, room < PIECE ? room : PIECE);
+        error = got < 0 ? errno : 0;
         have += got > 0 ? (size_t)got : 0;
         take_frames(got <= 0);
-    } while (got > 0);
-    return got;
+    } while (got > 0 && !unwritten);
+    return error;
 }
 
 /* ---- the end */
 
-static void tell_seat(size_t i) {
+static void print_seat(size_t i) {
     put("seat ");
     put_number(i, 1);
     put(": ");
@@ -179,47 +244,63 @@ static void tell_seat(size_t i) {
     end_line();
 }
 
-static void tell_count(const char *before, size_t count, const char *after) {
+static void put_count(const char *before, size_t count, const char *after) {
     put(before);
     put_number(count, 1);
     put(after);
 }
 
-static void tell_end(void) {
+/* The seats in use, and the counts. */
+static void print_end(void) {
     for (size_t i = 0; i < REI2_SEATS; i++) {
         if (desk.bits >> i & 1) {
-            tell_seat(i);
+            print_seat(i);
         }
     }
-    tell_count("", counts.opened, " opened");
-    tell_count(", ", counts.collected, " collected");
-    tell_count(", ", counts.dynamic, " dynamic");
-    tell_count(", ", counts.refused, " refused");
+    put_count("", counts.opened, " opened");
+    put_count(", ", counts.collected, " collected");
+    put_count(", ", counts.dynamic, " dynamic");
+    put_count(", ", counts.refused, " refused");
     end_line();
 }
 
-/* The arrays are as long as the header says. The library says for itself what it takes. */
-static int is_made_for_it(void) {
+/* The arrays are as long as the header says. The library says what it needs. */
+static int library_fits(void) {
     rei2_limits_answer limits = rei2_limits();
     return limits.seats == REI2_SEATS && limits.cells == sizeof cells && limits.marks == REI2_CELLS;
 }
 
-static int tell_error(const char *text) {
-    used = 0;
-    put("watch: ");
-    put(text);
-    put("\n");
-    unwritten |= write(2, line, used) < 0;
-    return 1;
+/* Watches an open file. If nothing at all could be read, no counts are printed: they would look like those of an empty
+   input. */
+static int watch_file(int file, const char *name) {
+    desk = rei2_reset(seats, REI2_SEATS, desk).desk;
+    int error = watch(file);
+    if (error == 0 || passed > 0) {
+        print_end();
+    }
+    if (error != 0) {
+        errno = error;
+        return failed(name, " cannot be read: ");
+    }
+    return unwritten ? FAILED : DONE;
 }
 
 int main(int words, char **word) {
-    if (!is_made_for_it()) {
-        return tell_error("the library is not the one of its header");
+    if (words > 2) {
+        write_all(2, usage, sizeof usage - 1);
+        return MISUSED;
     }
-    int file = words > 1 ? open(word[1], O_RDONLY) : 0;
-    desk = rei2_reset(seats, REI2_SEATS, desk).desk;
-    ssize_t ended = watch(file);
-    tell_end();
-    return ended < 0 ? tell_error("the input cannot be read") : unwritten;
+    if (words == 2 && strcmp(word[1], "--help") == 0) {
+        return write_all(1, usage, sizeof usage - 1) ? DONE : FAILED;
+    }
+    if (!library_fits()) {
+        static const char text[] = "watch: the library is not the one that its header was made for\n";
+        write_all(2, text, sizeof text - 1);
+        return FAILED;
+    }
+    if (words < 2) {
+        return watch_file(0, "standard input");
+    }
+    int file = open(word[1], O_RDONLY | O_NOCTTY);
+    return file < 0 ? failed(word[1], " cannot be opened: ") : watch_file(file, word[1]);
 }

@@ -8,7 +8,7 @@
 
 enum { GUARD = 32, ROW = REI2_SEATS * sizeof(rei2_seat), CELLS = REI2_CELLS * REI2_CELL_SIZE };
 
-/* All that is lent, with guard bytes before, between and behind. */
+/* All that is lent, with guard bytes before, between and after. */
 struct lent {
     uint8_t before[GUARD];
     rei2_seat seats[REI2_SEATS];
@@ -21,7 +21,7 @@ struct lent {
     uint8_t behind[GUARD];
 };
 
-/* What is lent, and what is to be in it. */
+/* What is lent, and what it must hold after a call. */
 static struct lent lent, wanted;
 
 static void fill_lent(void) {
@@ -43,7 +43,7 @@ static void is_as_wanted(void) {
 
 /* ---- the example */
 
-/* The three replies that the example's desk takes stand at these places of the capture. */
+/* The three replies that the desk takes are next to each other in the example, from byte 48 on. */
 static void want_example_cells(void) {
     memcpy(wanted.cells, example_capture + 48, 3 * REI2_CELL_SIZE);
     wanted.marks[0] = 0;
@@ -57,7 +57,7 @@ static void want_example(void) {
     want_example_cells();
 }
 
-/* A frame of the example, and what it is answered. */
+/* A frame of the example, the answer to it, and the first two seats after it. */
 struct step {
     size_t start;
     size_t end;
@@ -83,7 +83,7 @@ static rei2_desk_answer met(rei2_desk desk, const uint8_t *frame, size_t size) {
     return rei2_reply(lent.seats, REI2_SEATS, desk, lent.cells, CELLS, lent.marks, REI2_CELLS, frame, size);
 }
 
-/* What a step changes: the seats, and with a reply that is taken a cell and its mark. */
+/* What a step changes: the seats, and for a reply that is taken also a cell and its mark. */
 static void want_step(const struct step *step, uint32_t count) {
     memcpy(wanted.seats, step->seats, sizeof step->seats);
     if (example_capture[step->start] == REI2_REPLY_LEAD && step->refusal == REI2_DONE) {
@@ -131,7 +131,7 @@ static void example_at_once(void) {
     is_as_wanted();
 }
 
-/* In two parts, the state handed on between them. */
+/* In two parts: the second call gets the state that the first returned. */
 static void example_in_parts(void) {
     rei2_captured_answer first = captured(empty_desk(), example_capture, 99);
     CHECK(counts_are(first.counts, 2, 1, 0, 0));
@@ -197,7 +197,7 @@ static void example_list_is_stored(void) {
 /* The first line of every list. */
 enum { HEADING = 62 };
 
-/* With fewer cells than replies the others are refused. */
+/* With one cell only the first reply is taken, and the others are refused. */
 static void example_in_one_cell(void) {
     static const char one[] = "0\t1\t007\t00015\t000\t002\t000\t000\tP\t0000000000\t00000000\tR\nend\t2\t1\t0\t3\n";
     fill_lent();
@@ -212,7 +212,7 @@ static void example_in_one_cell(void) {
     is_as_wanted();
 }
 
-/* A capture of the most bytes is listed, one more gives a line of its own. */
+/* A capture of the most bytes is listed. With one byte more the list is the line "input too long". */
 static void long_input(void) {
     static uint8_t noise[REI2_MOST_INPUT + 1], nothing[HEADING + 12];
     memcpy(nothing, example_list, HEADING);
@@ -233,7 +233,7 @@ static void finds(const char *capture, size_t size, size_t at, rei2_frame_answer
     CHECK(got.kind == wants.kind && got.start == wants.start && got.end == wants.end && got.next == wants.next);
 }
 
-/* Nothing is left: the search goes on at the end of the capture, wherever it began. */
+/* Nothing is left: next is the length of the capture, wherever the search began. */
 static void finds_nothing(const char *capture, size_t size, size_t at) {
     finds(capture, size, at, (rei2_frame_answer){REI2_NOTHING, 0, 0, size});
 }
@@ -258,7 +258,7 @@ static void finder(void) {
     finds_nothing(capture, SIZE, SIZE_MAX);
 }
 
-/* A loop that goes on with next passes all frames and ends at the capture's length. */
+/* A loop that goes on with next finds all frames and ends at the capture's length. */
 static void finder_in_a_loop(void) {
     size_t frames = 0, at = 0;
     while (at < EXAMPLE_CAPTURE && frames <= STEPS) {

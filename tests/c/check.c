@@ -7,7 +7,7 @@ static int passed, failed;
 static const char *tried;
 static int met[REI2_FULL + 1];
 
-/* Counts a check; says whether its failure is to be told, and tells where it stands. */
+/* Counts a check. If it failed, prints where it is and what it was about, and returns 1. */
 static int fails(int good, struct place place) {
     if (good) {
         passed++;

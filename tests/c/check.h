@@ -1,10 +1,10 @@
-/* Checks that count. A check that fails prints a line with file and line, and the test goes on. */
+/* Checks that are counted. A check that fails prints a line with its file and line number, and the test goes on. */
 #ifndef CHECK_H
 #define CHECK_H
 
 #include "rei2.h"
 
-/* Where a check stands, and what it was about. */
+/* Where a check is, and what it is about. */
 struct place {
     const char *file;
     int line;
@@ -18,10 +18,10 @@ struct place {
 /* Two runs of bytes are the same. */
 #define SAME(got, wanted, size) check_same(got, wanted, size, HERE(#got))
 
-/* An answer has this refusal and this offset; the refusal is noted as met. */
+/* An answer has this refusal and this offset. The refusal is noted for was_said. */
 #define SAYS(answer, refusal, offset) check_said(SAID(answer), (struct said){refusal, offset}, HERE(#answer))
 
-/* Refusal and offset of an answer; the offset is 0 where the answer has none. */
+/* Refusal and offset of an answer. The offset is 0 if the answer has none. */
 struct said {
     uint32_t refusal;
     uint32_t offset;
@@ -52,13 +52,13 @@ void check(int good, struct place place);
 void check_same(const void *got, const void *wanted, size_t size, struct place place);
 void check_said(struct said got, struct said wanted, struct place place);
 
-/* What is tried now, for the lines of checks that stand in a loop; null for nothing. */
+/* Sets what is being tried, for the lines of checks in a loop; null for nothing. */
 void trying(const char *what);
 
 /* Has a call answered with this refusal? */
 int was_said(uint32_t refusal);
 
-/* Prints the counts. Gives the exit status: 0 where checks ran and none failed. */
+/* Prints the counts. Returns the exit status: 0 if checks ran and none failed, and otherwise 1. */
 int verdict(void);
 
 #endif

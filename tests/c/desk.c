@@ -1,4 +1,4 @@
-/* Openings and replies on a good desk: what they answer, in which order they refuse, what they leave of the memory. */
+/* Openings and replies on a good desk: what they answer, in which order they refuse, and what they change. */
 #include <string.h>
 
 #include "made.h"
@@ -105,7 +105,7 @@ static void a_full_desk_refuses_last(void) {
     SAYS(table_opens(&now, 'c', "001"), REI2_DONE, 0);
 }
 
-/* A desk that is lent a cell and a mark more than it can hold, with one seat open. */
+/* A desk with one seat open, which is lent one cell and one mark more than it can hold. */
 enum { MORE = REI2_CELLS + 1 };
 static rei2_seat seats[REI2_SEATS];
 static uint8_t cells[MORE * REI2_CELL_SIZE];
@@ -188,7 +188,7 @@ static void records_are_read_back(void) {
     CHECK(now.memory.cells[3 * REI2_CELL_SIZE + 5] == 'E');
 }
 
-/* No state is refused, and nothing is read that is not lent. */
+/* Any state is taken, and nothing is read that is not lent. */
 static void any_state_is_read_back(void) {
     table_laid(&now);
     now.desk.count = UINT32_MAX;
@@ -198,7 +198,7 @@ static void any_state_is_read_back(void) {
     holds(3, NULL, 0);
 }
 
-/* ---- null where the count is 0 */
+/* ---- null pointers with the count 0 */
 
 static void nothing_lent(void) {
     uint8_t frame[REI2_REPLY_SIZE];

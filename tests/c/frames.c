@@ -7,7 +7,7 @@
 
 /* ---- what the readers have in common */
 
-/* What a reading says, and whether its record is the one that stands beside a refusal. */
+/* What a reading answers, and whether its record is all zero, as it is if the frame was refused. */
 struct reading {
     struct said said;
     int empty;
@@ -56,7 +56,7 @@ static struct reading read_dynamic(const uint8_t *frame, size_t size) {
     return (struct reading){SAID(a), zero_dynamic(a.request)};
 }
 
-/* Where the fields begin; a 0 behind the last. */
+/* Where the fields begin, and a 0 after the last. */
 static const uint8_t request_fields[] = {3, 4, 7, 12, 13, 16, 19, 22, 0};
 static const uint8_t reply_fields[] = {3, 4, 5, 6, 7, 12, 17, 20, 23, 26, 29, 30, 40, 48, 0};
 static const uint8_t dynamic_fields[] = {3, 4, 5, 10, 13, 16, 21, 24, 27, 28, 38, 39, 44, 0};
@@ -102,7 +102,7 @@ static void lengths(const struct kind *kind) {
     CHECK(!good.empty);
 }
 
-/* Where the field that a byte belongs to begins. */
+/* Where the field begins that a byte belongs to. */
 static uint32_t field_of(const struct kind *kind, size_t at) {
     const uint8_t *field = kind->fields;
     while (field[1] != 0 && field[1] <= at) {
@@ -140,7 +140,7 @@ static void other_kinds(const struct kind *kind) {
     }
 }
 
-/* What is wrong first is told: the end before the address, the address before a field, a field before a later one. */
+/* The first fault is reported: the end before the address, the address before a field, a field before a later one. */
 static void in_order(const struct kind *kind) {
     uint8_t frame[REI2_REPLY_SIZE];
     memcpy(frame, kind->frame, sizeof frame);
@@ -165,7 +165,7 @@ static void reading(void) {
     trying(NULL);
 }
 
-/* ---- what the writers have in common: an output with bytes behind the frame */
+/* ---- what the writers have in common: an output with bytes after the frame */
 
 enum { OUT = 64 };
 static uint8_t out[OUT], out_was[OUT];
@@ -175,7 +175,7 @@ static void clear_out(void) {
     memcpy(out_was, out, OUT);
 }
 
-/* The frame was written, and nothing behind it. */
+/* The frame was written, and no byte after it changed. */
 static void wrote(rei2_written_answer answer, const uint8_t *frame, size_t size) {
     SAYS(answer, REI2_DONE, 0);
     CHECK(answer.size == size);
@@ -184,7 +184,7 @@ static void wrote(rei2_written_answer answer, const uint8_t *frame, size_t size)
     clear_out();
 }
 
-/* It was not, and no byte of the output changed. */
+/* The record was refused, and no byte of the output changed. */
 static void wrote_not(rei2_written_answer answer, uint32_t refusal, uint32_t offset) {
     SAYS(answer, refusal, offset);
     CHECK(answer.size == 0);
@@ -209,7 +209,7 @@ static void request_written(void) {
     wrote_not(rei2_write_request(r, NULL, 0), REI2_ROOM, 0);
 }
 
-/* Each part wrong from the last to the first: the first wrong part is told, and RECORD before ROOM. */
+/* The parts are made wrong from the last to the first. The first wrong part is reported, and RECORD before ROOM. */
 static void request_parts(void) {
     rei2_static_request r = rei2_read_request(kinds[0].frame, REI2_REQUEST_SIZE).request;
     r.output = 'C';
@@ -290,7 +290,7 @@ static void reply_refused(rei2_reply_record r, uint32_t offset) {
     wrote_not(rei2_write_reply(r, out, OUT), REI2_RECORD, offset);
 }
 
-/* The parts before the time wrong, from the last to the first, whatever is wrong behind them. */
+/* The parts before the time are made wrong from the last to the first, whatever is wrong after them. */
 static void spoil_head(rei2_reply_record r) {
     r.head.information = 'L';
     reply_refused(r, 29);
@@ -320,7 +320,7 @@ static void reply_parts(void) {
     spoil_head(reply_in(clock_frame));
 }
 
-/* Time and date that are none, and left-over raw bytes, from the last to the first. */
+/* A wrong time, a wrong date and raw bytes that are not used, from the last to the first. */
 static void reply_clock(void) {
     rei2_reply_record r = reply_in(clock_frame);
     r.raw_date[7] = 1;
@@ -363,7 +363,7 @@ static void reply_raw(void) {
     reply_refused(r, 30);
 }
 
-/* A timing of another kind, and a code above 2, whatever numbers stand beside it. */
+/* A timing of another kind, and a code above 2, whatever the numbers of the timing are. */
 static void reply_timing(void) {
     const struct {
         const uint8_t *frame;
@@ -388,7 +388,7 @@ static void reply_timing(void) {
     }
 }
 
-/* A record with one number beside its timing, put where the timing does not use it. */
+/* The numbers of a timing. with_number sets one of them, which the timing of its record does not use. */
 enum number { TICKS, DAY, MONTH, YEAR, NET, NUMBERS };
 
 static rei2_reply_record with_number(rei2_reply_record r, int number) {
@@ -411,7 +411,7 @@ static rei2_reply_record with_number(rei2_reply_record r, int number) {
     return r;
 }
 
-/* The other parts wrong, from the last to the first: each is told, and not the number that is left over. */
+/* The other parts are made wrong from the last to the first. Each is reported before the number that is not used. */
 static void parts_first(rei2_reply_record r) {
     r.spare[0] = 0;
     reply_refused(r, 48);
@@ -434,7 +434,7 @@ static void parts_first(rei2_reply_record r) {
     spoil_head(r);
 }
 
-/* A number that the timing does not use: wrong at the CR, after every other part, and with any output. */
+/* A number that the timing does not use is wrong at the offset of the CR, after every other part, for any output. */
 static void reply_left_over(void) {
     const uint8_t *const frames[] = {clock_frame, net_frame, raw_frame};
     for (size_t i = 0; i < 3; i++) {

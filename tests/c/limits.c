@@ -1,4 +1,4 @@
-/* What a host must lend: the library's numbers are the header's. */
+/* What a host must lend: the library returns the numbers of the header. */
 #include "check.h"
 #include "tests.h"
 

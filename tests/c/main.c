@@ -1,5 +1,5 @@
-/* Calls each exported function of librei2.a. With no word it runs the checks; with the word capture or list it writes
-   the example that it has, for tests/c/run to compare. */
+/* Calls each exported function of librei2.a. Without an argument it runs the checks. With the argument capture or list
+   it writes its example of that, for tests/c/run to compare. */
 #include <string.h>
 #include <unistd.h>
 

@@ -5,7 +5,7 @@
 #include "made.h"
 #include "tests.h"
 
-/* By number; what is behind the last is unknown. */
+/* The names by their numbers. Any number after FULL has the last name. */
 static const char *const names[] = {
     "DONE", "KIND", "LENGTH", "END", "ADDRESS", "FIELD", "RECORD", "ROOM", "TIME", "DESK",
     "NO ANSWER DUE", "IN USE", "NO SEAT", "STRAY", "ENDED", "OUT OF PLACE", "FULL", "UNKNOWN",
@@ -20,7 +20,7 @@ static void clear_out(void) {
     memcpy(wanted, out, OUT);
 }
 
-/* With so much room the name is written with its zero byte, and nothing behind them. */
+/* With this much room the name is written with its zero byte, and no byte after them changes. */
 static void is_named(uint32_t refusal, const char *name, size_t room) {
     clear_out();
     rei2_written_answer answer = rei2_refusal_name(refusal, out, room);
@@ -30,7 +30,7 @@ static void is_named(uint32_t refusal, const char *name, size_t room) {
     SAME(out, wanted, OUT);
 }
 
-/* With so little it is not, and nothing changes. */
+/* With this much room it is refused, and nothing changes. */
 static void has_no_room(uint32_t refusal, size_t room) {
     clear_out();
     rei2_written_answer answer = rei2_refusal_name(refusal, out, room);
@@ -50,7 +50,7 @@ static void names_of(uint32_t refusal, const char *name) {
     trying(NULL);
 }
 
-/* The longest one fills an output of REI2_NAME_SIZE bytes. */
+/* The longest name fills an output of REI2_NAME_SIZE bytes. */
 static void longest_name(void) {
     size_t longest = 0;
     for (size_t i = 0; i < NAMES; i++) {

@@ -5,7 +5,7 @@
 #include "table.h"
 #include "tests.h"
 
-/* ---- one thing spoiled of the desk that table_laid makes */
+/* ---- each function spoils one thing of the desk that table_laid makes */
 
 static rei2_seat *seat(struct table *t, int i) { return &t->memory.seats[i]; }
 static uint8_t *cell(struct table *t, int i) { return &t->memory.cells[i * REI2_CELL_SIZE]; }
@@ -129,7 +129,7 @@ static void captures_nothing(rei2_captured_answer answer) {
     KEPT(&now);
 }
 
-/* Frames that the desk takes, or would take if it were one, one behind the other. */
+/* Frames, one after the other, that the desk would take if it were not spoiled. */
 static uint8_t frames[REI2_REQUEST_SIZE + REI2_REPLY_SIZE];
 
 static void make_frames(void) {
@@ -137,7 +137,7 @@ static void make_frames(void) {
     make_reply(frames + REI2_REQUEST_SIZE, 'R', 'A', "00012");
 }
 
-/* Opening, reply and capture are refused, with frames that are good and with none: DESK is tried first. */
+/* Opening, reply and capture are refused, with good frames and with none: DESK is tried first. */
 static void refuses_all(void) {
     REFUSED(&now, table_open(&now, frames, REI2_REQUEST_SIZE), REI2_DESK, 0);
     REFUSED(&now, table_open(&now, frames, 0), REI2_DESK, 0);
@@ -147,7 +147,7 @@ static void refuses_all(void) {
     captures_nothing(table_capture(&now, frames, 0));
 }
 
-/* The reset takes any state: sixteen seats of 0, and nothing else changes. */
+/* The reset takes any state. The seats are all 0 after it, and nothing else changes. */
 static void is_reset(void) {
     rei2_desk_answer answer = table_reset(&now);
     SAYS(answer, REI2_DONE, 0);
@@ -156,7 +156,7 @@ static void is_reset(void) {
     KEPT(&now);
 }
 
-/* What is spoiled below is good before. */
+/* The desk is good before it is spoiled. */
 static void laid_is_a_desk(void) {
     table_laid(&now);
     SAYS(table_open(&now, frames, REI2_REQUEST_SIZE), REI2_DONE, 0);
@@ -187,7 +187,7 @@ static void garbage(void) {
     trying(NULL);
 }
 
-/* Rows that are not of sixteen seats: the reset is refused too. */
+/* Rows that do not have sixteen seats: the reset is refused too. */
 static void other_rows(void) {
     static const size_t lengths[] = {0, 1, 15, 17};
     static const char *const names[] = {"a row of 0", "a row of 1", "a row of 15", "a row of 17"};

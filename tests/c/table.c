@@ -62,7 +62,7 @@ rei2_captured_answer table_capture(struct table *table, const uint8_t *capture, 
                         table->marks_len, m->input, size);
 }
 
-/* The state goes on with what a call that was done gave. */
+/* If the call was done, goes on with the state that it returned. */
 static rei2_desk_answer kept(struct table *table, rei2_desk_answer answer) {
     if (answer.refusal == REI2_DONE) {
         table->desk = answer.desk;

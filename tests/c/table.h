@@ -1,4 +1,4 @@
-/* A desk with all that it is lent, and guard bytes before, between and behind, which no call may touch. */
+/* A desk with all that it is lent, and guard bytes before, between and after, which no call may change. */
 #ifndef TABLE_H
 #define TABLE_H
 
@@ -19,7 +19,7 @@ struct memory {
     uint8_t behind[GUARD];
 };
 
-/* The state, how many seats, bytes of cells and marks are lent, the memory, and what it was before the last call. */
+/* The state; how many seats, bytes of cells and marks are lent; the memory, now and before the last call. */
 struct table {
     rei2_desk desk;
     size_t seats_len;
@@ -38,23 +38,23 @@ void table_emptied(struct table *table);
 /* A desk with four seats: 1 007 holds R and E, A 012 holds R, z 000 nothing, a 999 a Z. Two cells are free. */
 void table_laid(struct table *table);
 
-/* The calls. A frame or capture is copied to the table's input first, and then all memory to what it was. */
+/* The calls. First a frame or a capture is copied to memory.input, and then all of memory is copied to was. */
 rei2_desk_answer table_reset(struct table *table);
 rei2_desk_answer table_open(struct table *table, const uint8_t *frame, size_t size);
 rei2_desk_answer table_reply(struct table *table, const uint8_t *frame, size_t size);
 rei2_captured_answer table_capture(struct table *table, const uint8_t *capture, size_t size);
 
-/* Opens a good request or takes a good reply; where that was done the table has the state that came back. */
+/* Opens a good request or takes a good reply. If that was done, the table has the state that was returned. */
 rei2_desk_answer table_opens(struct table *table, char requester, const char *number);
 rei2_desk_answer table_takes(struct table *table, char status, char requester, const char *number);
 
-/* The memory is what it was. A test that expects a change makes it in what it was first. */
+/* The memory is the same as was. A test that expects a change makes it in was first. */
 #define KEPT(table) SAME(&(table)->memory, &(table)->was, sizeof(struct memory))
 
 /* Are two states the same? */
 int same_desk(rei2_desk a, rei2_desk b);
 
-/* Was the call refused so, with this offset, the state handed back, and no seat named? */
+/* The call was refused with this refusal and offset, returned the state that it was given, and named no seat. */
 #define REFUSED(table, answer, refusal, offset) \
     table_refused(table, answer, refusal, offset, HERE(#answer))
 void table_refused(struct table *table, rei2_desk_answer answer, uint32_t refusal, uint32_t offset, struct place place);

@@ -1,4 +1,4 @@
-/* The themes of the test, a file each. */
+/* The parts of the test, a file each. */
 #ifndef TESTS_H
 #define TESTS_H
 

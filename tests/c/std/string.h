@@ -7,5 +7,6 @@ void *memcpy(void *to, const void *from, size_t size);
 void *memmove(void *to, const void *from, size_t size);
 void *memset(void *at, int byte, size_t size);
 int strcmp(const char *a, const char *b);
+char *strerror(int number);
 size_t strlen(const char *text);
 #endif
