@@ -87,18 +87,19 @@ extern "C" {
     fn posix_openpt(flags: i32) -> i32;
     fn grantpt(master: i32) -> i32;
     fn unlockpt(master: i32) -> i32;
-    fn ptsname(master: i32) -> *const std::ffi::c_char;
+    fn ptsname_r(master: i32, name: *mut std::ffi::c_char, size: usize) -> i32;
 }
 
-/// A line of the system that stands in for the serial line: what is written to the first end arrives at the port, whose name is second.
-/// Only one test may make one, since the name is kept in one place by the C library.
+/// A pseudo-terminal that stands in for the serial line. What is written to the first end arrives at the port, whose name is second.
 pub fn line() -> (File, PathBuf) {
     const READ_WRITE_NO_CONTROL: i32 = 0o2 | 0o400;
-    // SAFETY: the descriptor is new and has no other owner; the name is read before any other call changes it.
+    let mut name = [0; 100];
+    // SAFETY: the descriptor is new and has no other owner, and the name ends within its array.
     unsafe {
         let master = posix_openpt(READ_WRITE_NO_CONTROL);
-        assert!(master >= 0 && grantpt(master) == 0 && unlockpt(master) == 0, "no line to be had");
-        let port = CStr::from_ptr(ptsname(master)).to_str().expect("a name").into();
+        assert!(master >= 0 && grantpt(master) == 0 && unlockpt(master) == 0, "no pseudo-terminal to be had");
+        assert_eq!(ptsname_r(master, name.as_mut_ptr(), name.len()), 0);
+        let port = CStr::from_ptr(name.as_ptr()).to_str().expect("a name").into();
         (File::from_raw_fd(master), port)
     }
 }

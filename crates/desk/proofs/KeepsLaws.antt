@@ -19,7 +19,7 @@ use Rattle.desk.specs.Desk.{isDesk, allSeats}
 use Rattle.desk.specs.Calls.{Outcome, openTried, opens, replyTried, replies, emptied, resets}
 use Rattle.desk.specs.Capture.{fates, afterAll, countsOf}
 use Rattle.desk.specs.Keeps.{RefusedKeeps, SameSeat, KeepsMemory}
-use Rattle.desk.proofs.WrittenLaws.{length-with, before-with, behind-with}
+use Rattle.desk.proofs.WrittenLaws.{length-with, before-with, after-with}
 use Rattle.desk.proofs.StepLaws.{took, took-room, opens-taken}
 use Rattle.desk.proofs.DeskLaws.{taken-other, records-other, opened-other, other-bit}
 use Rattle.desk.proofs.MixLaws.{after-taken, after-refused, after-opened, after-not-opened, lent}
@@ -56,7 +56,7 @@ module _ (m : Memory) (f : List ℕ) where
   back-cells : (j : ℕ) → m .count * cellSize + cellSize ≤ j → (a : Told Taking) → replyTried m f ≡ a → getD (replies m f .after .cells) j 0 ≡ getD (m .cells) j 0
   back-cells j l (gives t) e =
       let r = took-room m f t (took m f t e) in
-      rw (after-taken m f t e) (behind-with (m .cells) (m .count * cellSize) f (r .cells) (r .frame) j l)
+      rw (after-taken m f t e) (after-with (m .cells) (m .count * cellSize) f (r .cells) (r .frame) j l)
   back-cells j l (refuses why) e = rw (after-refused m f why e)
 
   else-marks : (j : ℕ) → (j ≡ m .count → ⊥) → (a : Told Taking) → replyTried m f ≡ a → markAt (replies m f .after .marks) j ≡ markAt (m .marks) j
@@ -115,6 +115,6 @@ keeps-memory = record {
   reply-bits = λ m f. same-bits m f (replyTried m f) refl;
   reply-sizes = λ m f. sizes m f (replyTried m f) refl;
   cells-before = λ m f j l. front-cells m f j l (replyTried m f) refl;
-  cells-behind = λ m f j l. back-cells m f j l (replyTried m f) refl;
+  cells-after = λ m f j l. back-cells m f j l (replyTried m f) refl;
   other-marks = λ m f j n. else-marks m f j n (replyTried m f) refl;
 }

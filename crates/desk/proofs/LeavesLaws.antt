@@ -24,11 +24,11 @@ use Rattle.desk.proofs.CaptureLaws.{by-lead, meets-desk}
 pub record Leaves (m x : Memory) : Type 0 where
   pub cells : length (x .cells) ≡ length (m .cells)
   pub marks : length (x .marks) ≡ length (m .marks)
-  pub cells-behind : drop storeSize (x .cells) ≡ drop storeSize (m .cells)
-  pub marks-behind : drop mostCells (x .marks) ≡ drop mostCells (m .marks)
+  pub cells-after : drop storeSize (x .cells) ≡ drop storeSize (m .cells)
+  pub marks-after : drop mostCells (x .marks) ≡ drop mostCells (m .marks)
 
 same : (m : Memory) → Leaves m m
-same m = record { cells = refl; marks = refl; cells-behind = refl; marks-behind = refl }
+same m = record { cells = refl; marks = refl; cells-after = refl; marks-after = refl }
 
 leaves-by : (m : Memory) (f : List ℕ) (a : Told Taking) → replyTried m f ≡ a → Leaves m (replies m f .after)
 leaves-by m f (gives t) e =
@@ -37,8 +37,8 @@ leaves-by m f (gives t) e =
     record {
       cells = s .0;
       marks = s .1;
-      cells-behind = rw (after-taken m f t e) (drop-with (m .cells) (m .count * cellSize) f (r .cells) (r .frame) storeSize (omega (arith, r .count)));
-      marks-behind = rw (after-taken m f t e) (drop-set-lt mostCells (m .marks) (m .count) (t .seat) (r .count));
+      cells-after = rw (after-taken m f t e) (drop-with (m .cells) (m .count * cellSize) f (r .cells) (r .frame) storeSize (omega (arith, r .count)));
+      marks-after = rw (after-taken m f t e) (drop-set-lt mostCells (m .marks) (m .count) (t .seat) (r .count));
     }
 leaves-by m f (refuses why) e = rw (after-refused m f why e) (same m)
 
@@ -46,7 +46,7 @@ open-leaves : (m : Memory) (f : List ℕ) → Leaves m (opens m f .after)
 open-leaves m f =
     let c = keeps-memory .opening-cells m f in
     let k = keeps-memory .opening-marks m f in
-    record { cells = ap length c; marks = ap length k; cells-behind = ap (drop storeSize) c; marks-behind = ap (drop mostCells) k }
+    record { cells = ap length c; marks = ap length k; cells-after = ap (drop storeSize) c; marks-after = ap (drop mostCells) k }
 
 meets-leaves : (m : Memory) (f : List ℕ) → Leaves m (meets m f .after)
 meets-leaves m f = by-lead (λ (x : Step). Leaves m (x .after)) m f (open-leaves m f) (leaves-by m f (replyTried m f) refl) (same m)
@@ -65,7 +65,7 @@ all-leaves m [] = same m
 all-leaves m (p ∷ ps) =
     let a = piece-leaves m p in
     let b = all-leaves (meetsPiece m p .after) ps in
-    record { cells = b .cells ∙ a .cells; marks = b .marks ∙ a .marks; cells-behind = b .cells-behind ∙ a .cells-behind; marks-behind = b .marks-behind ∙ a .marks-behind }
+    record { cells = b .cells ∙ a .cells; marks = b .marks ∙ a .marks; cells-after = b .cells-after ∙ a .cells-after; marks-after = b .marks-after ∙ a .marks-after }
 
 pub all-desk : (m : Memory) (ps : List Piece) → isDesk m ≡ true → isDesk (afterAll m ps) ≡ true
 unfolding afterAll

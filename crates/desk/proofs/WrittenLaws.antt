@@ -64,7 +64,7 @@ module _ (d : List ℕ) (at : ℕ) (f : List ℕ) (room : at + cellSize ≤ leng
       let a : j < length (take at d ++ f) = simp length-append (omega arith) in
       List·getD-append (take at d ++ f) (drop (at + cellSize) d) 0 j a ∙ List·getD-append (take at d) f 0 j (omega arith) ∙ getD-take at d j 0 l
 
-  pub behind-with : (j : ℕ) → at + cellSize ≤ j → getD (withCell d at f) j 0 ≡ getD d j 0
-  behind-with j l =
+  pub after-with : (j : ℕ) → at + cellSize ≤ j → getD (withCell d at f) j 0 ≡ getD d j 0
+  after-with j l =
       let first : (x : List ℕ) → getD (drop j x) 0 0 ≡ getD x j 0 = λ x. getD-drop j x 0 0 ∙ ap (λ (i : ℕ). getD x i 0) (add-zero j) in
       sym (first (withCell d at f)) ∙ ap (λ (x : List ℕ). getD x 0 0) (drop-with j l) ∙ first d

@@ -34,5 +34,5 @@ pub record KeepsMemory : Type 0 where
   pub reply-bits : (m : Memory) (f : List ℕ) → replies m f .after .bits ≡ m .bits
   pub reply-sizes : (m : Memory) (f : List ℕ) → (length (replies m f .after .cells) ≡ length (m .cells)) × (length (replies m f .after .marks) ≡ length (m .marks))
   pub cells-before : (m : Memory) (f : List ℕ) (j : ℕ) → j < m .count * cellSize → getD (replies m f .after .cells) j 0 ≡ getD (m .cells) j 0
-  pub cells-behind : (m : Memory) (f : List ℕ) (j : ℕ) → m .count * cellSize + cellSize ≤ j → getD (replies m f .after .cells) j 0 ≡ getD (m .cells) j 0
+  pub cells-after : (m : Memory) (f : List ℕ) (j : ℕ) → m .count * cellSize + cellSize ≤ j → getD (replies m f .after .cells) j 0 ≡ getD (m .cells) j 0
   pub other-marks : (m : Memory) (f : List ℕ) (j : ℕ) → (j ≡ m .count → ⊥) → markAt (replies m f .after .marks) j ≡ markAt (m .marks) j

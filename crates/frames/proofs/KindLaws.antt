@@ -125,7 +125,7 @@ module _ {R : Type 0} {k : Kind R} {Whole : R → Type 0} (g : SoundKind k Whole
         let o = frame-again s r e in
         let q = room-enough r (o .fine) out h in
         (sym q, rw (← q, o .bytes));
-    turned-away = λ s. (
+    refused-exactly = λ s. (
       λ w r has fine bytes. let g : read k s ≡ gives r = rw (← bytes) (frame-back r has fine) in let b = w .1 in let z : _≡_ {A = ℕ} 0 1 = cc in omega arith,
       λ none. answered s none (read k s) refl,
     );

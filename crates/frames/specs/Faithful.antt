@@ -20,5 +20,5 @@ pub record Faithful {R : Type 0} (k : Kind R) (Whole : R → Type 0) : Type 0 wh
   pub writes-again : (s : List ℕ) (r : R) → read k s ≡ gives r → (out : List ℕ) → k .size ≤ length out
       → (writeTried (wrongIn k r) (k .size) (length out) ≡ gives tt) × (outputOf k r out ≡ s ++ drop (k .size) out)
   -- a frame is refused exactly if no well formed record writes it
-  pub turned-away : (s : List ℕ)
+  pub refused-exactly : (s : List ℕ)
       → ((f : Refusal) × (read k s ≡ refuses f)) ↔ ((r : R) → Whole r → wrongIn k r ≡ 0 → frameOf k r ≡ s → ⊥)

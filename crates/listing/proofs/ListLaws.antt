@@ -67,12 +67,12 @@ module _ (cells marks s : List ℕ) (t : Taken) (cells′ marks′ : List ℕ) (
   pub cells-back : (zeros old back : List ℕ) → length zeros ≡ storeSize → old ≡ sets zeros 0 cells → back ≡ sets cells′ 0 old → back ≡ cells
   cells-back zeros old back z o b =
       let f = after-leaves cells marks s in
-      restored storeSize cells cells′ zeros old back z (rw (k .kept-cells) (f .cells)) (rw (k .kept-cells) (f .cells-behind)) o b
+      restored storeSize cells cells′ zeros old back z (rw (k .kept-cells) (f .cells)) (rw (k .kept-cells) (f .cells-after)) o b
 
   pub marks-back : (zeros old back : List ℕ) → length zeros ≡ mostCells → old ≡ sets zeros 0 marks → back ≡ sets marks′ 0 old → back ≡ marks
   marks-back zeros old back z o b =
       let f = after-leaves cells marks s in
-      restored mostCells marks marks′ zeros old back z (rw (k .kept-marks) (f .marks)) (rw (k .kept-marks) (f .marks-behind)) o b
+      restored mostCells marks marks′ zeros old back z (rw (k .kept-marks) (f .marks)) (rw (k .kept-marks) (f .marks-after)) o b
 
 -- ---- the list
 

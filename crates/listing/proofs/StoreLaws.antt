@@ -40,8 +40,8 @@ front l vs n e =
     ∙ ap (λ (k : ℕ). take n vs ++ drop k l) (ap (λ (k : ℕ). 0 + k) t ∙ zero-add n)
 
 -- if all after n stayed, so did all after n or after the list's length, whichever is less
-behind-min : (n : ℕ) (c c′ : List ℕ) → length c′ ≡ length c → drop n c′ ≡ drop n c → drop (min (length c) n) c′ ≡ drop (min (length c) n) c
-behind-min n c c′ l d =
+after-min : (n : ℕ) (c c′ : List ℕ) → length c′ ≡ length c → drop n c′ ≡ drop n c → drop (min (length c) n) c′ ≡ drop (min (length c) n) c
+after-min n c c′ l d =
     by-less n (length c)
     (λ h. let e : min (length c) n ≡ n = omega arith in rw e d)
     (λ h.
@@ -58,7 +58,7 @@ restored n c c′ zeros old back z l d o b =
     let e : old ≡ take m c ++ drop m zeros = o ∙ front zeros c m (omega (arith, z)) in
     let k : length old ≡ n = ap length o ∙ length-sets zeros 0 c ∙ z in
     let f : take m old ≡ take m c = ap (take m) e ∙ take-at (take m c) (drop m zeros) m t in
-    b ∙ front c′ old m (omega (arith, k, l)) ∙ rw (f, behind-min n c c′ l d) (take-append-drop m c)
+    b ∙ front c′ old m (omega (arith, k, l)) ∙ rw (f, after-min n c c′ l d) (take-append-drop m c)
 
 module _ (cells marks s : List ℕ) where
   pub store-desk : isDesk (store cells marks) ≡ true

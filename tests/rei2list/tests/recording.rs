@@ -28,13 +28,18 @@ fn recorded(set_up: &str, port: &str, master: &mut fs::File, bytes: &[u8]) -> Ve
     let record = of_the_page(RECORD, &[("/dev/ttyUSB0", port), ("race.capture", capture.to_str().expect("a name"))]);
     let mut recording = shell(&format!("exec {record}")).spawn().expect("a recording");
     master.write_all(bytes).expect("the bytes are sent");
-    let began = Instant::now();
-    while size(&capture) < bytes.len() as u64 && began.elapsed() < Duration::from_secs(20) {
-        thread::sleep(Duration::from_millis(20));
-    }
+    wait_for(|| size(&capture) >= bytes.len() as u64);
     recording.kill().expect("the recording ends");
     recording.wait().expect("the recording ends");
     fs::read(&capture).expect("a capture")
+}
+
+/// Waits until something has happened, but not for ever.
+fn wait_for(happened: impl Fn() -> bool) {
+    let began = Instant::now();
+    while !happened() && began.elapsed() < Duration::from_secs(20) {
+        thread::sleep(Duration::from_millis(20));
+    }
 }
 
 fn size(path: &Path) -> u64 {
@@ -46,9 +51,7 @@ fn size(path: &Path) -> u64 {
 fn a_raw_line_is_recorded_as_it_is_and_cr_as_lf_cuts_every_frame() {
     let (mut master, port) = line();
     let port = port.to_str().expect("a name");
-    // As long as the port is open here, its settings stay.
-    let _open = fs::File::options().read(true).write(true).open(port).expect("the port");
-
+    let _open = set_up(port);
     let raw = of_the_page(SET_UP, &[("/dev/ttyUSB0", port), ("SPEED", "9600")]);
     let good = recorded(&raw, port, &mut master, &sample());
     assert_eq!(good, sample());
@@ -59,6 +62,42 @@ fn a_raw_line_is_recorded_as_it_is_and_cr_as_lf_cuts_every_frame() {
     let list = rei2list_of("changed", &changed);
     assert_eq!(list.out, format!("{HEADING}end\t0\t0\t0\t6\n"));
     assert_eq!(list.err, "");
+}
+
+/// The port while it is open here, set up as the page says: its settings stay.
+fn set_up(port: &str) -> fs::File {
+    let open = fs::File::options().read(true).write(true).open(port).expect("the port");
+    let done = seen(&mut shell(&of_the_page(SET_UP, &[("/dev/ttyUSB0", port), ("SPEED", "9600")])), Stdio::null());
+    assert!(done.done, "{done:?}");
+    open
+}
+
+#[test]
+fn a_line_is_watched_while_it_is_recorded() {
+    let room = room("watched");
+    let (mut master, port) = line();
+    let port = port.to_str().expect("a name");
+    let open = set_up(port);
+    let start = root().canonicalize().expect("the root").join("tests/c/start");
+    assert!(root().join("target/c/watch").exists(), "watch is not built: examples/watch/build");
+
+    fs::write(room.join("requests.capture"), &sample()[..48]).expect("requests");
+    let others = [("/dev/ttyUSB0", port), ("tests/c/start", start.to_str().expect("a name"))];
+    let watch = of_the_page("cat requests.capture /dev/ttyUSB0 | tee race.capture | tests/c/start watch", &others);
+    let printed = fs::File::create(room.join("printed")).expect("a file");
+    let mut watching = shell(&watch).current_dir(&room).stdout(printed).spawn().expect("a watch");
+    master.write_all(&sample()[48..]).expect("the bytes are sent");
+
+    // A line for each frame, before the line ends, with the reason for the one that is refused.
+    let expected = String::from_utf8(bytes_of("examples/watch/expected")).expect("text");
+    let frames: String = expected.lines().take(6).map(|line| format!("{line}\n")).collect();
+    assert!(frames.ends_with("201 reply refused, ENDED\n"));
+    let so_far = || fs::read_to_string(room.join("printed")).expect("text");
+    wait_for(|| so_far().len() >= frames.len());
+    assert_eq!(so_far(), frames);
+    assert_eq!(fs::read(room.join("race.capture")).expect("a capture"), sample());
+    drop((open, master));
+    watching.wait().expect("the watch ends with the line");
 }
 
 #[test]
