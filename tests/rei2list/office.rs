@@ -92,11 +92,12 @@ extern "C" {
 
 /// A pseudo-terminal that stands in for the serial line. What is written to the first end arrives at the port, whose name is second.
 pub fn line() -> (File, PathBuf) {
-    const READ_WRITE_NO_CONTROL: i32 = 0o2 | 0o400;
+    // Read and write; no controlling terminal; not for the programs that are started, or the line would never end for them.
+    const FLAGS: i32 = 0o2 | 0o400 | 0o2000000;
     let mut name = [0; 100];
     // SAFETY: the descriptor is new and has no other owner, and the name ends within its array.
     unsafe {
-        let master = posix_openpt(READ_WRITE_NO_CONTROL);
+        let master = posix_openpt(FLAGS);
         assert!(master >= 0 && grantpt(master) == 0 && unlockpt(master) == 0, "no pseudo-terminal to be had");
         assert_eq!(ptsname_r(master, name.as_mut_ptr(), name.len()), 0);
         let port = CStr::from_ptr(name.as_ptr()).to_str().expect("a name").into();

@@ -35,7 +35,7 @@ fn recorded(set_up: &str, port: &str, master: &mut fs::File, bytes: &[u8]) -> Ve
 }
 
 /// Waits until something has happened, but not for ever.
-fn wait_for(happened: impl Fn() -> bool) {
+fn wait_for(mut happened: impl FnMut() -> bool) {
     let began = Instant::now();
     while !happened() && began.elapsed() < Duration::from_secs(20) {
         thread::sleep(Duration::from_millis(20));
@@ -85,7 +85,8 @@ fn a_line_is_watched_while_it_is_recorded() {
     let others = [("/dev/ttyUSB0", port), ("tests/c/start", start.to_str().expect("a name"))];
     let watch = of_the_page("cat requests.capture /dev/ttyUSB0 | tee race.capture | tests/c/start watch", &others);
     let printed = fs::File::create(room.join("printed")).expect("a file");
-    let mut watching = shell(&watch).current_dir(&room).stdout(printed).spawn().expect("a watch");
+    // When the line ends, cat complains on standard error.
+    let mut watching = shell(&watch).current_dir(&room).stdout(printed).stderr(Stdio::null()).spawn().expect("a watch");
     master.write_all(&sample()[48..]).expect("the bytes are sent");
 
     // A line for each frame, before the line ends, with the reason for the one that is refused.
@@ -97,7 +98,12 @@ fn a_line_is_watched_while_it_is_recorded() {
     assert_eq!(so_far(), frames);
     assert_eq!(fs::read(room.join("race.capture")).expect("a capture"), sample());
     drop((open, master));
-    watching.wait().expect("the watch ends with the line");
+    let mut ended = None;
+    wait_for(|| {
+        ended = watching.try_wait().expect("a watch");
+        ended.is_some()
+    });
+    assert!(ended.is_some(), "the watch does not end with the line");
 }
 
 #[test]
