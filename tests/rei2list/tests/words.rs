@@ -1,9 +1,10 @@
 //! The arguments of `rei2list`, and the command `list` around it.
 
 use std::fs::{self, File};
+use std::os::unix::fs::symlink;
 use std::process::Stdio;
 
-use rei2list_tests::{bytes_of, command, file, room, seen, Seen};
+use rei2list_tests::{bytes_of, command, file, room, seen, shell, Seen};
 
 fn said(out: &str, err: &str, done: bool) -> Seen {
     Seen { out: out.into(), err: err.into(), done }
@@ -53,6 +54,16 @@ fn a_file_or_standard_input_is_listed() {
 fn a_file_is_found_from_where_the_user_is() {
     let mut list = command("list", ["example.capture"]);
     assert_eq!(seen(list.current_dir(rei2list_tests::root().join("samples")), Stdio::null()).out, sample_list());
+}
+
+#[test]
+fn a_missing_kit_is_reported() {
+    // A PATH with the one command that comes before rt.
+    let bin = room("bin");
+    let dirname = seen(&mut shell("command -v dirname"), Stdio::null()).out;
+    symlink(dirname.trim_end(), bin.join("dirname")).expect("a link");
+    let without_kit = seen(command("list", ["samples/example.capture"]).env("PATH", &bin), Stdio::null());
+    assert_eq!(without_kit, said("", "list: rt, the command of the Rattle kit, is not on the PATH\n", false));
 }
 
 #[test]
