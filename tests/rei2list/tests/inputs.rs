@@ -72,9 +72,14 @@ fn a_directory_is_no_capture() {
     assert_eq!(rei2list(File::open("/").expect("a folder")), failed("standard input: Is a directory"));
 }
 
+/// Not on another machine, where the emulator may open a file of its own in the place of what is closed.
+#[cfg(target_arch = "x86_64")]
 #[test]
-fn a_closed_input_is_no_capture() {
-    assert_eq!(seen(&mut shell("./run rei2list <&-"), Stdio::null()), failed("standard input: Bad file descriptor"));
+fn a_closed_input_is_no_capture_and_a_closed_output_takes_no_list() {
+    let closed = seen(&mut shell("./run rei2list <&-"), Stdio::null());
+    assert_eq!(closed, failed("standard input: Bad file descriptor"));
+    let closed = seen(&mut shell("./run rei2list >&-"), file("samples/example.capture"));
+    assert_eq!(closed, failed("standard output: Bad file descriptor"));
 }
 
 #[test]
@@ -102,6 +107,4 @@ fn a_list_that_cannot_be_written_is_reported() {
     let full = File::options().write(true).open("/dev/full").expect("a full device");
     let output = seen(command("run", ["rei2list"]).stdout(full), file("samples/example.capture"));
     assert_eq!(output.err, "rei2list: standard output: No space left on device\n");
-    let closed = seen(&mut shell("./run rei2list >&-"), file("samples/example.capture"));
-    assert_eq!(closed, failed("standard output: Bad file descriptor"));
 }

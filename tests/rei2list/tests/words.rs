@@ -50,6 +50,18 @@ fn a_file_or_standard_input_is_listed() {
     assert_eq!(seen(&mut command("list", none), file("samples/example.capture")), said(&sample_list(), "", true));
 }
 
+/// Words apart: the page shows tabs as blanks.
+#[test]
+fn the_first_page_shows_the_list_of_the_sample() {
+    let page = String::from_utf8(bytes_of("README.md")).expect("text");
+    let rows = |text: &str| {
+        text.lines().map(|line| line.split_whitespace().map(String::from).collect()).collect::<Vec<Vec<_>>>()
+    };
+    let shown: Vec<_> =
+        rows(&page).into_iter().skip_while(|row| row.first().map(String::as_str) != Some("seat")).collect();
+    assert_eq!(shown[..5], rows(&sample_list()));
+}
+
 #[test]
 fn a_file_is_found_from_where_the_user_is() {
     let mut list = command("list", ["example.capture"]);
