@@ -1,7 +1,7 @@
 //! An independent implementation of the rules in Rust. It reads REI2 frames, makes cases, answers
 //! them, and compares its answers with those of the proved programs.
 //!
-//! Every rule here is written from document 01, and every spelling from `docs/CASES.md`. No code is
+//! Every rule here is written from the scope paper, and every spelling from `docs/CASES.md`. No code is
 //! shared with the product that it is compared with.
 
 #![forbid(unsafe_code)]

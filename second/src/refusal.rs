@@ -1,4 +1,4 @@
-//! The refusals of document 01 and their numbers.
+//! The refusals of the scope paper and their numbers.
 
 /// Why a frame was not read, a record not written, or a call of the desk not done. `Field` and
 /// `Record` carry the offset of the first wrong field. TIME is not among them: only the running

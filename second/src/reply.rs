@@ -348,7 +348,7 @@ mod tests {
     use super::*;
     use crate::request;
 
-    /// The two replies of document 01's example.
+    /// The two replies of the scope paper's example.
     const FIRST: &Value = b"\x12R SOR10000700015000002000000P000000000000000000  \r";
     const SECOND: &Value = b"\x12R SOEA000120004100000101525510001125400+0000000  \r";
 

@@ -25,7 +25,7 @@ mod width {
     pub const GROUP: usize = 3;
 }
 
-/// The 41 information letters, in the order document 01 lists them.
+/// The 41 information letters, in the order the scope paper lists them.
 pub const INFORMATION: &[u8; 41] = b"0123456789AQPaSsTKLtR*GHhIiJjpkugWwXlbcdq";
 
 /// The information letter of a request that no answer is due to.
@@ -126,7 +126,7 @@ fn is_group(value: u64) -> bool {
 mod tests {
     use super::*;
 
-    /// The two requests of document 01's example.
+    /// The two requests of the scope paper's example.
     const FIRST: &[u8; 24] = b"\x11R 100700000P000002000S\r";
     const SECOND: &[u8; 24] = b"\x11R A012000411255001000S\r";
 

@@ -22,7 +22,7 @@ pub type Capture = Vec<u8>;
 /// Frames in the order in which they are heard.
 type Frames = Vec<Vec<u8>>;
 
-/// The captures of one seed. The first is document 01's example.
+/// The captures of one seed. The first is the scope paper's example.
 pub fn all(seed: u64) -> Vec<Capture> {
     let random = random::captures(&mut Random::new(seed, "captures"));
     [of_every_seed(), random].concat()

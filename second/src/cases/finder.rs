@@ -4,7 +4,7 @@ use super::Cases;
 use crate::random::Random;
 use crate::spelling::{bytes_text, MOST_BYTES_OF_CAPTURE};
 
-/// A good frame of each kind. The first two are document 01's.
+/// A good frame of each kind. The first two are the scope paper's.
 const REQUEST: &[u8] = b"\x11R 100700000P000002000S\r";
 const REPLY: &[u8] = b"\x12R SOR10000700015000002000000P000000000000000000  \r";
 const DYNAMIC: &[u8] = b"\x13R 1A000150010020004125500301234567898200100S\r";

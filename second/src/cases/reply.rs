@@ -15,7 +15,7 @@ use crate::times::{MOST_NET_DAYS, TICKS_OF_DAY};
 
 const LENGTH: usize = Reply::LENGTH;
 
-/// A reply of each kind. `NET` and `RAW` are document 01's examples. `CLOCK` and `ABSENT` differ
+/// A reply of each kind. `NET` and `RAW` are the scope paper's examples. `CLOCK` and `ABSENT` differ
 /// from them and from each other in every field, except that `CLOCK` and `RAW` both have status R.
 const CLOCK: &[u8; LENGTH] = b"\x12R GmRz9876559999199250547240K235959999929022024xy\r";
 const NET: &[u8; LENGTH] = b"\x12R SOEA000120004100000101525510001125400+0000000  \r";

@@ -13,7 +13,7 @@ use crate::spelling::bytes_text;
 
 const LENGTH: usize = Request::LENGTH;
 
-/// The two requests of document 01's example, and one at the upper limits. No field is the same in
+/// The two requests of the scope paper's example, and one at the upper limits. No field is the same in
 /// all three.
 const FIRST: &[u8; LENGTH] = b"\x11R 100700000P000002000S\r";
 const SECOND: &[u8; LENGTH] = b"\x11R A012000411255001000S\r";

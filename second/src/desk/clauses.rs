@@ -1,4 +1,4 @@
-//! What makes a desk: one function for each clause, in the order of document 01. The clause of the
+//! What makes a desk: one function for each clause, in the order of the scope paper. The clause of the
 //! sixteen seats is missing, because the type of the row fixes it. Every function takes any state
 //! and any memory.
 

@@ -4,7 +4,7 @@ use super::{Capture, ONE};
 use crate::cases::desk::frames::{reply, request, R};
 use crate::cases::dynamic::PLUS;
 
-/// The six frames of document 01's example.
+/// The six frames of the scope paper's example.
 pub const EXAMPLE: [&[u8]; 6] = [
     b"\x11R 100700000P000002000S\r",
     b"\x11R A012000411255001000S\r",
