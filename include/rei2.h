@@ -20,6 +20,11 @@
    refusal is REI2_FIELD or REI2_RECORD, and the rest of its answer is 0. rei2_refusal_name has the names. Structs have
    padding, so compare them field by field. A seat has none.
 
+   REQUESTS AND REPLIES. The desk takes a reply only if its request was opened. So give every request that you send to
+   rei2_open too. The stopwatch sends a line feed after the CR of each reply. It is not part of the frame.
+
+   NAMES. After "Refused with" the names of refusals are without REI2_.
+
    EXAMPLES. The comment of each call ends with an example, a line that you can paste into a host. The examples use the
    names below, which the host declares. docs/host.md says how to build a host. A whole one is examples/watch/watch.c.
 
@@ -29,15 +34,16 @@
    static uint32_t marks[REI2_CELLS];
    static rei2_desk_answer a;                             // the answer of the last call on the desk
    static const uint8_t *frame, *in;                      // a frame; a capture
-   static size_t size, at;                                // the size of either in bytes; the place to go on from
+   static size_t size, at;                                // its size in bytes; the index where a search begins
    static uint8_t out[REI2_LONGEST_LIST];                 // for a frame or a list that is written
    static uint8_t own_cells[REI2_CELLS * REI2_CELL_SIZE]; // for a list: not those of a desk
    static uint32_t own_marks[REI2_CELLS];
    static uint8_t name[REI2_NAME_SIZE];
 
-   Records to be written, their parts in the order of the structs below:
+   Records to be written, their parts in the order of the structs below. The reply answers the request. To give a frame
+   that was written to the desk: frame = out; size = wrote.size;
 
-   static rei2_static_request request = {'1', 7, 0, 'P', 0, 2, 0, 'S'};
+   static rei2_static_request request = {'A', 12, 41, '1', 255, 1, 0, 'S'};
    static rei2_reply_record reply = {{'S', 'O', 'E', 'A', 12, 41, 0, 1, 15, 255, '1'},
                                      {REI2_NET, 0, 0, 0, 0, 725400}, {0}, {0}, {' ', ' '}};
    static rei2_dynamic_request dynamic = {'1', 'A', 41, 255, 1, 42, 255, 1, 0, 36000000, 0, 100, 'S'}; */
@@ -50,8 +56,8 @@
 /* ---- constants */
 
 enum rei2_limit {
-    REI2_SEATS = 16,           /* seats of a desk: every row has so many */
-    REI2_CELLS = 256,          /* the most cells that a desk uses, however many are lent */
+    REI2_SEATS = 16,           /* seats of a desk; seats_len must be this number */
+    REI2_CELLS = 256,          /* the most cells that a desk uses; cells_len counts bytes, not cells */
     REI2_CELL_SIZE = 51,       /* bytes of a cell */
     REI2_REQUEST_SIZE = 24,    /* bytes of a static request */
     REI2_REPLY_SIZE = 51,      /* bytes of a static reply */
@@ -143,16 +149,17 @@ typedef struct rei2_captured_answer {
     rei2_counts counts;
 } rei2_captured_answer;
 
-/* A static request. */
+/* A static request. Each part has the offset of its field, which FIELD and RECORD report, and the values that are good.
+   What the letters mean is in the stopwatch's protocol, section 4.2.1. */
 typedef struct rei2_static_request {
-    uint8_t requester;
-    uint32_t number;
-    uint32_t bib;
-    uint8_t information;
-    uint32_t channel;
-    uint32_t run;
-    uint32_t group;
-    uint8_t output;
+    uint8_t requester;   /*  3: 0 to 9, A to Z, a to z */
+    uint32_t number;     /*  4: 0 to 999 */
+    uint32_t bib;        /*  7: 0 to 59999 */
+    uint8_t information; /* 12: 0 to 9 A Q P a S s T K L t R * G H h I i J j p k u g W w X l b c d q */
+    uint32_t channel;    /* 13: the logical channel, 0 to 240, 248, 249, 251, 255 */
+    uint32_t run;        /* 16: 0 to 250 */
+    uint32_t group;      /* 19: 0 to 199 */
+    uint8_t output;      /* 22: S A B T */
 } rei2_static_request;
 
 /* A static request that was read. */
@@ -163,7 +170,8 @@ typedef struct rei2_request_answer {
 } rei2_request_answer;
 
 /* Time and date of a reply. kind is a number of enum rei2_timing. REI2_CLOCK uses ticks (since midnight), day, month
-   and year. REI2_NET uses net, in ticks. REI2_RAW uses none of them. What the kind does not use is 0. */
+   and year. REI2_NET uses net, in ticks: -10000 is one second below zero, which the frame shows as minus one day and
+   23:59:59.0000. REI2_RAW uses none of them. What the kind does not use is 0. */
 typedef struct rei2_timing_numbers {
     uint32_t kind;
     uint32_t ticks;
@@ -173,19 +181,20 @@ typedef struct rei2_timing_numbers {
     int64_t net;
 } rei2_timing_numbers;
 
-/* The parts of a static reply that come before its time. */
+/* The parts of a static reply that come before its time, with offsets and good values as in a static request. What the
+   letters mean is in the stopwatch's protocol, section 4.1.3. */
 typedef struct rei2_reply_head {
-    uint8_t program;
-    uint8_t mode;
-    uint8_t status;
-    uint8_t requester;
-    uint32_t number;
-    uint32_t bib;
-    uint32_t group;
-    uint32_t run;
-    uint32_t physical;
-    uint32_t channel;
-    uint8_t information;
+    uint8_t program;     /*  3: 20h to 7Eh, not interpreted */
+    uint8_t mode;        /*  4: 20h to 7Eh, not interpreted */
+    uint8_t status;      /*  5: R one of several, E the last, Z not available */
+    uint8_t requester;   /*  6: 0 to 9, A to Z, a to z */
+    uint32_t number;     /*  7: 0 to 99999 */
+    uint32_t bib;        /* 12: 0 to 59999 */
+    uint32_t group;      /* 17: 0 to 199 */
+    uint32_t run;        /* 20: 1 to 250; with status Z also 0 */
+    uint32_t physical;   /* 23: the physical channel, 0 to 999 */
+    uint32_t channel;    /* 26: the logical channel, 0 to 240, 245, 248, 249, 250, 255 */
+    uint8_t information; /* 29: a letter of a static request, but not L t * l b c d q */
 } rei2_reply_head;
 
 /* A static reply. raw_time and raw_date are the bytes of time and date if the timing is REI2_RAW, and otherwise 0. */
@@ -204,22 +213,22 @@ typedef struct rei2_reply_answer {
     rei2_reply_record reply;
 } rei2_reply_answer;
 
-/* A dynamic request. sign (0 plus, 1 minus), time (in ticks) and days are the parts of Taux. Minus zero keeps its
-   sign. */
+/* A dynamic request, with offsets and good values as in a static request. sign, time and days are the parts of Taux.
+   Minus zero keeps its sign. What the letters mean is in the stopwatch's protocol, section 4.2.2. */
 typedef struct rei2_dynamic_request {
-    uint8_t requester;
-    uint8_t order;
-    uint32_t bib;
-    uint32_t channel;
-    uint32_t run;
-    uint32_t stop_bib;
-    uint32_t stop_channel;
-    uint32_t stop_run;
-    uint32_t sign;
-    uint32_t time;
-    uint32_t days;
-    uint32_t period;
-    uint8_t output;
+    uint8_t requester;     /*  3: 0 to 9, A to Z, a to z */
+    uint8_t order;         /*  4: A B a b T t */
+    uint32_t bib;          /*  5: 0 to 60000 */
+    uint32_t channel;      /* 10: 0 to 240, 250, 255 */
+    uint32_t run;          /* 13: 0 to 250 */
+    uint32_t stop_bib;     /* 16: 1 to 60000 */
+    uint32_t stop_channel; /* 21: 0 to 240, 250, 255 */
+    uint32_t stop_run;     /* 24: 0 to 250 */
+    uint32_t sign;         /* 27: 0 plus, 1 minus */
+    uint32_t time;         /* 28: ticks, 0 to 863999999 */
+    uint32_t days;         /* 38: 0 to 9 */
+    uint32_t period;       /* 39: hundredths of a second, 1 to 99999; also 0 unless the order is A or B */
+    uint8_t output;        /* 44: S A B T */
 } rei2_dynamic_request;
 
 /* A dynamic request that was read. */
@@ -276,9 +285,9 @@ typedef struct rei2_listed_answer {
     size_t size;
 } rei2_listed_answer;
 
-/* What a host must lend. seats: the seats of a row. cells, marks: the bytes of cells and the marks that the largest
-   desk uses; fewer make a smaller desk. cell_size: the bytes of a cell. most_input: the most bytes of a capture that is
-   listed. longest_list: the bytes that every list fits in. */
+/* What a host must lend. seats: how many seats a desk has. cells: the bytes of all cells of the largest desk. marks:
+   how many marks it has. With less memory a desk is smaller. cell_size: the bytes of a cell. most_input: the most bytes
+   of a capture that is listed. longest_list: the bytes that every list fits in. */
 typedef struct rei2_limits_answer {
     size_t seats;
     size_t cells;
@@ -443,8 +452,8 @@ extern "C" {
 /* ---- limits and names */
 
 /* Returns what a host must lend. The same numbers are in the constants REI2_SEATS, REI2_CELLS * REI2_CELL_SIZE,
-   REI2_CELLS, REI2_CELL_SIZE, REI2_MOST_INPUT and REI2_LONGEST_LIST, for arrays. Call this to allocate memory, or to
-   check that the library is the one that the header was made for. Never refused.
+   REI2_CELLS, REI2_CELL_SIZE, REI2_MOST_INPUT and REI2_LONGEST_LIST, for arrays. Call this to learn how much memory to
+   allocate, or to check that the library is the one that the header was made for. Never refused.
    Cost: a few steps.
    Example:
    rei2_limits_answer limits = rei2_limits(); */
@@ -472,7 +481,7 @@ rei2_written_answer rei2_refusal_name(uint32_t refusal, uint8_t *out, size_t out
    rei2_open, rei2_reply and rei2_capture first test whether state, seats, cells and marks make a desk. For that they
    compare the keys of the seats and read each held cell once. So the more cells are held, the more a call costs.
 
-   After each call go on with the state in its answer: desk = a.desk; */
+   After each call go on with the state in its answer. The three calls refuse an older state with DESK. */
 
 /* Empties a desk, whatever its state and seats were. This also makes the first desk.
    Refused with: DESK, only if the row does not have REI2_SEATS seats.
@@ -489,7 +498,7 @@ rei2_desk_answer rei2_reset(rei2_seat *seats, size_t seats_len, rei2_desk desk);
    seat changes.
    Cost: a test of the desk.
    Example:
-   rei2_desk_answer a = rei2_open(seats, REI2_SEATS, desk, cells, sizeof cells, marks, REI2_CELLS, frame, size); */
+   a = rei2_open(seats, REI2_SEATS, desk, cells, sizeof cells, marks, REI2_CELLS, frame, size); desk = a.desk; */
 rei2_desk_answer rei2_open(rei2_seat *seats, size_t seats_len, rei2_desk desk, const uint8_t *cells, size_t cells_len,
                            const uint32_t *marks, size_t marks_len, const uint8_t *frame, size_t frame_len);
 
@@ -499,18 +508,19 @@ rei2_desk_answer rei2_open(rei2_seat *seats, size_t seats_len, rei2_desk desk, c
    is ended if the status is E or Z. The count of the state is one more. No other seat, byte or mark changes.
    Cost: a test of the desk.
    Example:
-   rei2_desk_answer a = rei2_reply(seats, REI2_SEATS, desk, cells, sizeof cells, marks, REI2_CELLS, frame, size); */
+   a = rei2_reply(seats, REI2_SEATS, desk, cells, sizeof cells, marks, REI2_CELLS, frame, size); desk = a.desk; */
 rei2_desk_answer rei2_reply(rei2_seat *seats, size_t seats_len, rei2_desk desk, uint8_t *cells, size_t cells_len,
                             uint32_t *marks, size_t marks_len, const uint8_t *frame, size_t frame_len);
 
 /* Takes all frames of a capture one after the other, as rei2_next_frame finds them. A static request is opened, a
    static reply goes to its seat, and a well formed dynamic request is counted. A frame that its call would refuse is
-   counted as refused, and so is a cut frame.
+   counted as refused, and so is a cut frame. So a capture that comes in pieces must be cut after whole frames: a frame
+   that is torn between two pieces is lost. rei2_next_frame says how to notice one.
    Refused with: DESK.
    Done: seats, cells and marks are as they would be after a call for each frame.
    Cost: one test of the desk and one reading of each frame. A call for each frame would cost a test each.
    Example:
-   rei2_captured_answer a = rei2_capture(seats, REI2_SEATS, desk, cells, sizeof cells, marks, REI2_CELLS, in, size); */
+   rei2_captured_answer c = rei2_capture(seats, REI2_SEATS, desk, cells, sizeof cells, marks, REI2_CELLS, in, size); */
 rei2_captured_answer rei2_capture(rei2_seat *seats, size_t seats_len, rei2_desk desk, uint8_t *cells, size_t cells_len,
                                   uint32_t *marks, size_t marks_len, const uint8_t *capture, size_t capture_len);
 
@@ -521,15 +531,16 @@ rei2_captured_answer rei2_capture(rei2_seat *seats, size_t seats_len, rei2_desk 
 uint32_t rei2_seats_in_use(rei2_desk desk);
 
 /* Returns how many cells a desk can hold if it is lent this many bytes of cells and this many marks: the least of
-   REI2_CELLS, the whole cells and the marks. Never refused.
+   REI2_CELLS, the whole cells and the marks. cells counts bytes, not cells. Never refused.
    Cost: a few steps.
    Example:
    size_t most = rei2_capacity(sizeof cells, REI2_CELLS); */
 size_t rei2_capacity(size_t cells, size_t marks);
 
-/* Finds the first held cell that belongs to the seat, beginning at the cell with the index from. To read all records of
-   a seat in the order in which they came, begin with 0 and go on with the index after the cell found, until none is
-   found. Takes any state and memory and is never refused. It does not test the desk.
+/* Finds the first held cell that belongs to the seat. The search begins at cell number from. To read all records of a
+   seat in the order in which they came, begin with 0 and go on with the number after the cell found, until none is
+   found. Takes any state and memory and is never refused. It does not test the desk: with an older state it misses
+   records, or finds those from before a reset.
    Cost: a look at each mark that it passes.
    Example:
    rei2_cell_answer held = rei2_next_held(desk, cells, sizeof cells, marks, REI2_CELLS, a.seat, at); */
@@ -553,7 +564,7 @@ rei2_request_answer rei2_read_request(const uint8_t *frame, size_t frame_len);
    REI2_REQUEST_SIZE.
    Cost: one pass over the frame.
    Example:
-   rei2_written_answer written = rei2_write_request(request, out, sizeof out); */
+   rei2_written_answer sent = rei2_write_request(request, out, sizeof out); */
 rei2_written_answer rei2_write_request(rei2_static_request record, uint8_t *out, size_t out_len);
 
 /* Reads a static reply: REI2_REPLY_SIZE bytes, the first one REI2_REPLY_LEAD. Takes any bytes.
@@ -574,8 +585,8 @@ rei2_reply_answer rei2_read_reply(const uint8_t *frame, size_t frame_len);
    of these offsets that applies:
    30 timing.kind is above 2 or is not the timing asked for; ticks is above 863999999; a byte of raw_time is not one of
       20h to 7Eh
-   40 day, month and year are no day of 2000 to 2099; net has more days than seven digits show; a byte of raw_date is
-      not one of 20h to 7Eh
+   40 day, month and year are no day of 2000 to 2099; net is below -8639999136000000 or above 8639999999999999; a byte
+      of raw_date is not one of 20h to 7Eh
    48 a byte of spare is not one of 20h to 7Eh
    50 a part that the timing does not use is not 0: ticks, day, month or year with REI2_NET or REI2_RAW, net with
       REI2_CLOCK or REI2_RAW, a byte of raw_time or raw_date with REI2_CLOCK or REI2_NET
@@ -584,7 +595,7 @@ rei2_reply_answer rei2_read_reply(const uint8_t *frame, size_t frame_len);
    REI2_REPLY_SIZE.
    Cost: one pass over the frame.
    Example:
-   rei2_written_answer written = rei2_write_reply(reply, out, sizeof out); */
+   rei2_written_answer wrote = rei2_write_reply(reply, out, sizeof out); */
 rei2_written_answer rei2_write_reply(rei2_reply_record record, uint8_t *out, size_t out_len);
 
 /* Reads a dynamic request: REI2_DYNAMIC_SIZE bytes, the first one REI2_DYNAMIC_LEAD. Takes any bytes.
@@ -592,7 +603,7 @@ rei2_written_answer rei2_write_reply(rei2_reply_record record, uint8_t *out, siz
    Done: request has the values of all fields.
    Cost: one pass over the frame.
    Example:
-   rei2_dynamic_answer asked = rei2_read_dynamic(frame, size); */
+   rei2_dynamic_answer ordered = rei2_read_dynamic(frame, size); */
 rei2_dynamic_answer rei2_read_dynamic(const uint8_t *frame, size_t frame_len);
 
 /* Writes a dynamic request to out.
@@ -601,15 +612,17 @@ rei2_dynamic_answer rei2_read_dynamic(const uint8_t *frame, size_t frame_len);
    REI2_DYNAMIC_SIZE.
    Cost: one pass over the frame.
    Example:
-   rei2_written_answer written = rei2_write_dynamic(dynamic, out, sizeof out); */
+   rei2_written_answer order = rei2_write_dynamic(dynamic, out, sizeof out); */
 rei2_written_answer rei2_write_dynamic(rei2_dynamic_request record, uint8_t *out, size_t out_len);
 
 /* ---- captures */
 
-/* Finds the first frame that begins at the index at or later. A frame begins with a lead byte and runs to its CR. Bytes
-   between frames are skipped. To find all frames, begin with 0 and go on with the answer's next, until the answer is
-   REI2_NOTHING. Then nothing is left, and next is the length of the capture, even if at was past its end. Takes any
-   index and is never refused.
+/* Finds the first frame whose first byte is at the index at or after it. A frame begins with a lead byte and runs to
+   its CR. Bytes between frames are skipped. To find all frames, begin with 0 and go on with the answer's next, until
+   the answer is REI2_NOTHING. Then nothing is left, and next is the length of the capture, even if at is greater. Takes
+   any index and is never refused.
+   If a line is read in pieces, a frame may be torn: the kind is REI2_CUT and next is the length of the piece. Keep the
+   bytes from start on, and put them before the next piece.
    Cost: a look at each byte up to the end of the frame that it finds.
    Example:
    rei2_frame_answer found = rei2_next_frame(in, size, at); */
@@ -622,10 +635,10 @@ rei2_frame_answer rei2_next_frame(const uint8_t *capture, size_t capture_len, si
    Done: the list is the first bytes of out, and no other byte of out changes. Cells and marks are used as those of an
    empty desk: they are overwritten from the first one on, one for each reply collected. Do not lend those of a desk. If
    the capture was too long they do not change.
-   Cost: one reading of each frame, thirty-two looks at each held mark, and one pass over the list. It keeps 256 cells
-   and marks aside on the stack, 14,080 bytes, in addition to what rei2_capture needs.
+   Cost: one reading of each frame, 32 readings of each held mark, and one pass over the list. It keeps a copy of 256
+   cells and marks on the stack, 14,080 bytes.
    Example:
-   rei2_listed_answer a = rei2_list(in, size, own_cells, sizeof own_cells, own_marks, REI2_CELLS, out, sizeof out); */
+   rei2_listed_answer l = rei2_list(in, size, own_cells, sizeof own_cells, own_marks, REI2_CELLS, out, sizeof out); */
 rei2_listed_answer rei2_list(const uint8_t *capture, size_t capture_len, uint8_t *cells, size_t cells_len,
                              uint32_t *marks, size_t marks_len, uint8_t *out, size_t out_len);
 
