@@ -22,7 +22,7 @@ use Rattle.desk.specs.Cases.{Worked, MixWorked}
 use Rattle.desk.specs.DeskCases.{DeskWorked}
 
 pub worked : Worked
-unfolding numberAt numberFrom oneOf between upTo isRaw isRequester isOutput allFrom fieldsOf headTold read timingKind timed Q.isInformation Q.isRequestChannel Q.requestFields isStatus P.isLetter P.isReplyChannel P.leastRun P.fromBib P.replyFields allBelow countBelow first sameKey isKey heard ends inPlace keyed seatWith lowestClear capacityOf isZero markNames lastEnds isDesk keyTried requestTried openTried opens seatTried labelTried replyTried replies run seatsInUse
+unfolding numberAt numberFrom oneOf between upTo isRaw isRequester isOutput allFrom fieldsOf headTold read timingKind timed Q.isInformation Q.isRequestChannel Q.requestFields isStatus P.isLetter P.isReplyChannel P.leastRun P.fromBib P.replyFields allBelow countBelow first sameKey isKey heard ends inPlace keyed seatWith lowestClear capacityOf isZero markNames lastEnds isDesk keyTried requestTried openTried opens seatTried labelTried replyTried replies run seatsInUse recordsOf
 worked = record {
   no-desk-opens = refl;
   no-desk-replies = refl;
@@ -32,7 +32,9 @@ worked = record {
   next-seat = refl;
   no-seat = refl;
   stray = refl;
+  stray-by-thousand = refl;
   taken = refl;
+  taken-twice = refl;
   ended = refl;
   ended-by-Z = refl;
   out-of-place = refl;

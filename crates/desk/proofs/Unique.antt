@@ -26,7 +26,7 @@ use Rattle.desk.specs.Capture.{captureTold, TookCapture}
 use Rattle.desk.specs.Calls.{openTold, replyTold, OpenDid, ReplyDid}
 use Rattle.desk.specs.Unique.{OneOutcome}
 
--- ---- an answer can be recovered from what it means on paper: no two refusals have the same number and offset
+-- ---- an answer can be recovered from what it means: no two refusals have the same number and offset
 
 abbrev sameNumber : Refusal → Refusal → Bool
 sameNumber f g = eqb (f .number) (g .number)

@@ -179,7 +179,7 @@ unfoldable pub nextHeld : ℕ → List ℕ → List ℕ → ℕ → ℕ → Held
 nextHeld count cells marks seat from =
     heldAnswer (heldCells count cells marks) (first (heldCells count cells marks) (heldFrom marks seat from))
 
--- ---- what the answers of the code mean on paper
+-- ---- what the answers of the code mean
 
 abbrev pub openRefused : OpenRefusal → Refusal
 openRefused open-no-desk = DESK

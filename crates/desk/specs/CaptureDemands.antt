@@ -1,4 +1,4 @@
--- What is demanded of a capture: it is a run of calls, and each of its counts follows a rule of its own.
+-- What is demanded of a capture: it is a run of calls, three of its counts follow rules of their own, and the fourth is the rest of the frames found.
 use Prim.Native.Nat.{ℕ, zero, suc, _+_, _≤_}
 use mathlib.Core.List.{List, [], _∷_, _++_}
 use mathlib.Core.Bool.{Bool, true, false, cond}
@@ -36,7 +36,7 @@ events (cut start f ∷ ps) = events ps
 abbrev pub CaptureIsRun : Type 0
 CaptureIsRun = (m : Memory) (s : List ℕ) → isDesk m ≡ true → captures m s .after ≡ run m (events (pieces s))
 
--- mixed replies are sorted in a capture too, if it is taken on an emptied desk and its openings come first
+-- what each request of a capture holds afterwards follows the rule too, if the capture is taken on an emptied desk and its requests come first
 abbrev pub CaptureSorts : Type 0
 CaptureSorts =
     (m : Memory) (s : List ℕ) (before after : List Frame) (f : Frame) (r : StaticRequest) (es : List Event) (seat : ℕ)

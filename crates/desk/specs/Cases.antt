@@ -54,7 +54,11 @@ pub record Worked : Type 0 where
   pub next-seat : opens asked (asking "A" "P") .answer ≡ gives 1
   pub no-seat : opens (run bare (openings sixteen)) (asking "B" "P") .answer ≡ refuses (plain 12)
   pub stray : replies bare (replying "R") .answer ≡ refuses (plain 13)
+  -- a reply's number is compared whole: 01007 is not a request's 007
+  pub stray-by-thousand : replies asked (replyTo "R" "1" "01007" "00015") .answer ≡ refuses (plain 13)
   pub taken : replies asked (replying "R") .answer ≡ gives 0
+  -- the same R twice is two records
+  pub taken-twice : heldBy (crowded "R") 0 ≡ replying "R" ∷ replying "R" ∷ []
   pub ended : replies (replies asked (replying "E") .after) (replying "R") .answer ≡ refuses (plain 14)
   pub ended-by-Z : replies (replies asked (replying "Z") .after) (replying "R") .answer ≡ refuses (plain 14)
   pub out-of-place : replies (replies asked (replying "R") .after) (replying "Z") .answer ≡ refuses (plain 15)

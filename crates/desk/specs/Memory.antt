@@ -1,4 +1,4 @@
--- The state and the lent memory together, and its rows: a row is a mark and the cell beside it.
+-- The state and the lent memory together: the row of seats, the bits, the count, the cells and the marks.
 use Prim.Native.Nat.{ℕ, zero, suc, _*_, _/_, min}
 use mathlib.Core.List.{List, [], _∷_, _++_}
 use mathlib.Core.Bool.{cond}

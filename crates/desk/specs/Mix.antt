@@ -112,7 +112,7 @@ pub record Sorted (m : Memory) (es : List Event) (s : ℕ) (k : Key) (before : L
   pub held-alone : heldBy (run m es) s ≡ heldBy (run m (heardAll (framesTo k es))) s
   pub answers-alone : answersTo k m es ≡ answersTo k m (heardAll (framesTo k es))
 
--- each open request of any desk that has cells enough
+-- each open request of any desk that has enough cells
 abbrev pub SortsFromAnyDesk : Type 0
 SortsFromAnyDesk =
     (m : Memory) (es : List Event) (s : ℕ)

@@ -1,5 +1,5 @@
 -- The rule of mixed replies, for the frames of one request: which of them it keeps, and how each is answered.
--- No definition of the desk is in it. It uses only what the reader says of a frame: requester, number and status letter.
+-- No definition of the desk is in it. Of a frame it uses only what the reader says: whether it is well formed, its requester, its number and its status letter.
 use Prim.Native.Nat.{ℕ}
 use mathlib.Core.List.{List, [], _∷_}
 use mathlib.Core.Bool.{Bool, true, false, cond, _&&_}

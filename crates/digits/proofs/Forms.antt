@@ -5,14 +5,13 @@ use mathlib.Core.Bool.{true}
 use mathlib.Core.Path.{_≡_, refl, sym, ap, _∙_}
 use native.Mathlib.Omega.{arith}
 use native.Mathlib.Nat.{add-zero, add-suc}
-use lib.Dec.{ltb}
 use borrow.Author.Tests.{ltb-true}
 use lib.ListN.{length, getD, take, drop, List·getD-append}
 use lib.Seq.{getD-at, getD-append-add, drop-cons}
 use Rattle.digits.specs.declared.Number.{Number}
 use Rattle.digits.specs.declared.Number.the-variants.{Is, Wrong}
-use Rattle.digits.specs.Digits.{digits, numberFrom, numberAt, isWidth}
-use Rattle.digits.specs.Form.{Form, Lawful, Inverse, byte, number, named, renamed}
+use Rattle.digits.specs.Digits.{digits, numberFrom, numberAt}
+use Rattle.digits.specs.Form.{Form, Lawful, NumberInverse, byte, number, named, renamed}
 use Rattle.digits.proofs.Reading.{between, some-width}
 use Rattle.digits.proofs.Writing.{length-digits}
 use Rattle.digits.proofs.Laws.{written-is-read, read-was-written}
@@ -50,8 +49,7 @@ number-lawful w h k = record {
 pub number-back : (w v : ℕ) → 1 ≤ w → w ≤ 10 → v < 10 ^ w → numberAt (digits w v) 0 w ≡ Is v
 number-back w v h k f = ap (λ (s : List ℕ). numberAt s 0 w) (sym (append-nil (digits w v))) ∙ written-is-read w v [] [] h k f
 
--- reading and writing a number are inverse, at every width
-pub number-inverse : (w : ℕ) → isWidth w ≡ true → Inverse (number w) (λ v. ltb v (10 ^ w))
+pub number-inverse : NumberInverse
 number-inverse w e =
     let h = between 1 10 w e in
     record { lawful = number-lawful w (h .0) (h .1); back = λ v f. number-back w v (h .0) (h .1) (ltb-true v (10 ^ w) f) }

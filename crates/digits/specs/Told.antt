@@ -1,4 +1,4 @@
--- What an answer means on paper: its values, or a refusal.
+-- What an answer means: its values, or a refusal.
 use mathlib.Core.Bool.{Bool, true, false}
 use mathlib.Core.Path.{_≡_}
 use Rattle.digits.specs.declared.refusal.Refusal.{Refusal}

@@ -9,6 +9,7 @@ pub mod TimingLaws
 pub mod RequestLaws
 pub mod ReplyLaws
 pub mod DynamicLaws
+pub mod Demands
 pub mod Unique
 pub mod KeepsLaws
 pub mod Places

@@ -1,4 +1,4 @@
--- No two refusals of a reader mean the same on paper. Assumes nothing.
+-- No two refusals of a reader mean the same. Assumes nothing.
 use mathlib.Core.Bool.{cond}
 use mathlib.Core.Path.{_≡_, refl, sym, ap, _∙_}
 use lib.Dec.{eqb}
@@ -8,7 +8,7 @@ use Rattle.frames.specs.declared.refusals.ReadRefusal.{ReadRefusal}
 use Rattle.frames.specs.declared.refusals.ReadRefusal.the-variants.{Kind as kind, Length, End, Address, Field}
 use Rattle.frames.specs.Refusals.{readRefused}
 
--- the reader's refusal that means this on paper
+-- the reader's refusal that means this
 abbrev pub readBack : Refusal → ReadRefusal
 readBack f =
     cond (eqb (f .number) (KIND .number)) kind (cond (eqb (f .number) (LENGTH .number)) Length (cond (eqb (f .number) (END .number)) End

@@ -34,7 +34,7 @@ use Rattle.frames.specs.Reply.{reply, toldBy, ReadAs, checkTold}
 use Rattle.frames.specs.Unique.{OneOutcome}
 use Rattle.frames.proofs.RefusalLaws.{same-read-refusal}
 
--- ---- a refusal can be recovered from what it means on paper
+-- ---- a refusal can be recovered from what it means
 
 module _ (A : Type 0) where
   same-refusal : (f g : ReadRefusal) → _≡_ {A = Told A} (refuses (readRefused f)) (refuses (readRefused g)) → f ≡ g

@@ -1,4 +1,4 @@
--- Twelve worked cases with both sides of each limit, and each refusal of reading, writing and running time by its number.
+-- The twelve numbered cases, with the other side of a limit where there is one, and each refusal of reading, writing and running time by its number.
 use Prim.Native.Nat.{ℕ, zero, suc}
 use Prim.Native.String.{String}
 use mathlib.Core.List.{List, [], _∷_, _++_}
@@ -84,7 +84,7 @@ pub record Worked : Type 0 where
   -- 5. the last run
   pub run-250 : Good request (asking "A" "1" "255" "250")
   pub run-251 : FieldAt request (asking "A" "1" "255" "251") 16
-  -- 6. a channel that only replies have
+  -- 6. a channel that a reply can have and a request cannot
   pub asked-250 : FieldAt request (asking "A" "1" "250" "001") 13
   pub replied-250 : Good reply (replying "00041" "250" "1" "0001125400" "+0000000")
   -- 7. a letter that only requests have
@@ -116,9 +116,9 @@ pub record Worked : Type 0 where
   pub record-251 : writeTried (wrongIn request (asked 251)) 24 24 ≡ refuses (placed 6 16)
   pub room-23 : writeTried (wrongIn request (asked 250)) 24 23 ≡ refuses (plain 7)
   pub room-24 : writeTried (wrongIn request (asked 250)) 24 24 ≡ gives tt
+  pub time-of-none : runningTime (record { bib = 0; tnow = 0; tev = 1; sign = 0; days = 0; time = 0 }) ≡ refuses (plain 8)
   -- of two faults, the one that is tested first is reported (the frames of case 9 show KIND before LENGTH, and LENGTH before END)
   pub end-before-address : read request (17 ∷ (codes "S A012000411255001000S" ++ (10 ∷ []))) ≡ refuses (plain 3)
   pub address-before-field : read request (17 ∷ (codes "S [012000411255001000S" ++ (13 ∷ []))) ≡ refuses (plain 4)
   pub first-field : read request (17 ∷ (codes "R [012000411255251000x" ++ (13 ∷ []))) ≡ refuses (placed 5 3)
   pub record-before-room : writeTried (wrongIn request (asked 251)) 24 0 ≡ refuses (placed 6 16)
-  pub time-of-none : runningTime (record { bib = 0; tnow = 0; tev = 1; sign = 0; days = 0; time = 0 }) ≡ refuses (plain 8)

@@ -49,11 +49,11 @@ dynamicFields =
 abbrev pub dynamic : Kind DynamicRequest
 dynamic = record { lead = 19; size = 46; fields = dynamicFields }
 
--- what the reader's answer means on paper
+-- what the reader's answer means
 abbrev pub dynamicTold : DynamicRead → Told DynamicRequest
 dynamicTold (Request r) = gives r
 dynamicTold (Refused f) = refuses (readRefused f)
 
--- what is promised of reading s: on paper the answer is `read dynamic` of s
+-- what is promised of reading s: the answer means `read dynamic` of s
 abbrev pub DynamicAs : List ℕ → DynamicRead → Type 0
 DynamicAs s a = dynamicTold a ≡ read dynamic s

@@ -1,4 +1,4 @@
--- What is demanded of reading and writing a kind of frame: three statements. `Whole` says that a record's arrays have their lengths; one without arrays is whole.
+-- What is demanded of reading and writing a kind of frame: three statements. `Whole` is to say that a record's arrays have their lengths.
 use Prim.Native.Nat.{ℕ, _≤_}
 use mathlib.Core.List.{List, _++_}
 use mathlib.Core.Logic.{_↔_}
@@ -13,7 +13,7 @@ abbrev pub outputOf : {R : Type 0} → Kind R → R → List ℕ → List ℕ
 outputOf k r out = outputAfter (writeTried (wrongIn k r) (k .size) (length out)) (frameOf k r) (k .size) out
 
 pub record Faithful {R : Type 0} (k : Kind R) (Whole : R → Type 0) : Type 0 where
-  -- a well formed record, written to an output with room enough, reads back as itself
+  -- a well formed record, written to an output with enough room, reads back as itself
   pub reads-back : (r : R) → Whole r → wrongIn k r ≡ 0 → (out : List ℕ) → k .size ≤ length out
       → (writeTried (wrongIn k r) (k .size) (length out) ≡ gives tt) × (read k (take (k .size) (outputOf k r out)) ≡ gives r)
   -- an accepted frame, written again, gives its own bytes

@@ -10,7 +10,7 @@ use Rattle.frames.specs.Shape.{Value, is, none, Shape}
 pub data Layout (R : Type 0) : Type 1 where
   -- a field: its offset, its shape, the rule for its value, the part of a record that holds the value, and the layout after it
   field : {A : Type 0} → ℕ → Shape A → (A → Bool) → (R → A) → (A → Layout R) → Layout R
-  -- a further test of a record; if it fails, the record is wrong at this offset
+  -- a further test of a record, which reading a frame skips; if it fails, the record is wrong at this offset
   suits : ℕ → (R → Bool) → Layout R → Layout R
   -- the record with these values
   end : R → Layout R

@@ -9,6 +9,7 @@ pub mod Request
 pub mod Timing
 pub mod Reply
 pub mod Dynamic
+pub mod Demands
 pub mod Unique
 pub mod Keeps
 pub mod Places

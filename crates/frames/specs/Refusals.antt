@@ -1,4 +1,4 @@
--- What the refusals of reading and writing mean on paper.
+-- What the refusals of reading and writing mean: their numbers and offsets.
 use Rattle.digits.specs.declared.refusal.Refusal.{Refusal}
 use Rattle.digits.specs.Refusals.{KIND, LENGTH, END, ADDRESS, FIELD, RECORD, ROOM}
 use Rattle.digits.specs.Told.{Told, gives, refuses}

@@ -108,7 +108,7 @@ abbrev pub zeroReply : StaticReply
 zeroReply =
     record { head = zeroHead; timing = Raw; «raw_time» = replicate 10 0; «raw_date» = replicate 8 0; spare = replicate 2 0 }
 
--- what an answer means on paper
+-- what an answer means
 abbrev pub toldBy : ReadVerdict → StaticReply → Told StaticReply
 toldBy Read r = gives r
 toldBy (Refused f) r = refuses (readRefused f)
@@ -117,7 +117,7 @@ abbrev pub orZero : Told StaticReply → StaticReply
 orZero (gives r) = r
 orZero (refuses f) = zeroReply
 
--- what is promised of reading s: on paper the answer is `read reply` of s, and with a refusal comes the record of zeros
+-- what is promised of reading s: the answer means `read reply` of s, and with a refusal comes the record of zeros
 pub record ReadAs (s : List ℕ) (a : ReplyRead) : Type 0 where
   pub told : toldBy (a .verdict) (a .reply) ≡ read reply s
   pub beside : a .reply ≡ orZero (read reply s)

@@ -39,11 +39,11 @@ requestFields =
 abbrev pub request : Kind StaticRequest
 request = record { lead = 17; size = 24; fields = requestFields }
 
--- what the reader's answer means on paper
+-- what the reader's answer means
 abbrev pub requestTold : RequestRead → Told StaticRequest
 requestTold (Request r) = gives r
 requestTold (Refused f) = refuses (readRefused f)
 
--- what is promised of reading s: on paper the answer is `read request` of s
+-- what is promised of reading s: the answer means `read request` of s
 abbrev pub RequestAs : List ℕ → RequestRead → Type 0
 RequestAs s a = requestTold a ≡ read request s

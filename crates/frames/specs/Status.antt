@@ -17,6 +17,6 @@ statusZ = 90
 unfoldable pub isStatus : ℕ → Bool
 isStatus = oneOf (statusR ∷ statusE ∷ statusZ ∷ [])
 
--- "not available"
+-- the status is Z: not available
 abbrev pub isZ : ℕ → Bool
 isZ status = eqb status statusZ

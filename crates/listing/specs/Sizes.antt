@@ -39,7 +39,7 @@ rowsIn m (suc n) = rowsIn m n + length (heldBy m n)
 abbrev pub RowsAreCollected : Type 0
 RowsAreCollected = (cells marks s : List ℕ) → rowsIn (after cells marks s) seatCount ≡ counts cells marks s .collected
 
--- so a list is the heading, a line for each of these rows, and the end line
+-- so a list has as many lines as replies collected, and two more: the heading and the end line
 abbrev pub LinesAreRows : Type 0
 LinesAreRows = (cells marks s : List ℕ) → length s ≤ mostInput → lines (listOf cells marks s) ≡ 1 + counts cells marks s .collected + 1
 

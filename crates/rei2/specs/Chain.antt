@@ -45,7 +45,7 @@ pub record SortedLent (m m′ : Memory) (es : List Event) (rs : List DeskAnswer)
   pub answers : rs ≡ answersOf m es
   pub sorted : Sorted m es s k [] false false
 
--- a reset, openings, then replies, strays and damaged frames with cells enough: each opened request is sorted, at the seat that its opening returned
+-- a reset, openings, then replies, strays and damaged frames with enough cells: each opened request is sorted, at the seat that its opening returned
 abbrev pub SortsLentCalls : Type 0
 SortsLentCalls =
     (seats : List Seat) (desk : Desk) (cells marks : List ℕ) (emptied : DeskAnswer) (seats₀ : List Seat)

@@ -1,4 +1,4 @@
--- An answer on paper, in numbers: 0 if the call was done, otherwise the number of the refusal with its offset.
+-- What an answer means, in numbers: 0 if the call was done, otherwise the number of the refusal with its offset.
 use Prim.Native.Nat.{ℕ}
 use Rattle.digits.specs.declared.refusal.Refusal.{Refusal}
 use Rattle.digits.specs.Refusals.{plain}

@@ -99,7 +99,7 @@ pub record WroteReplyLent (c : ReplyRecord) (out : List ℕ) (answer : WrittenAn
 
 pub record RecordsMatch : Type 0 where
   pub there-and-back : (r : StaticReply) → recordOf (shown r) ≡ r
-  -- what a record shows has no number left over
+  -- a record, shown in numbers, is as wrong as it was
   pub same-wrong : (r : StaticReply) → wrongInC (shown r) ≡ wrongIn reply r
-  -- a well formed record of C is what a record shows
+  -- every well formed record of C comes from a record
   pub back-and-there : (c : ReplyRecord) → wrongInC c ≡ 0 → shown (recordOf c) ≡ c

@@ -1,4 +1,5 @@
--- What is demanded of the numbers: 0 exactly if the call was done, otherwise one of the table, with an offset just for 5 and 6; no two answers have the same numbers.
+-- What is demanded of the numbers. The refusal is 0 exactly if the call was done. Otherwise it is one of the table, and only 5 and 6 have an offset.
+-- Refusal, offset and value together tell any two answers apart.
 use Prim.Native.Nat.{ℕ}
 use mathlib.Core.List.{List}
 use mathlib.Core.Path.{_≡_}

@@ -9,14 +9,14 @@ use lib.Seq.{sets}
 use borrow.Author.Tests.{leb-true, le-leb}
 use Rattle.digits.specs.declared.Number.{Number}
 use Rattle.digits.specs.declared.Number.the-variants.{Is, Wrong}
-use Rattle.digits.specs.Form.{Lawful, Inverse, number, named}
+use Rattle.digits.specs.Form.{Lawful, number, named}
 use Rattle.digits.specs.Digits.{digits, numberAt}
 use Rattle.digits.proofs.Reading.{both-wrong, no-room}
 use Rattle.digits.proofs.Writing.{length-digits, sets-append}
 use Rattle.digits.proofs.Laws.{read-was-written}
 use Rattle.digits.proofs.Parts.{joined, read-in-parts, written-in-parts}
 use Rattle.digits.proofs.Forms.{number-lawful, number-back, renamed-lawful}
-use Rattle.times.specs.Clock.{aDay, lastTick, isTime, isHour, isSixtieth, hours, minutes, seconds, fraction, ticksOf, clockNumber, clock}
+use Rattle.times.specs.Clock.{aDay, lastTick, isTime, isHour, isSixtieth, hours, minutes, seconds, fraction, ticksOf, clockNumber, clock, ClockInverse}
 use Rattle.times.specs.inside.Clock.{partOf, ticksFrom}
 
 -- what follows for HHMMSSdddd if it has ticks
@@ -93,8 +93,7 @@ ten-digits v h = omega arith
 clock-back : (v : ℕ) → v < aDay → clock .got (clock .put v) 0 ≡ Is v
 clock-back v h = ap (named ticksOf) (number-back 10 (clockNumber v) (omega arith) (omega arith) (ten-digits v h)) ∙ ticks-again v h
 
--- a time of day and its ticks, both ways
-pub clock-inverse : Inverse clock isTime
+pub clock-inverse : ClockInverse
 clock-inverse = record { lawful = clock-lawful; back = λ v e. let h = leb-true v lastTick e in clock-back v (omega arith) }
 
 -- what is read as a time is less than a day

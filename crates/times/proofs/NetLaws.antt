@@ -1,16 +1,17 @@
 -- Net times: the sum and the parts are inverse, both ways. Assumes nothing.
 use mathlib.Core.Path.{_≡_, refl, sym, ap, ap₂, _∙_, subst}
 use mathlib.Core.Bool.{Bool, true, false, _&&_, and-eq-true-iff}
-use Prim.Native.Nat.{ℕ, _+_, _-_, _*_, _≤_, _<_}
+use Prim.Native.Nat.{ℕ, _+_, _-_, _*_, _/_, _%_, _≤_, _<_}
 use native.Mathlib.Omega.{arith}
 use lib.Dec.{T, leb}
 use lib.IntN.{ℤ, pos, negsuc, subℕ, _+ℤ_, _*ℤ_}
-use borrow.Author.Tests.{leb-true, eqb-false, not-true}
+use borrow.Author.Tests.{leb-true, le-leb, lt-leb, ne-eqb, eqb-false, not-true}
+use Rattle.digits.proofs.Tests.{by-less}
 use Rattle.times.specs.declared.signed.SignAndRest.{SignAndRest}
 use Rattle.times.specs.declared.net.NetParts.{NetParts}
 use Rattle.times.specs.declared.net.NetValue.the-variants.{Is, Wrong as no-value}
 use Rattle.times.specs.Clock.{aDay, lastTick}
-use Rattle.times.specs.Net.{signed, isNet, netSum, netValue, netParts, NetInverse, apartOf}
+use Rattle.times.specs.Net.{signed, isNet, netSum, netValue, netParts, NetInverse, isNetValue, NetRange, apartOf}
 use Rattle.times.proofs.SignedLaws.{neg-mul, neg-pos, sub-none, sub-neg}
 
 -- ---- the sum as a difference
@@ -89,6 +90,19 @@ parts-of-net p e = let a = parts-are p e in parts-of-sum (p .minus) (p .days) (p
 
 pub net-inverse : NetInverse
 net-inverse = record { back = parts-of-net; again = sum-of-parts }
+
+-- ---- which values there are
+
+pub net-range : NetRange
+unfolding isNet
+net-range (pos n) =
+    by-less n 8640000000000000
+    (λ h. rw (le-leb (n / aDay) 9999999 (omega (arith, h)), le-leb (n % aDay) lastTick (omega arith), le-leb n 8639999999999999 (omega (arith, h))) refl)
+    (λ h. rw (lt-leb (n / aDay) 9999999 (omega (arith, h)), lt-leb n 8639999999999999 (omega (arith, h))) refl)
+net-range (negsuc n) =
+    by-less n 8639999136000000
+    (λ h. rw (le-leb (n / aDay + 1) 9999999 (omega (arith, h)), le-leb (lastTick - n % aDay) lastTick (omega arith), ne-eqb (n / aDay + 1) 0 (λ z. absurd (omega (arith, z))), le-leb n 8639999135999999 (omega (arith, h))) refl)
+    (λ h. rw (lt-leb (n / aDay + 1) 9999999 (omega (arith, h)), lt-leb n 8639999135999999 (omega (arith, h))) refl)
 
 pub net-days : (p : NetParts) → isNet p ≡ true → p .days ≤ 9999999
 unfolding isNet

@@ -4,7 +4,7 @@ use mathlib.Core.Bool.{Bool, cond, _&&_}
 use lib.Dec.{leb}
 use Rattle.digits.specs.declared.Number.{Number}
 use Rattle.digits.specs.declared.Number.the-variants.{Is, Wrong}
-use Rattle.digits.specs.Form.{Form, number, renamed}
+use Rattle.digits.specs.Form.{Form, number, renamed, Inverse}
 
 -- how many ticks a day has
 abbrev pub aDay : ℕ
@@ -52,3 +52,7 @@ clock = renamed (number 10) ticksOf clockNumber
 -- a time of day in ticks: 0 to the last tick
 abbrev pub isTime : ℕ → Bool
 isTime v = leb v lastTick
+
+-- a time of day and its ticks, both ways
+abbrev pub ClockInverse : Type 0
+ClockInverse = Inverse clock isTime

@@ -37,6 +37,14 @@ pub record NetInverse : Type 0 where
   pub back : (p : NetParts) → isNet p ≡ true → netParts (netSum p) ≡ p
   pub again : (v : ℤ) → netSum (netParts v) ≡ v
 
+-- the values of net times are the numbers from -8,639,999,136,000,000 to 8,639,999,999,999,999; `negsuc n` is -1 - n
+abbrev pub isNetValue : ℤ → Bool
+isNetValue (pos n) = leb n 8639999999999999
+isNetValue (negsuc n) = leb n 8639999135999999
+
+abbrev pub NetRange : Type 0
+NetRange = (v : ℤ) → isNet (netParts v) ≡ isNetValue v
+
 -- a signed number as the code splits it: v is n, or -1 - n if it is negative
 abbrev pub apartOf : ℤ → SignAndRest
 apartOf (pos n) = record { negative = false; rest = n }

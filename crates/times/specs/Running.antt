@@ -30,7 +30,7 @@ abbrev pub runningTold : Running → Told ℤ
 runningTold (Ticks v) = gives v
 runningTold Time = refuses TIME
 
--- what is promised of the answer: on paper it is the running time of these numbers
+-- what is promised of the answer: it means the running time of these numbers
 abbrev pub RunningAs : RunningOf → Running → Type 0
 RunningAs of r = runningTold r ≡ runningTime of
 
