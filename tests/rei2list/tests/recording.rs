@@ -10,6 +10,7 @@ use std::time::{Duration, Instant};
 use rei2list_tests::{bytes_of, line, of_the_page, rei2list_of, room, root, seen, shell, HEADING};
 
 const SET_UP: &str = "stty -F /dev/ttyUSB0 SPEED raw -echo clocal";
+const COPY_REQUESTS: &str = r#"LC_ALL=C awk 'BEGIN { RS = ORS = "\r" } match($0, /\021[^\021\022\023]*$/) { print substr($0, RSTART) }' race.capture > requests.capture"#;
 const RECORD: &str = "cat /dev/ttyUSB0 > race.capture";
 
 fn sample() -> Vec<u8> {
@@ -144,15 +145,14 @@ fn the_pieces_of_a_long_capture_have_all_its_replies() {
     fs::write(room.join("race.capture"), long_capture(replies)).expect("a capture");
     let list = root().canonicalize().expect("the root").join("list");
     let lines = [
-        of_the_page(
-            r#"LC_ALL=C awk 'BEGIN { RS = ORS = "\r" } /^\n?\021R [^\021\022\023]*$/' race.capture > requests.capture"#,
-            &[],
-        ),
+        of_the_page(COPY_REQUESTS, &[]),
+        of_the_page("rm -f piece.*", &[]),
         of_the_page(r#"split -t "$(printf '\r')" -l 200 race.capture piece."#, &[]),
         of_the_page(
             r#"for piece in piece.??; do cat requests.capture "$piece" | ./list > "$piece.tsv"; done"#,
             &[("./list", list.to_str().expect("a name"))],
         ),
+        of_the_page("grep -h '^[0-9]' piece.??.tsv | sort -s -n -k 1,1 > rows.tsv", &[]),
     ];
     let done = seen(shell(&format!("set -e\n{}", lines.join("\n"))).current_dir(&room), Stdio::null());
     assert!(done.done, "{done:?}");
@@ -163,8 +163,40 @@ fn the_pieces_of_a_long_capture_have_all_its_replies() {
     // Of 702 frames the first piece has both requests a second time; the last has 102.
     let ends = lists.each_ref().map(|list| list.lines().last().expect("an end line").to_string());
     assert_eq!(ends, ["end\t2\t198\t0\t2", "end\t2\t200\t0\t0", "end\t2\t200\t0\t0", "end\t2\t102\t0\t0"]);
+    let rows = fs::read_to_string(room.join("rows.tsv")).expect("rows");
+    assert_eq!(rows.lines().count(), replies);
     for (seat, first) in [("0", 0), ("1", 1)] {
-        let all: Vec<_> = lists.iter().flat_map(|list| bibs(list, seat)).collect();
-        assert_eq!(all, (first..replies).step_by(2).collect::<Vec<_>>());
+        assert_eq!(bibs(&rows, seat), (first..replies).step_by(2).collect::<Vec<_>>());
     }
+}
+
+/// As the finder sees them: after other bytes, after a frame that they cut, and not if they are cut themselves.
+#[test]
+fn requests_are_copied_wherever_they_begin() {
+    let room = room("copied");
+    let capture = [
+        &sample()[48..99],
+        b"  ",
+        &sample()[..24],
+        &sample()[48..70],
+        &sample()[24..48],
+        &sample()[..10],
+        &sample()[48..99],
+    ];
+    fs::write(room.join("race.capture"), capture.concat()).expect("a capture");
+    let done = seen(shell(&of_the_page(COPY_REQUESTS, &[])).current_dir(&room), Stdio::null());
+    assert!(done.done, "{done:?}");
+    assert_eq!(fs::read(room.join("requests.capture")).expect("requests"), &sample()[..48]);
+}
+
+#[test]
+fn a_capture_is_cut_at_a_place() {
+    let room = room("places");
+    fs::write(room.join("race.capture"), long_capture(300)).expect("a capture");
+    let lines = ["head -c 9000 race.capture > first.capture", "tail -c +9001 race.capture > second.capture"];
+    let done = seen(shell(&lines.map(|line| of_the_page(line, &[])).join("\n")).current_dir(&room), Stdio::null());
+    assert!(done.done, "{done:?}");
+    let part = |name| fs::read(room.join(name)).expect("a capture");
+    assert_eq!(part("first.capture"), &long_capture(300)[..9000]);
+    assert_eq!(part("second.capture"), &long_capture(300)[9000..]);
 }

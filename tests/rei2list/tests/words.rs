@@ -2,9 +2,9 @@
 
 use std::fs::{self, File};
 use std::os::unix::fs::symlink;
-use std::process::Stdio;
+use std::process::{Command, Stdio};
 
-use rei2list_tests::{bytes_of, command, file, room, seen, shell, Seen};
+use rei2list_tests::{bytes_of, command, file, room, root, seen, shell, Seen};
 
 fn said(out: &str, err: &str, done: bool) -> Seen {
     Seen { out: out.into(), err: err.into(), done }
@@ -45,9 +45,11 @@ fn any_other_argument_is_refused_in_one_line() {
 
 #[test]
 fn a_file_or_standard_input_is_listed() {
-    let none: [&str; 0] = [];
-    assert_eq!(seen(&mut command("list", ["samples/example.capture"]), Stdio::null()), said(&sample_list(), "", true));
-    assert_eq!(seen(&mut command("list", none), file("samples/example.capture")), said(&sample_list(), "", true));
+    let list = |words: &[&str]| seen(&mut command("list", words), file("samples/example.capture"));
+    let note = "list: frames refused: 1; docs/capture.md says how to see why\n";
+    for words in [&["samples/example.capture"] as &[&str], &[], &["-"]] {
+        assert_eq!(list(words), said(&sample_list(), note, true));
+    }
 }
 
 /// Words apart: the page shows tabs as blanks.
@@ -63,17 +65,32 @@ fn the_first_page_shows_the_list_of_the_sample() {
 }
 
 #[test]
-fn a_file_is_found_from_where_the_user_is() {
-    let mut list = command("list", ["example.capture"]);
-    assert_eq!(seen(list.current_dir(rei2list_tests::root().join("samples")), Stdio::null()).out, sample_list());
+fn a_list_without_refused_frames_has_no_note() {
+    let capture = room("two words").join("a capture");
+    fs::write(&capture, &bytes_of("samples/example.capture")[..201]).expect("a capture");
+    let rows = sample_list().replace("end\t2\t3\t0\t1\n", "end\t2\t3\t0\t0\n");
+    assert_eq!(seen(&mut command("list", [&capture]), Stdio::null()), said(&rows, "", true));
+}
+
+#[test]
+fn a_file_is_found_from_where_the_user_is_and_list_by_a_link() {
+    let link = room("link").join("list");
+    symlink(root().join("list").canonicalize().expect("a file"), &link).expect("a link");
+    for program in [root().join("list").canonicalize().expect("a file"), link] {
+        let mut list = Command::new(program);
+        list.arg("example.capture").current_dir(root().join("samples"));
+        assert_eq!(seen(&mut list, Stdio::null()).out, sample_list());
+    }
 }
 
 #[test]
 fn a_missing_kit_is_reported() {
-    // A PATH with the one command that comes before rt.
+    // A PATH with the two commands that come before rt.
     let bin = room("bin");
-    let dirname = seen(&mut shell("command -v dirname"), Stdio::null()).out;
-    symlink(dirname.trim_end(), bin.join("dirname")).expect("a link");
+    for name in ["dirname", "readlink"] {
+        let found = seen(&mut shell(&format!("command -v {name}")), Stdio::null()).out;
+        symlink(found.trim_end(), bin.join(name)).expect("a link");
+    }
     let without_kit = seen(command("list", ["samples/example.capture"]).env("PATH", &bin), Stdio::null());
     assert_eq!(without_kit, said("", "list: rt, the command of the Rattle kit, is not on the PATH\n", false));
 }
@@ -84,11 +101,23 @@ fn what_is_not_a_whole_list_has_its_status() {
     fs::write(&long, vec![b' '; 32_769]).expect("a capture");
     let long = long.to_str().expect("a name");
     let list = |words: &[&str]| seen(&mut command("list", words), Stdio::null());
-    assert_eq!(list(&[long]), said("input too long\n", "", false));
+    assert_eq!(
+        list(&[long]),
+        said(
+            "input too long\n",
+            "list: the capture has more than 32,768 bytes; docs/capture.md says how to split it\n",
+            false
+        )
+    );
     assert_eq!(list(&["no-such-file"]), said("", "list: no-such-file: no such file\n", false));
-    assert_eq!(list(&["/"]), said("", "rei2list: standard input: Is a directory\n", false));
-    assert_eq!(list(&["a", "b"]), said("", "usage: list [CAPTURE] > LIST\n", false));
-    assert_eq!(list(&["-x"]), said("", "usage: list [CAPTURE] > LIST\n", false));
+    assert_eq!(list(&["/"]), said("", "list: /: is a directory\n", false));
+    for words in [&["a", "b"] as &[&str], &["-x"], &["--halp"]] {
+        let refused = list(words);
+        assert!(refused.err.starts_with("usage: list [CAPTURE] > LIST\n") && !refused.done, "{refused:?}");
+        assert_eq!(refused.out, "");
+    }
+    let help = list(&["--help"]);
+    assert!(help.out.starts_with("usage: list [CAPTURE] > LIST\n") && help.done && help.err.is_empty(), "{help:?}");
     let full = File::options().write(true).open("/dev/full").expect("a full device");
     let unwritten = seen(command("list", ["samples/example.capture"]).stdout(full), Stdio::null());
     assert!(!unwritten.done && unwritten.err.contains("No space left on device"), "{unwritten:?}");
