@@ -1,5 +1,8 @@
-# list.py FILE: prints the list of a capture. rei2_list in target/librei2.so makes it.
+# list.py CAPTURE: prints the list of a capture. rei2_list in target/librei2.so makes it.
 import ctypes as c, pathlib, sys
+
+if len(sys.argv) != 2:
+    sys.exit("usage: list.py CAPTURE")
 
 class Listed(c.Structure):  # rei2_listed_answer
     _fields_ = [("refusal", c.c_uint32), ("size", c.c_size_t)]

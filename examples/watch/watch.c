@@ -1,5 +1,6 @@
-/* watch [FILE]: reads the bytes of the serial line as they come, from a file, a device or standard input, and prints
-   for each frame what became of it. All memory is static; nothing is allocated. */
+/* watch [FILE]: reads the bytes of the serial line as they come, from a file, a device or standard input. It prints for
+   each frame what became of it, and at the end the records that each request got. All memory is static; nothing is
+   allocated. */
 #include <errno.h>
 #include <fcntl.h>
 #include <poll.h>
@@ -32,7 +33,7 @@ static size_t have, passed;
 /* ---- input and output */
 
 /* May a reading or a writing that failed be tried again? Yes if a signal interrupted it. Yes also if the file was
-   opened not to wait and is not ready; then this waits until it is. A live line is not at its end in either case. */
+   opened with O_NONBLOCK and is not ready; then this waits until it is. In neither case is a live line at its end. */
 static int may_try_again(int file, short event) {
     struct pollfd awaited = {file, event, 0};
     if (errno == EINTR) {
@@ -89,6 +90,12 @@ static void put_byte(uint32_t byte) {
 static void put(const char *text) {
     while (*text != 0) {
         put_byte((uint8_t)*text++);
+    }
+}
+
+static void put_bytes(const uint8_t *bytes, size_t size) {
+    for (size_t i = 0; i < size; i++) {
+        put_byte(bytes[i]);
     }
 }
 
@@ -229,9 +236,67 @@ static int watch(int file) {
     return error;
 }
 
+/* ---- records */
+
+/* Ticks as HH:MM:SS.dddd. A net time may have more than two digits of hours. */
+static void put_time(uint64_t ticks) {
+    put_number(ticks / 36000000, 2);
+    put(":");
+    put_number(ticks / 600000 % 60, 2);
+    put(":");
+    put_number(ticks / 10000 % 60, 2);
+    put(".");
+    put_number(ticks % 10000, 4);
+}
+
+/* The day of a clock timing, as YYYY-MM-DD. */
+static void put_date(const rei2_timing_numbers *timing) {
+    put_number(timing->year, 4);
+    put("-");
+    put_number(timing->month, 2);
+    put("-");
+    put_number(timing->day, 2);
+}
+
+/* The time of a reply, as the kind of its timing asks. A raw time is not interpreted: its bytes are printed. */
+static void put_timing(const rei2_reply_record *reply) {
+    const rei2_timing_numbers *timing = &reply->timing;
+    if (timing->kind == REI2_CLOCK) {
+        put_time(timing->ticks);
+        put(" ");
+        put_date(timing);
+    } else if (timing->kind == REI2_NET) {
+        put(timing->net < 0 ? "-" : "");
+        put_time((uint64_t)(timing->net < 0 ? -timing->net : timing->net));
+    } else {
+        put_bytes(reply->raw_time, sizeof reply->raw_time);
+    }
+}
+
+static void print_record(const rei2_reply_record *reply) {
+    put("  bib ");
+    put_number(reply->head.bib, 1);
+    put(" ");
+    put_byte(reply->head.information);
+    put(" ");
+    put_timing(reply);
+    end_line();
+}
+
+/* The records of a seat, in the order in which they came. A held cell has a reply that the desk took, so reading it is
+   never refused. */
+static void print_records(uint32_t seat) {
+    rei2_cell_answer held = rei2_next_held(desk, cells, sizeof cells, marks, REI2_CELLS, seat, 0);
+    while (held.found) {
+        rei2_reply_answer answer = rei2_read_reply(cells + held.cell * REI2_CELL_SIZE, REI2_CELL_SIZE);
+        print_record(&answer.reply);
+        held = rei2_next_held(desk, cells, sizeof cells, marks, REI2_CELLS, seat, held.cell + 1);
+    }
+}
+
 /* ---- the end */
 
-static void print_seat(size_t i) {
+static void print_seat(uint32_t i) {
     put("seat ");
     put_number(i, 1);
     put(": ");
@@ -250,11 +315,12 @@ static void put_count(const char *before, size_t count, const char *after) {
     put(after);
 }
 
-/* The seats in use, and the counts. */
+/* The seats in use with their records, and the counts. */
 static void print_end(void) {
-    for (size_t i = 0; i < REI2_SEATS; i++) {
+    for (uint32_t i = 0; i < REI2_SEATS; i++) {
         if (desk.bits >> i & 1) {
             print_seat(i);
+            print_records(i);
         }
     }
     put_count("", counts.opened, " opened");
