@@ -23,6 +23,15 @@ pub fn file(path: &str) -> File {
     File::open(root().join(path)).unwrap_or_else(|e| panic!("{path}: {e}"))
 }
 
+/// The sample capture, and its list.
+pub fn sample() -> Vec<u8> {
+    bytes_of("samples/example.capture")
+}
+
+pub fn sample_list() -> String {
+    String::from_utf8(bytes_of("crates/rei2list/stdout")).expect("text")
+}
+
 /// A new folder for the files of a test.
 pub fn room(name: &str) -> PathBuf {
     let room = root().join("target/rei2list-tests").join(name);

@@ -1,7 +1,6 @@
 -- A byte and a number are lawful forms, and so is a form whose values are those of another form under other names. Assumes nothing.
 use Prim.Native.Nat.{ℕ, zero, suc, _+_, _-_, _*_, _^_, _≤_, _<_}
 use mathlib.Core.List.{List, [], _∷_, _++_, append-nil, append-assoc}
-use mathlib.Core.Bool.{true}
 use mathlib.Core.Path.{_≡_, refl, sym, ap, _∙_}
 use native.Mathlib.Omega.{arith}
 use native.Mathlib.Nat.{add-zero, add-suc}
@@ -12,7 +11,7 @@ use Rattle.digits.specs.declared.Number.{Number}
 use Rattle.digits.specs.declared.Number.the-variants.{Is, Wrong}
 use Rattle.digits.specs.Digits.{digits, numberFrom, numberAt}
 use Rattle.digits.specs.Form.{Form, Lawful, NumberInverse, byte, number, named, renamed}
-use Rattle.digits.proofs.Reading.{between, some-width}
+use Rattle.digits.proofs.Reading.{some-width}
 use Rattle.digits.proofs.Writing.{length-digits}
 use Rattle.digits.proofs.Laws.{written-is-read, read-was-written}
 
@@ -50,9 +49,7 @@ pub number-back : (w v : ℕ) → 1 ≤ w → w ≤ 10 → v < 10 ^ w → number
 number-back w v h k f = ap (λ (s : List ℕ). numberAt s 0 w) (sym (append-nil (digits w v))) ∙ written-is-read w v [] [] h k f
 
 pub number-inverse : NumberInverse
-number-inverse w e =
-    let h = between 1 10 w e in
-    record { lawful = number-lawful w (h .0) (h .1); back = λ v f. number-back w v (h .0) (h .1) (ltb-true v (10 ^ w) f) }
+number-inverse w h k = record { lawful = number-lawful w h k; back = λ v f. number-back w v h k (ltb-true v (10 ^ w) f) }
 
 -- a form under other names is lawful if each name leads back to its value
 module _ (k : Form) (other : ℕ → Number) (own : ℕ → ℕ) (back : (n v : ℕ) → other n ≡ Is v → own v ≡ n) where

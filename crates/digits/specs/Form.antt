@@ -7,7 +7,7 @@ use lib.Dec.{ltb}
 use lib.ListN.{length, getD, take, drop}
 use Rattle.digits.specs.declared.Number.{Number}
 use Rattle.digits.specs.declared.Number.the-variants.{Is, Wrong}
-use Rattle.digits.specs.Digits.{digits, isWidth, numberAt}
+use Rattle.digits.specs.Digits.{digits, numberAt}
 
 -- its width in bytes, the value at a place of a frame, and the bytes of a value
 pub record Form : Type 0 where
@@ -45,4 +45,4 @@ pub record Inverse (k : Form) (good : ℕ → Bool) : Type 0 where
 
 -- reading and writing a number that has room in its digits are inverse, at every width from 1 to 10
 abbrev pub NumberInverse : Type 0
-NumberInverse = (w : ℕ) → isWidth w ≡ true → Inverse (number w) (λ v. ltb v (10 ^ w))
+NumberInverse = (w : ℕ) → 1 ≤ w → w ≤ 10 → Inverse (number w) (λ v. ltb v (10 ^ w))

@@ -13,8 +13,8 @@ use Rattle.times.specs.Net.{isNet}
 use Rattle.times.specs.Running.{inRange, runningTime}
 use Rattle.frames.specs.Rules.{between, upTo, isRaw, isRequester, isOutput}
 use Rattle.frames.specs.Shape.{allFrom}
-use Rattle.frames.specs.Layout.{fieldsOf, recordWrong}
-use Rattle.frames.specs.Kind.{headTold, read, wrongIn, writeTried}
+use Rattle.frames.specs.Layout.{fieldsOf, recordWrong, write}
+use Rattle.frames.specs.Kind.{headTold, read, wrongIn, writeTried, frameOf}
 use Rattle.frames.specs.Status.{isStatus}
 use Rattle.frames.specs.Timing.{timingKind, isSign, timed}
 use Rattle.frames.specs.Request as Q
@@ -123,8 +123,10 @@ unfolding numberAt numberFrom oneOf ticksOf leap monthLength realDay isNet betwe
 frames-read = record { request-read = refl; request-refused = refl; reply-read = refl; reply-refused = refl; dynamic-read = refl; dynamic-refused = refl }
 
 frames-written : FramesWritten
-unfolding oneOf leap monthLength realDay between upTo isRaw isRequester isOutput allFrom recordWrong wrongIn writeTried timingKind timed Q.isInformation Q.isRequestChannel Q.requestFields isStatus P.isLetter P.isReplyChannel P.leastRun P.fromBib P.replyFields timingOf leftOver wrongInC
+unfolding oneOf leap monthLength realDay between upTo isRaw isRequester isOutput allFrom recordWrong wrongIn writeTried timingKind timed Q.isInformation Q.isRequestChannel Q.requestFields isStatus P.isLetter P.isReplyChannel P.leastRun P.fromBib P.replyFields timingOf leftOver wrongInC frameOf write digits
 frames-written = record {
+  bytes = λ _ _ w. w .bytes;
+  no-bytes = λ _ _ w. w .bytes;
   written = λ _ _ w. w .told;
   no-record = λ _ _ w. w .told;
   no-room = λ _ _ w. w .told;

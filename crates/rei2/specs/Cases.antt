@@ -128,7 +128,13 @@ pub record FramesRead : Type 0 where
 abbrev pub Answers : (WrittenAnswer → List ℕ → Type 0) → WrittenAnswer → Type 0
 Answers Promise a = (b : WrittenAnswer) (out′ : List ℕ) → Promise b out′ → b ≡ a
 
+-- a promise on an answer and an output allows no other output than this one
+abbrev pub Leaves : (WrittenAnswer → List ℕ → Type 0) → List ℕ → Type 0
+Leaves Promise out = (b : WrittenAnswer) (out′ : List ℕ) → Promise b out′ → out′ ≡ out
+
 pub record FramesWritten : Type 0 where
+  pub bytes : Leaves (WroteLent request (F.asked 250) (replicate 25 1)) (F.asking "A" "1" "255" "250" ++ (1 ∷ []))
+  pub no-bytes : Leaves (WroteLent request (F.asked 251) (replicate 25 1)) (replicate 25 1)
   pub written : Answers (WroteLent request (F.asked 250) (replicate 24 0)) (record { refusal = 0; offset = 0; size = 24 })
   pub no-record : Answers (WroteLent request (F.asked 251) (replicate 24 0)) (record { refusal = 6; offset = 16; size = 0 })
   pub no-room : Answers (WroteLent request (F.asked 250) (replicate 23 0)) (record { refusal = 7; offset = 0; size = 0 })
@@ -167,10 +173,6 @@ pub record OtherCalls : Type 0 where
   pub no-room : listAnswer (listed [] [] [] []) ≡ record { refusal = 7; size = 0 }
 
 -- ---- a refusal's name on an output: STRAY with a byte to spare, with exactly its room, and with one byte too few
-
--- a promise on an answer and an output allows no other output than this one
-abbrev pub Leaves : (WrittenAnswer → List ℕ → Type 0) → List ℕ → Type 0
-Leaves Promise out = (b : WrittenAnswer) (out′ : List ℕ) → Promise b out′ → out′ ≡ out
 
 pub record NamesWritten : Type 0 where
   pub spared : Leaves (NamedLent (nameOf 13) (replicate 7 1)) (83 ∷ 84 ∷ 82 ∷ 65 ∷ 89 ∷ 0 ∷ 1 ∷ [])

@@ -8,7 +8,7 @@ use std::process::Stdio;
 use std::thread;
 use std::time::Duration;
 
-use rei2list_tests::{bytes_of, command, file, rei2list, rei2list_of, seen, shell, Seen, HEADING};
+use rei2list_tests::{command, file, rei2list, rei2list_of, sample, sample_list, seen, shell, Seen, HEADING};
 
 fn list(text: &str) -> Seen {
     Seen { out: text.into(), err: String::new(), done: true }
@@ -17,14 +17,6 @@ fn list(text: &str) -> Seen {
 /// Nothing on standard output, and one line on standard error. The exit status says nothing.
 fn failed(line: &str) -> Seen {
     Seen { out: String::new(), err: format!("rei2list: {line}\n"), done: true }
-}
-
-fn sample() -> Vec<u8> {
-    bytes_of("samples/example.capture")
-}
-
-fn sample_list() -> Seen {
-    list(&String::from_utf8(bytes_of("crates/rei2list/stdout")).expect("text"))
 }
 
 /// A socket for the program to read, and the other end.
@@ -36,7 +28,7 @@ fn socket() -> (Stdio, UnixStream, UnixStream) {
 
 #[test]
 fn the_sample_is_listed() {
-    assert_eq!(rei2list(file("samples/example.capture")), sample_list());
+    assert_eq!(rei2list(file("samples/example.capture")), list(&sample_list()));
 }
 
 #[test]
@@ -54,7 +46,7 @@ fn an_input_that_comes_in_pieces_is_read_to_its_end() {
             thread::sleep(Duration::from_millis(50));
         }
     });
-    assert_eq!(rei2list(input), sample_list());
+    assert_eq!(rei2list(input), list(&sample_list()));
     writer.join().expect("all pieces");
 }
 
@@ -62,7 +54,7 @@ fn an_input_that_comes_in_pieces_is_read_to_its_end() {
 fn the_largest_capture_is_listed_and_a_larger_one_is_not() {
     let mut capture = sample();
     capture.resize(32_768, b' ');
-    assert_eq!(rei2list_of("largest", &capture), sample_list());
+    assert_eq!(rei2list_of("largest", &capture), list(&sample_list()));
     capture.push(b' ');
     assert_eq!(rei2list_of("larger", &capture), list("input too long\n"));
 }

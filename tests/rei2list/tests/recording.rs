@@ -7,19 +7,11 @@ use std::process::Stdio;
 use std::thread;
 use std::time::{Duration, Instant};
 
-use rei2list_tests::{bytes_of, line, of_the_page, rei2list_of, room, root, seen, shell, HEADING};
+use rei2list_tests::{bytes_of, line, of_the_page, rei2list_of, room, root, sample, sample_list, seen, shell, HEADING};
 
 const SET_UP: &str = "stty -F /dev/ttyUSB0 SPEED raw -echo clocal";
 const COPY_REQUESTS: &str = r#"LC_ALL=C awk 'BEGIN { RS = ORS = "\r" } match($0, /\021[^\021\022\023]*$/) { print substr($0, RSTART) }' race.capture > requests.capture"#;
 const RECORD: &str = "cat /dev/ttyUSB0 > race.capture";
-
-fn sample() -> Vec<u8> {
-    bytes_of("samples/example.capture")
-}
-
-fn sample_list() -> String {
-    String::from_utf8(bytes_of("crates/rei2list/stdout")).expect("text")
-}
 
 /// What is recorded of these bytes, after the port was set up with a line of shell. The recording ends when as many bytes have come.
 fn recorded(set_up: &str, port: &str, master: &mut fs::File, bytes: &[u8]) -> Vec<u8> {

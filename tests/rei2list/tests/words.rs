@@ -4,14 +4,10 @@ use std::fs::{self, File};
 use std::os::unix::fs::symlink;
 use std::process::{Command, Stdio};
 
-use rei2list_tests::{bytes_of, command, file, room, root, seen, shell, Seen};
+use rei2list_tests::{bytes_of, command, file, room, root, sample_list, seen, shell, Seen};
 
 fn said(out: &str, err: &str, done: bool) -> Seen {
     Seen { out: out.into(), err: err.into(), done }
-}
-
-fn sample_list() -> String {
-    String::from_utf8(bytes_of("crates/rei2list/stdout")).expect("text")
 }
 
 #[test]
