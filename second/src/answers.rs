@@ -320,18 +320,23 @@ mod tests {
         check("running 0 0 1 0 0 0", "8 0 0");
         check("read-request -", "1 0");
         check("read-request 11", "2 0");
-        check(&format!("read-request {FIRST}"), "0 0 49 7 0 80 0 2 0 83");
         check(
-            "write-request 25 49 7 0 80 0 2 0 83",
+            &format!("read-request {FIRST}"),
+            "0 0 32 49 7 0 80 0 2 0 83",
+        );
+        check(
+            "write-request 25 32 49 7 0 80 0 2 0 83",
             &format!("0 0 {FIRST}ee"),
         );
-        check("write-request 2 49 7 0 80 0 2 0 83", "7 0 eeee");
-        check("write-request 0 49 7 0 80 250 251 0 83", "6 13 -");
+        check("write-request 2 32 49 7 0 80 0 2 0 83", "7 0 eeee");
+        check("write-request 0 32 49 7 0 80 250 251 0 83", "6 13 -");
+        check("write-request 0 47 91 7 0 80 0 2 0 83", "6 2 -");
+        check("write-request 0 48 91 7 0 80 0 2 0 83", "6 3 -");
     }
 
     /// The example's second reply and its record.
     const REPLY: &[u8] = b"\x12R SOEA000120004100000101525510001125400+0000000  \r";
-    const REPLY_RECORD: &str = "83 79 69 65 12 41 0 1 15 255 49 net 725400 \
+    const REPLY_RECORD: &str = "32 83 79 69 65 12 41 0 1 15 255 49 net 725400 \
                                 00000000000000000000 0000000000000000 2020";
 
     #[test]
@@ -359,15 +364,15 @@ mod tests {
 
     #[test]
     fn dynamic_requests() {
-        let frame = bytes_text(b"\x13R zA600002502506000024000010000000000000001T\r");
-        let record = "122 65 60000 250 250 60000 240 0 1 0 0 1 84";
+        let frame = bytes_text(b"\x13R9zA600002502506000024000010000000000000001T\r");
+        let record = "57 122 65 60000 250 250 60000 240 0 1 0 0 1 84";
         check(&format!("read-dynamic {frame}"), &format!("0 0 {record}"));
         check(
             &format!("write-dynamic 47 {record}"),
             &format!("0 0 {frame}ee"),
         );
         check(
-            "write-dynamic 1 122 65 60001 250 250 60000 240 0 1 0 0 1 84",
+            "write-dynamic 1 57 122 65 60001 250 250 60000 240 0 1 0 0 1 84",
             "6 5 ee",
         );
     }
@@ -393,7 +398,7 @@ mod tests {
     #[test]
     fn the_desk_lasts_from_line_to_line() {
         let script = format!("open {FIRST}\nread-request 11\nused\nlend 0 0\nused\n");
-        let answers = "0 0 0 1 0 seat 0 49 7 0 0\n2 0\n1\n0\n0\n";
+        let answers = "0 0 0 1 0 seat 0 32 49 7 0 0\n2 0\n1\n0\n0\n";
         assert_eq!(file(script.as_bytes()).as_deref(), Ok(answers));
         // The desk does not last beyond the end of the file.
         check("used", "0");
@@ -405,6 +410,7 @@ mod tests {
         let answers = file(format!("damage-reply {reply}\n").as_bytes()).expect("a case");
         let lines: Vec<&str> = answers.lines().collect();
         assert_eq!(lines.len(), 51);
+        assert_eq!(lines[2], "2 32*4.0 1*0.0 15*4.0 10*0.0 198*4.0");
         assert_eq!(lines[5], "5 69*5.5 1*0.0 12*5.5 1*0.0 7*5.5 1*0.0 165*5.5");
         // Minus zero days are refused.
         assert_eq!(lines[40], "40 43*5.40 1*0.0 212*5.40");
@@ -418,13 +424,22 @@ mod tests {
         let lines: Vec<&str> = answers.lines().collect();
         assert_eq!(lines.len(), 24);
         assert_eq!(lines[0], "0 17*1.0 1*0.0 238*1.0");
-        assert_eq!(lines[2], "2 32*4.0 1*0.0 223*4.0");
+        assert_eq!(lines[2], "2 32*4.0 1*0.0 15*4.0 10*0.0 198*4.0");
         assert_eq!(
             lines[3],
             "3 48*5.3 10*0.0 7*5.3 26*0.0 6*5.3 26*0.0 133*5.3"
         );
         assert_eq!(lines[5], "5 48*5.4 10*0.0 198*5.4");
         assert_eq!(lines[23], "23 13*3.0 1*0.0 242*3.0");
+    }
+
+    /// A wrong field behind a good address is reported. Behind a wrong address it is not.
+    #[test]
+    fn damage_of_the_address_before_a_wrong_field() {
+        let request = FIRST.replacen("5220313030", "52205b3030", 1);
+        let answers = file(format!("damage-request {request}\n").as_bytes()).expect("a case");
+        let lines: Vec<&str> = answers.lines().collect();
+        assert_eq!(lines[2], "2 32*4.0 1*5.3 15*4.0 10*5.3 198*4.0");
     }
 
     #[test]
@@ -456,15 +471,16 @@ mod tests {
             "running 1 0 0 0 0 0 0",
             "read-request 1",
             "read-request AA",
-            "write-request 101 49 7 0 80 0 2 0 83",
-            "write-request 24 256 7 0 80 0 2 0 83",
-            "write-request 24 49 7 0 80 0 2 0",
+            "write-request 101 32 49 7 0 80 0 2 0 83",
+            "write-request 24 32 256 7 0 80 0 2 0 83",
+            "write-request 24 256 49 7 0 80 0 2 0 83",
+            "write-request 24 32 49 7 0 80 0 2 0",
             "read-reply-value 12",
             "read-reply-value -",
             "write-reply 51",
             "write-reply-value",
-            "write-dynamic 101 122 65 60000 250 250 60000 240 0 1 0 0 1 84",
-            "write-dynamic 46 122 65 60000 250 250 60000 240 0 1 0 0 1",
+            "write-dynamic 101 32 122 65 60000 250 250 60000 240 0 1 0 0 1 84",
+            "write-dynamic 46 32 122 65 60000 250 250 60000 240 0 1 0 0 1",
             "damage-reply",
             "read-request -\r",
             "find",

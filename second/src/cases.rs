@@ -95,9 +95,20 @@ pub mod tests {
         "find",
         "find-from",
     ];
-    pub const SCRIPT_WORDS: [&str; 12] = [
-        "lend", "bits", "count", "seat", "mark", "cell", "open", "reply", "reset", "used", "held",
+    pub const SCRIPT_WORDS: [&str; 13] = [
+        "lend",
+        "bits",
+        "count",
+        "seat",
+        "mark",
+        "cell",
+        "open",
+        "reply",
+        "reset",
+        "used",
+        "held",
         "mixes",
+        "mixes-by-address",
     ];
 
     const MOST_BYTES_OF_FILE: usize = 700_000;

@@ -17,10 +17,11 @@ pub const CELL: usize = Reply::LENGTH;
 /// A desk has no more cells than this, however many are lent.
 pub const MOST_CELLS: usize = 256;
 
-/// The record of a seat. All four parts are plain numbers, so a seat that makes no desk can be held
+/// The record of a seat. All five parts are plain numbers, so a seat that makes no desk can be held
 /// too.
 #[derive(Clone, Copy, Debug, Default, PartialEq, Eq)]
 pub struct Seat {
+    pub address: u32,
     pub requester: u32,
     pub number: u32,
     /// How many records it holds.
@@ -32,6 +33,7 @@ pub struct Seat {
 /// What a reply is matched by. Nothing else is compared.
 #[derive(Clone, Copy, Debug, PartialEq, Eq)]
 struct Key {
+    address: u32,
     requester: u32,
     number: u64,
 }
@@ -39,6 +41,7 @@ struct Key {
 impl Seat {
     fn key(&self) -> Key {
         Key {
+            address: self.address,
             requester: self.requester,
             number: self.number.into(),
         }
@@ -49,6 +52,7 @@ impl Seat {
 impl Key {
     fn of_request(request: &Request) -> Self {
         Key {
+            address: request.address.into(),
             requester: request.requester.into(),
             number: request.number,
         }
@@ -56,6 +60,7 @@ impl Key {
 
     fn of_reply(reply: &Reply) -> Self {
         Key {
+            address: reply.address.into(),
             requester: reply.requester.into(),
             number: reply.number,
         }
@@ -192,6 +197,7 @@ impl Desk {
     fn take_seat(&mut self, seat: usize, request: &Request) {
         self.bits |= 1 << seat;
         self.seats[seat] = Seat {
+            address: request.address.into(),
             requester: request.requester.into(),
             number: u32::try_from(request.number).expect("a request's number has three digits"),
             held: 0,

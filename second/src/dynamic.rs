@@ -1,12 +1,13 @@
 //! The dynamic request: 46 bytes, lead byte DC3.
 
 use crate::digits;
-use crate::frame::{self, is_output, is_requester, Kind};
+use crate::frame::{self, is_address, is_output, is_requester, Kind};
 use crate::refusal::Refusal;
 use crate::times;
 
 /// The offset at which each field begins.
 pub mod at {
+    pub use crate::frame::ADDRESS;
     pub const REQUESTER: usize = 3;
     pub const ORDER: usize = 4;
     pub const BIB: usize = 5;
@@ -38,6 +39,7 @@ pub const ORDERS: &[u8; 6] = b"ABabTt";
 /// The numbers are wide, so that a record that is not well formed can be held too.
 #[derive(Clone, Debug, PartialEq, Eq)]
 pub struct Dynamic {
+    pub address: u8,
     pub requester: u8,
     pub order: u8,
     pub bib: u64,
@@ -57,7 +59,7 @@ impl Kind for Dynamic {
     const LEAD: u8 = 0x13;
     const LENGTH: usize = 46;
 
-    fn read_fields(frame: &[u8]) -> Result<Self, Refusal> {
+    fn read_fields(address: u8, frame: &[u8]) -> Result<Self, Refusal> {
         let requester = frame::letter(frame, at::REQUESTER, is_requester)?;
         let order = frame::letter(frame, at::ORDER, is_order)?;
         let bib = frame::number(frame, at::BIB, width::BIB, is_bib)?;
@@ -74,6 +76,7 @@ impl Kind for Dynamic {
         })?;
         let output = frame::letter(frame, at::OUTPUT, is_output)?;
         Ok(Dynamic {
+            address,
             requester,
             order,
             bib,
@@ -92,6 +95,7 @@ impl Kind for Dynamic {
 
     fn first_wrong_field(&self) -> Option<usize> {
         frame::first_wrong(&[
+            (at::ADDRESS, is_address(self.address)),
             (at::REQUESTER, is_requester(self.requester)),
             (at::ORDER, is_order(self.order)),
             (at::BIB, is_bib(self.bib)),
@@ -109,7 +113,7 @@ impl Kind for Dynamic {
     }
 
     fn fields(&self) -> Vec<u8> {
-        let mut fields = vec![self.requester, self.order];
+        let mut fields = vec![self.address, self.requester, self.order];
         fields.extend(digits::write(self.bib, width::BIB));
         fields.extend(digits::write(self.channel, width::CHANNEL));
         fields.extend(digits::write(self.run, width::RUN));
@@ -165,7 +169,7 @@ mod tests {
     use super::*;
 
     const PLUS: &[u8; 46] = b"\x13R 1a000150000020004125500301234567898200100S\r";
-    const MINUS_ZERO: &[u8; 46] = b"\x13R zA600002502506000024000010000000000000001T\r";
+    const MINUS_ZERO: &[u8; 46] = b"\x13R4zA600002502506000024000010000000000000001T\r";
 
     fn with(offset: usize, text: &[u8]) -> Vec<u8> {
         let mut bytes = PLUS.to_vec();
@@ -185,6 +189,7 @@ mod tests {
 
     fn plus() -> Dynamic {
         Dynamic {
+            address: b' ',
             requester: b'1',
             order: b'a',
             bib: 15,
@@ -203,6 +208,7 @@ mod tests {
 
     fn minus_zero() -> Dynamic {
         Dynamic {
+            address: b'4',
             requester: b'z',
             order: b'A',
             bib: 60_000,
@@ -227,6 +233,24 @@ mod tests {
             assert_eq!(record.write(&mut output), Ok(()));
             assert_eq!(&output[..46], frame);
             assert_eq!(output[46..], [0xee; 2]);
+        }
+    }
+
+    #[test]
+    fn every_address_is_read_and_written_back() {
+        for address in 0..=u8::MAX {
+            let frame = with(at::ADDRESS, &[address]);
+            let record = Dynamic { address, ..plus() };
+            let mut output = [0xee; 46];
+            if b" 0123456789".contains(&address) {
+                assert_eq!(Dynamic::read(&frame).as_ref(), Ok(&record));
+                assert_eq!(record.write(&mut output), Ok(()));
+                assert_eq!(output, frame[..]);
+            } else {
+                assert_eq!(Dynamic::read(&frame), Err(Refusal::Address));
+                assert_eq!(record.write(&mut output), Err(Refusal::Record(2)));
+                assert_eq!(output, [0xee; 46]);
+            }
         }
     }
 
@@ -298,7 +322,9 @@ mod tests {
     fn refusals_come_in_order() {
         let mut bytes = with(at::SIGN, b"22400000000 ");
         assert_eq!(Dynamic::read(&bytes), Err(Refusal::Field(27)));
-        bytes[2] = 0;
+        bytes[2] = b'9';
+        assert_eq!(Dynamic::read(&bytes), Err(Refusal::Field(27)));
+        bytes[2] = b':';
         assert_eq!(Dynamic::read(&bytes), Err(Refusal::Address));
         bytes[45] = 0;
         assert_eq!(Dynamic::read(&bytes), Err(Refusal::End));
@@ -311,6 +337,11 @@ mod tests {
 
     #[test]
     fn a_record_that_is_not_well_formed() {
+        let wrong_from_the_address_on = Dynamic {
+            address: b'-',
+            requester: b'[',
+            ..plus()
+        };
         let wrong_from_the_sign_on = Dynamic {
             sign: 2,
             time: 864_000_000,
@@ -331,6 +362,7 @@ mod tests {
             ..plus()
         };
         for (record, offset) in [
+            (wrong_from_the_address_on, 2),
             (wrong_from_the_sign_on, 27),
             (wrong_from_the_time_on, 28),
             (wrong_days, 38),

@@ -7,28 +7,31 @@ use crate::times;
 
 pub const CR: u8 = 0x0d;
 
-/// Bytes 1 and 2 of every frame.
-const ADDRESS: &[u8] = b"R ";
-const ADDRESS_OFFSET: usize = 1;
+/// Byte 1 of every frame.
+const BYTE_1: u8 = b'R';
+
+/// The offset of the address in every frame.
+pub const ADDRESS: usize = 2;
 
 /// One kind of frame, implemented by the record that holds its contents.
 pub trait Kind: Sized {
     const LEAD: u8;
     const LENGTH: usize;
 
-    /// Reads the fields of a frame that has nothing wrong around them. They are read by rising
-    /// offset, so the refusal names the first wrong one.
-    fn read_fields(frame: &[u8]) -> Result<Self, Refusal>;
+    /// Reads the fields of a frame that has this address and nothing wrong around the fields. They
+    /// are read by rising offset, so the refusal names the first wrong one.
+    fn read_fields(address: u8, frame: &[u8]) -> Result<Self, Refusal>;
 
-    /// The offset of the first field that keeps the record from being well formed.
+    /// The offset of the first field that keeps the record from being well formed. The address is
+    /// the first of all.
     fn first_wrong_field(&self) -> Option<usize>;
 
-    /// The bytes between the address and the CR in the frame of a well formed record.
+    /// The bytes from the address up to the CR in the frame of a well formed record.
     fn fields(&self) -> Vec<u8>;
 
     fn read(frame: &[u8]) -> Result<Self, Refusal> {
-        check_surround(frame, Self::LEAD, Self::LENGTH)?;
-        Self::read_fields(frame)
+        let address = read_surround(frame, Self::LEAD, Self::LENGTH)?;
+        Self::read_fields(address, frame)
     }
 
     /// Writes the frame to the first bytes of `output` and changes no other byte. RECORD is tried
@@ -38,14 +41,15 @@ pub trait Kind: Sized {
             return Err(Refusal::Record(offset));
         }
         let target = output.get_mut(..Self::LENGTH).ok_or(Refusal::Room)?;
-        let frame = [&[Self::LEAD], ADDRESS, &self.fields(), &[CR]].concat();
+        let frame = [&[Self::LEAD, BYTE_1][..], &self.fields(), &[CR]].concat();
         target.copy_from_slice(&frame);
         Ok(())
     }
 }
 
-/// Refusals 1 to 4, tried in that order. A frame with several faults gets the lowest number.
-fn check_surround(frame: &[u8], lead: u8, length: usize) -> Result<(), Refusal> {
+/// The address of a frame, or one of refusals 1 to 4. They are tried in that order, so a frame with
+/// several faults gets the lowest number.
+fn read_surround(frame: &[u8], lead: u8, length: usize) -> Result<u8, Refusal> {
     if frame.first() != Some(&lead) {
         return Err(Refusal::Kind);
     }
@@ -55,10 +59,10 @@ fn check_surround(frame: &[u8], lead: u8, length: usize) -> Result<(), Refusal> 
     if frame.last() != Some(&CR) {
         return Err(Refusal::End);
     }
-    if frame.get(ADDRESS_OFFSET..ADDRESS_OFFSET + ADDRESS.len()) != Some(ADDRESS) {
-        return Err(Refusal::Address);
+    match *frame {
+        [_, BYTE_1, address, ..] if is_address(address) => Ok(address),
+        _ => Err(Refusal::Address),
     }
-    Ok(())
 }
 
 /// The letter at `offset`, if it is good.
@@ -102,6 +106,11 @@ pub fn first_wrong(fields: &[(usize, bool)]) -> Option<usize> {
     wrong.map(|&(offset, _)| offset)
 }
 
+/// A space or a digit. The space is an address of its own, and not the same as `0`.
+pub fn is_address(code: u8) -> bool {
+    matches!(code, b' ' | b'0'..=b'9')
+}
+
 /// Three ranges, not one: the bytes between `9` and `A`, and between `Z` and `a`, are not
 /// requesters.
 pub fn is_requester(code: u8) -> bool {
@@ -130,6 +139,37 @@ mod tests {
         let codes = || 0..=u8::MAX;
         assert_eq!(codes().filter(|&code| is_requester(code)).count(), 62);
         assert_eq!(codes().filter(|&code| is_output(code)).count(), 4);
+    }
+
+    #[test]
+    fn there_are_11_addresses() {
+        let good: Vec<u8> = (0..=u8::MAX).filter(|&code| is_address(code)).collect();
+        assert_eq!(good, b" 0123456789");
+    }
+
+    #[test]
+    fn the_address_is_returned_as_sent() {
+        for address in *b" 0123456789" {
+            let frame = [0x11, b'R', address, b'x', CR];
+            assert_eq!(read_surround(&frame, 0x11, 5), Ok(address));
+        }
+        for address in [0x00, 0x1f, 0x21, 0x2d, 0x2f, 0x3a, b'R', 0xb0] {
+            let frame = [0x11, b'R', address, b'x', CR];
+            assert_eq!(read_surround(&frame, 0x11, 5), Err(Refusal::Address));
+        }
+        for other in *b"Qr 0" {
+            let frame = [0x11, other, b'0', b'x', CR];
+            assert_eq!(read_surround(&frame, 0x11, 5), Err(Refusal::Address));
+        }
+    }
+
+    #[test]
+    fn the_address_is_tried_after_the_end() {
+        for frame in [b"\x11R-x\n", b"\x11S0x\n", b"\x11R9x\n"] {
+            assert_eq!(read_surround(frame, 0x11, 5), Err(Refusal::End));
+            assert_eq!(read_surround(frame, 0x11, 6), Err(Refusal::Length));
+            assert_eq!(read_surround(frame, 0x12, 6), Err(Refusal::Kind));
+        }
     }
 
     #[test]

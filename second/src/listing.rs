@@ -21,10 +21,13 @@ pub const MOST_BYTES: usize = 32_768;
 const TOO_LONG: &[u8] = b"input too long\n";
 
 const HEADING: &[u8] =
-    b"seat\tfrom\tnumber\tbib\tgroup\trun\tphys\tlog\tinfo\ttime\tdate\tstatus\n";
+    b"seat\tfrom\taddr\tnumber\tbib\tgroup\trun\tphys\tlog\tinfo\ttime\tdate\tstatus\n";
 
 /// The first field of the line of counts.
 const END: &[u8] = b"end";
+
+/// What the column `addr` shows for a space. No address is this byte.
+const SPACE_SHOWN: u8 = b'-';
 
 /// How many digits a request's number has.
 const DIGITS_OF_NUMBER: usize = 3;
@@ -137,12 +140,21 @@ fn row(desk: &Desk, seat: usize, reply: &[u8]) -> Vec<u8> {
     let mut fields = vec![
         plain(seat),
         reply[at::REQUESTER..at::NUMBER].to_vec(),
+        vec![address_shown(reply[at::ADDRESS])],
         digits::write(number, DIGITS_OF_NUMBER),
     ];
     for column in COLUMNS {
         fields.push(reply[column].to_vec());
     }
     line(&fields)
+}
+
+/// A digit is shown as it is. A space is shown as `-`.
+fn address_shown(address: u8) -> u8 {
+    match address {
+        b' ' => SPACE_SHOWN,
+        digit => digit,
+    }
 }
 
 /// A seat or a count, with as many digits as it needs.

@@ -40,9 +40,9 @@ impl<'a> Words<'a> {
         Ok(parse_number(self.word()?)?.into())
     }
 
-    /// A letter's code is a byte.
+    /// The code of a letter or of an address is a byte.
     fn code(&mut self) -> Result<u8, NotACase> {
-        u8::try_from(self.number::<u32>()?).map_err(|_| NotACase("a letter's code is below 256"))
+        u8::try_from(self.number::<u32>()?).map_err(|_| NotACase("a code is below 256"))
     }
 
     fn array<const LENGTH: usize>(&mut self) -> Result<[u8; LENGTH], NotACase> {
@@ -74,6 +74,7 @@ pub fn parse_array<const LENGTH: usize>(word: &str) -> Result<[u8; LENGTH], NotA
 impl Spelled for Request {
     fn text(&self) -> String {
         let Request {
+            address,
             requester,
             number,
             bib,
@@ -83,11 +84,14 @@ impl Spelled for Request {
             group,
             output,
         } = self;
-        format!("{requester} {number} {bib} {information} {channel} {run} {group} {output}")
+        format!(
+            "{address} {requester} {number} {bib} {information} {channel} {run} {group} {output}"
+        )
     }
 
     fn take(words: &mut Words) -> Result<Self, NotACase> {
         Ok(Request {
+            address: words.code()?,
             requester: words.code()?,
             number: words.number()?,
             bib: words.number()?,
@@ -103,6 +107,7 @@ impl Spelled for Request {
 impl Spelled for Reply {
     fn text(&self) -> String {
         let Reply {
+            address,
             program,
             mode,
             status,
@@ -122,13 +127,14 @@ impl Spelled for Reply {
         let timing = timing_text(*timing);
         let [raw_time, raw_date, spare] = [&raw_time[..], raw_date, spare].map(bytes_text);
         format!(
-            "{program} {mode} {status} {requester} {number} {bib} {group} {run} {physical} \
-             {channel} {information} {timing} {raw_time} {raw_date} {spare}"
+            "{address} {program} {mode} {status} {requester} {number} {bib} {group} {run} \
+             {physical} {channel} {information} {timing} {raw_time} {raw_date} {spare}"
         )
     }
 
     fn take(words: &mut Words) -> Result<Self, NotACase> {
         Ok(Reply {
+            address: words.code()?,
             program: words.code()?,
             mode: words.code()?,
             status: words.code()?,
@@ -164,6 +170,7 @@ fn timing_text(timing: Timing) -> String {
 impl Spelled for Dynamic {
     fn text(&self) -> String {
         let Dynamic {
+            address,
             requester,
             order,
             bib,
@@ -179,13 +186,14 @@ impl Spelled for Dynamic {
             output,
         } = self;
         format!(
-            "{requester} {order} {bib} {channel} {run} {stop_bib} {stop_channel} {stop_run} \
-             {sign} {time} {days} {period} {output}"
+            "{address} {requester} {order} {bib} {channel} {run} {stop_bib} {stop_channel} \
+             {stop_run} {sign} {time} {days} {period} {output}"
         )
     }
 
     fn take(words: &mut Words) -> Result<Self, NotACase> {
         Ok(Dynamic {
+            address: words.code()?,
             requester: words.code()?,
             order: words.code()?,
             bib: words.number()?,
@@ -222,12 +230,26 @@ mod tests {
 
     #[test]
     fn records_there_and_back() {
-        check_there_and_back::<Request>("1 2 3 4 5 6 7 8");
-        check_there_and_back::<Dynamic>("1 2 3 4 5 6 7 8 9 10 11 12 13");
+        check_there_and_back::<Request>("1 2 3 4 5 6 7 8 9");
+        check_there_and_back::<Dynamic>("1 2 3 4 5 6 7 8 9 10 11 12 13 14");
         for timing in ["clock 12 13 14 15", "net -16", "raw"] {
             check_there_and_back::<Reply>(&format!(
-                "1 2 3 4 5 6 7 8 9 10 11 {timing} 00010203040506070809 1011121314151617 2021"
+                "1 2 3 4 5 6 7 8 9 10 11 12 {timing} 00010203040506070809 1011121314151617 2021"
             ));
+        }
+    }
+
+    #[test]
+    fn an_address_is_a_byte() {
+        for (address, good) in [("0", true), ("32", true), ("255", true), ("256", false)] {
+            let request = parse::<Request>(&format!("{address} 2 3 4 5 6 7 8 9"));
+            assert_eq!(request.is_ok(), good, "{address}");
+            let dynamic = parse::<Dynamic>(&format!("{address} 2 3 4 5 6 7 8 9 10 11 12 13 14"));
+            assert_eq!(dynamic.is_ok(), good, "{address}");
+            let reply = parse::<Reply>(&format!(
+                "{address} 2 3 4 5 6 7 8 9 10 11 12 raw 00000000000000000000 0000000000000000 0000"
+            ));
+            assert_eq!(reply.is_ok(), good, "{address}");
         }
     }
 
@@ -244,7 +266,7 @@ mod tests {
             "clock -1 1 1 1 00000000000000000000 0000000000000000 0000",
             "other 00000000000000000000 0000000000000000 0000",
         ] {
-            let text = format!("1 2 3 4 5 6 7 8 9 10 11 {end}");
+            let text = format!("1 2 3 4 5 6 7 8 9 10 11 12 {end}");
             assert!(parse::<Reply>(&text).is_err(), "{text}");
         }
     }

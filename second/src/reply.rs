@@ -2,12 +2,13 @@
 //! 000.
 
 use crate::digits;
-use crate::frame::{self, all_raw, is_raw, is_requester, Kind};
+use crate::frame::{self, all_raw, is_address, is_raw, is_requester, Kind};
 use crate::refusal::Refusal;
 use crate::times::{self, Net};
 
 /// The offset at which each field begins.
 pub mod at {
+    pub use crate::frame::ADDRESS;
     pub const PROGRAM: usize = 3;
     pub const MODE: usize = 4;
     pub const STATUS: usize = 5;
@@ -95,6 +96,7 @@ impl TimingKind {
 /// The raw parts are zero bytes if the timing is not raw.
 #[derive(Clone, Debug, PartialEq, Eq)]
 pub struct Reply {
+    pub address: u8,
     pub program: u8,
     pub mode: u8,
     pub status: u8,
@@ -116,7 +118,7 @@ impl Kind for Reply {
     const LEAD: u8 = 0x12;
     const LENGTH: usize = 51;
 
-    fn read_fields(frame: &[u8]) -> Result<Self, Refusal> {
+    fn read_fields(address: u8, frame: &[u8]) -> Result<Self, Refusal> {
         let program = frame::letter(frame, at::PROGRAM, is_raw)?;
         let mode = frame::letter(frame, at::MODE, is_raw)?;
         let status = frame::letter(frame, at::STATUS, is_status)?;
@@ -132,6 +134,7 @@ impl Kind for Reply {
         let (timing, raw_time, raw_date) = read_timing(frame, timing_kind)?;
         let spare = frame::raw(frame, at::SPARE)?;
         Ok(Reply {
+            address,
             program,
             mode,
             status,
@@ -152,6 +155,7 @@ impl Kind for Reply {
 
     fn first_wrong_field(&self) -> Option<usize> {
         frame::first_wrong(&[
+            (at::ADDRESS, is_address(self.address)),
             (at::PROGRAM, is_raw(self.program)),
             (at::MODE, is_raw(self.mode)),
             (at::STATUS, is_status(self.status)),
@@ -171,7 +175,8 @@ impl Kind for Reply {
     }
 
     fn fields(&self) -> Vec<u8> {
-        let mut fields = vec![self.program, self.mode, self.status, self.requester];
+        let mut fields = vec![self.address, self.program, self.mode];
+        fields.extend([self.status, self.requester]);
         fields.extend(digits::write(self.number, width::NUMBER));
         fields.extend(digits::write(self.bib, width::BIB));
         fields.extend(digits::write(self.group, width::GROUP));
@@ -353,7 +358,7 @@ mod tests {
     const SECOND: &Value = b"\x12R SOEA000120004100000101525510001125400+0000000  \r";
 
     /// A clock reply at the upper limits.
-    const CLOCK: &Value = b"\x12R GmRz9999959999199250999255K235959999929022024~ \r";
+    const CLOCK: &Value = b"\x12R9GmRz9999959999199250999255K235959999929022024~ \r";
 
     fn with(reply: &Value, offset: usize, text: &[u8]) -> Vec<u8> {
         let mut bytes = reply.to_vec();
@@ -371,6 +376,7 @@ mod tests {
 
     fn first() -> Reply {
         Reply {
+            address: b' ',
             program: b'S',
             mode: b'O',
             status: b'R',
@@ -391,6 +397,7 @@ mod tests {
 
     fn second() -> Reply {
         Reply {
+            address: b' ',
             program: b'S',
             mode: b'O',
             status: b'E',
@@ -411,6 +418,7 @@ mod tests {
 
     fn clock() -> Reply {
         Reply {
+            address: b'9',
             program: b'G',
             mode: b'm',
             status: b'R',
@@ -456,6 +464,24 @@ mod tests {
             assert_eq!(record.write(&mut output), Ok(()));
             assert_eq!(&output[..51], frame);
             assert_eq!(output[51..], [0xee; 2]);
+        }
+    }
+
+    #[test]
+    fn every_address_is_read_and_written_back() {
+        for address in 0..=u8::MAX {
+            let mut frame = *FIRST;
+            frame[at::ADDRESS] = address;
+            let record = Reply { address, ..first() };
+            if b" 0123456789".contains(&address) {
+                assert_eq!(Reply::read(&frame).as_ref(), Ok(&record));
+                assert_eq!(Reply::read_value(frame).as_ref(), Ok(&record));
+                assert_eq!(record.write_value(), (Ok(()), frame));
+            } else {
+                assert_eq!(Reply::read(&frame), Err(Refusal::Address));
+                assert_eq!(Reply::read_value(frame), Err(Refusal::Address));
+                assert_eq!(refused(record), Some(2));
+            }
         }
     }
 
@@ -603,6 +629,8 @@ mod tests {
         assert_eq!(Reply::read(&bytes), Err(Refusal::Field(30)));
         bytes[at::STATUS] = b'X';
         assert_eq!(Reply::read(&bytes), Err(Refusal::Field(5)));
+        bytes[2] = b'5';
+        assert_eq!(Reply::read(&bytes), Err(Refusal::Field(5)));
         bytes[1] = b'S';
         assert_eq!(Reply::read(&bytes), Err(Refusal::Address));
         bytes[50] = b'\n';
@@ -696,6 +724,9 @@ mod tests {
         assert_eq!(first().write(&mut output), Err(Refusal::Room));
         let wrong = Reply { run: 0, ..first() };
         assert_eq!(wrong.write(&mut output), Err(Refusal::Record(20)));
+        let address = b'!';
+        let wrong = Reply { address, ..wrong };
+        assert_eq!(wrong.write(&mut output), Err(Refusal::Record(2)));
         assert_eq!(output, [0xee; 50]);
     }
 }

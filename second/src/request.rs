@@ -1,11 +1,12 @@
 //! The static request: 24 bytes, lead byte DC1.
 
 use crate::digits;
-use crate::frame::{self, is_output, is_requester, Kind};
+use crate::frame::{self, is_address, is_output, is_requester, Kind};
 use crate::refusal::Refusal;
 
 /// The offset at which each field begins.
 pub mod at {
+    pub use crate::frame::ADDRESS;
     pub const REQUESTER: usize = 3;
     pub const NUMBER: usize = 4;
     pub const BIB: usize = 7;
@@ -35,6 +36,7 @@ pub const NO_ANSWER_DUE: u8 = b'q';
 /// formed can be held too. Its wrong values are found when it is written.
 #[derive(Clone, Debug, PartialEq, Eq)]
 pub struct Request {
+    pub address: u8,
     pub requester: u8,
     pub number: u64,
     pub bib: u64,
@@ -49,7 +51,7 @@ impl Kind for Request {
     const LEAD: u8 = 0x11;
     const LENGTH: usize = 24;
 
-    fn read_fields(frame: &[u8]) -> Result<Self, Refusal> {
+    fn read_fields(address: u8, frame: &[u8]) -> Result<Self, Refusal> {
         let requester = frame::letter(frame, at::REQUESTER, is_requester)?;
         let number = frame::number(frame, at::NUMBER, width::NUMBER, is_number)?;
         let bib = frame::number(frame, at::BIB, width::BIB, is_bib)?;
@@ -59,6 +61,7 @@ impl Kind for Request {
         let group = frame::number(frame, at::GROUP, width::GROUP, is_group)?;
         let output = frame::letter(frame, at::OUTPUT, is_output)?;
         Ok(Request {
+            address,
             requester,
             number,
             bib,
@@ -72,6 +75,7 @@ impl Kind for Request {
 
     fn first_wrong_field(&self) -> Option<usize> {
         frame::first_wrong(&[
+            (at::ADDRESS, is_address(self.address)),
             (at::REQUESTER, is_requester(self.requester)),
             (at::NUMBER, is_number(self.number)),
             (at::BIB, is_bib(self.bib)),
@@ -84,7 +88,7 @@ impl Kind for Request {
     }
 
     fn fields(&self) -> Vec<u8> {
-        let mut fields = vec![self.requester];
+        let mut fields = vec![self.address, self.requester];
         fields.extend(digits::write(self.number, width::NUMBER));
         fields.extend(digits::write(self.bib, width::BIB));
         fields.push(self.information);
@@ -138,6 +142,7 @@ mod tests {
 
     fn first() -> Request {
         Request {
+            address: b' ',
             requester: b'1',
             number: 7,
             bib: 0,
@@ -153,6 +158,7 @@ mod tests {
     fn example_requests() {
         assert_eq!(Request::read(FIRST), Ok(first()));
         let second = Request {
+            address: b' ',
             requester: b'A',
             number: 12,
             bib: 41,
@@ -217,6 +223,8 @@ mod tests {
         let mut bytes = with(at::REQUESTER, b"[");
         assert_eq!(Request::read(&bytes), Err(Refusal::Field(3)));
         bytes[2] = b'0';
+        assert_eq!(Request::read(&bytes), Err(Refusal::Field(3)));
+        bytes[2] = b'-';
         assert_eq!(Request::read(&bytes), Err(Refusal::Address));
         bytes[23] = b'\n';
         assert_eq!(Request::read(&bytes), Err(Refusal::End));
@@ -224,6 +232,39 @@ mod tests {
         assert_eq!(Request::read(&bytes), Err(Refusal::Length));
         bytes[0] = 0x13;
         assert_eq!(Request::read(&bytes), Err(Refusal::Kind));
+    }
+
+    #[test]
+    fn every_address_is_read_and_written_back() {
+        for address in 0..=u8::MAX {
+            let frame = with(at::ADDRESS, &[address]);
+            let record = Request { address, ..first() };
+            let mut output = [0xee; 24];
+            if b" 0123456789".contains(&address) {
+                assert_eq!(Request::read(&frame).as_ref(), Ok(&record));
+                assert_eq!(record.write(&mut output), Ok(()));
+                assert_eq!(output, frame[..]);
+            } else {
+                assert_eq!(Request::read(&frame), Err(Refusal::Address));
+                assert_eq!(record.write(&mut output), Err(Refusal::Record(2)));
+                assert_eq!(output, [0xee; 24]);
+            }
+        }
+    }
+
+    #[test]
+    fn a_wrong_address_is_the_first_wrong_part() {
+        let wrong = Request {
+            address: b'/',
+            requester: b'[',
+            ..first()
+        };
+        assert_eq!(wrong.write(&mut []), Err(Refusal::Record(2)));
+        let wrong = Request {
+            address: b'9',
+            ..wrong
+        };
+        assert_eq!(wrong.write(&mut []), Err(Refusal::Record(3)));
     }
 
     #[test]

@@ -81,23 +81,25 @@ impl Change {
 /// A seat's record, as a line sets it and as an answer shows it.
 pub fn seat_text(place: usize, seat: &Seat) -> String {
     let Seat {
+        address,
         requester,
         number,
         held,
         ended,
     } = seat;
-    format!("seat {place} {requester} {number} {held} {ended}")
+    format!("seat {place} {address} {requester} {number} {held} {ended}")
 }
 
 fn parse_seat(place: &str, record: &[&str]) -> Result<Change, NotACase> {
-    let &[requester, number, held, ended] = record else {
-        return Err(NotACase("a seat's record is four numbers"));
+    let &[address, requester, number, held, ended] = record else {
+        return Err(NotACase("a seat's record is five numbers"));
     };
     let place = parse_place(place)?;
     if place >= SEATS {
         return Err(NotACase("SEAT is below 16"));
     }
     let seat = Seat {
+        address: parse_number(address)?,
         requester: parse_number(requester)?,
         number: parse_number(number)?,
         held: parse_number(held)?,
@@ -137,7 +139,7 @@ mod tests {
         for line in [
             "bits 9223372036854775807",
             "count 4294967295",
-            "seat 15 4294967295 2 3 4",
+            "seat 15 4294967295 1 2 3 4",
             "mark 309 16",
             "cell 15399 ff",
         ] {
@@ -149,9 +151,10 @@ mod tests {
         for line in [
             "bits 9223372036854775808",
             "count -1",
-            "seat 16 0 0 0 0",
-            "seat 0 0 0 0",
-            "seat 0 0 0 0 0 0",
+            "seat 16 0 0 0 0 0",
+            "seat 0 0 0 0 0",
+            "seat 0 0 0 0 0 0 0",
+            "seat 0 4294967296 0 0 0 0",
             "mark 0 4294967296",
             "cell 0 0",
         ] {
@@ -164,6 +167,7 @@ mod tests {
         let untouched = lend(4, 2);
         let mut desk = untouched.clone();
         let seat = Seat {
+            address: 11,
             requester: 1,
             number: 2,
             held: 3,

@@ -121,7 +121,7 @@ fn asked(lines: &[String]) -> String {
 
 /// The places where scripts begin.
 fn begins(lines: &[String]) -> Vec<usize> {
-    let is_first = |line: &String| line.starts_with("lend ") || line.starts_with("mixes ");
+    let is_first = |line: &String| line.starts_with("lend ") || line.starts_with("mixes");
     (0..lines.len())
         .filter(|&place| is_first(&lines[place]))
         .collect()
@@ -156,9 +156,20 @@ fn right_answers_do_not_differ() {
 
 #[test]
 fn each_program_is_asked_its_own() {
-    const SCRIPT_WORDS: [&str; 12] = [
-        "lend", "bits", "count", "seat", "mark", "cell", "open", "reply", "reset", "used", "held",
+    const SCRIPT_WORDS: [&str; 13] = [
+        "lend",
+        "bits",
+        "count",
+        "seat",
+        "mark",
+        "cell",
+        "open",
+        "reply",
+        "reset",
+        "used",
+        "held",
         "mixes",
+        "mixes-by-address",
     ];
     let room = Room::new("own");
     let programs = Programs {
@@ -166,7 +177,7 @@ fn each_program_is_asked_its_own() {
         scripts: "tee -a $ROOM/scripts | $SECOND answers",
         lists: "printf '%s\\n' \"$@\" >>$ROOM/lists; exec $SECOND lists \"$@\"",
     };
-    let options = "--seed 3 --frames 2000 --scripts 60 --captures 5";
+    let options = "--seed 3 --frames 2000 --scripts 150 --captures 5";
     let output = room.bulk(programs, options);
     assert_eq!(output.status.code(), Some(0));
     let is_of_frames = |word: &String| {
@@ -180,7 +191,7 @@ fn each_program_is_asked_its_own() {
         words(&room, "scripts"),
         SCRIPT_WORDS.map(String::from).into()
     );
-    assert_eq!(begins(&room.lines("scripts")).len(), 60);
+    assert_eq!(begins(&room.lines("scripts")).len(), 150);
     assert_eq!(room.lines("lists"), ["0", "1", "2", "3", "4"]);
 }
 
@@ -230,7 +241,7 @@ fn one_wrong_answer_about_a_frame() {
 fn one_wrong_script() {
     let room = Room::new("script");
     let wrong =
-        "cat >$ROOM/read; begin=$(grep -nE '^(lend|mixes) ' $ROOM/read | sed -n '2s/:.*//p'); \
+        "cat >$ROOM/read; begin=$(grep -nE '^(lend |mixes)' $ROOM/read | sed -n '2s/:.*//p'); \
                  third=$((begin + 2)); $SECOND answers <$ROOM/read | tee $ROOM/right | \
                  sed \"${third}s/.*/wrong/;$((third + 1))s/.*/wrong/\"";
     let output = room.bulk(NONE.with_scripts(wrong), SCRIPTS);

@@ -23,6 +23,7 @@ pub fn reading(s: &[u8]) {
 
 fn print_dynamic(r: DynamicRequest) {
     print::text(b"0 0");
+    also_code(r.address);
     also_code(r.requester);
     also_code(r.order);
     print::also(r.bib);
@@ -51,18 +52,19 @@ fn writing_to(r: DynamicRequest, out: &mut [u8]) {
 
 fn dynamic_asked(s: &[u8]) -> DynamicRequest {
     DynamicRequest {
-        requester: code(s, 2),
-        order: code(s, 3),
-        bib: line::small(s, 4),
-        channel: line::small(s, 5),
-        run: line::small(s, 6),
-        stop_bib: line::small(s, 7),
-        stop_channel: line::small(s, 8),
-        stop_run: line::small(s, 9),
-        sign: line::small(s, 10),
-        time: line::small(s, 11),
-        days: line::small(s, 12),
-        period: line::small(s, 13),
-        output: code(s, 14),
+        address: code(s, 2),
+        requester: code(s, 3),
+        order: code(s, 4),
+        bib: line::small(s, 5),
+        channel: line::small(s, 6),
+        run: line::small(s, 7),
+        stop_bib: line::small(s, 8),
+        stop_channel: line::small(s, 9),
+        stop_run: line::small(s, 10),
+        sign: line::small(s, 11),
+        time: line::small(s, 12),
+        days: line::small(s, 13),
+        period: line::small(s, 14),
+        output: code(s, 15),
     }
 }

@@ -56,6 +56,7 @@ fn print_reply(r: StaticReply) {
 }
 
 fn print_head(r: ReplyHead) {
+    also_code(r.address);
     also_code(r.program);
     also_code(r.mode);
     also_code(r.status);
@@ -116,19 +117,19 @@ pub fn writing_value(s: &[u8]) {
 // The record that begins at word k, which is 1 or 2.
 fn reply_asked(s: &[u8], k: usize) -> StaticReply {
     if k < 3 {
-        if line::is_word(s, k + 11, b"clock") {
+        if line::is_word(s, k + 12, b"clock") {
             let timing = Timing::Clock {
-                ticks: line::small(s, k + 12),
-                day: line::small(s, k + 13),
-                month: line::small(s, k + 14),
-                year: line::small(s, k + 15),
+                ticks: line::small(s, k + 13),
+                day: line::small(s, k + 14),
+                month: line::small(s, k + 15),
+                year: line::small(s, k + 16),
             };
-            return reply_with(s, k, timing, k + 16);
+            return reply_with(s, k, timing, k + 17);
         }
-        if line::is_word(s, k + 11, b"net") {
-            return reply_with(s, k, Timing::Net(signed(s, k + 12)), k + 13);
+        if line::is_word(s, k + 12, b"net") {
+            return reply_with(s, k, Timing::Net(signed(s, k + 13)), k + 14);
         }
-        return reply_with(s, k, Timing::Raw, k + 12);
+        return reply_with(s, k, Timing::Raw, k + 13);
     }
     reply_with(s, 1, Timing::Raw, 1)
 }
@@ -152,21 +153,22 @@ fn reply_with(s: &[u8], k: usize, timing: Timing, p: usize) -> StaticReply
     }
 }
 
-// The eleven parts of a head, from word k on.
+// The twelve parts of a head, from word k on.
 fn head_asked(s: &[u8], k: usize) -> ReplyHead
     requires { ⌜ k < 100 ⌝ }
 {
     ReplyHead {
-        program: code(s, k),
-        mode: code(s, k + 1),
-        status: code(s, k + 2),
-        requester: code(s, k + 3),
-        number: line::small(s, k + 4),
-        bib: line::small(s, k + 5),
-        group: line::small(s, k + 6),
-        run: line::small(s, k + 7),
-        physical: line::small(s, k + 8),
-        channel: line::small(s, k + 9),
-        information: code(s, k + 10),
+        address: code(s, k),
+        program: code(s, k + 1),
+        mode: code(s, k + 2),
+        status: code(s, k + 3),
+        requester: code(s, k + 4),
+        number: line::small(s, k + 5),
+        bib: line::small(s, k + 6),
+        group: line::small(s, k + 7),
+        run: line::small(s, k + 8),
+        physical: line::small(s, k + 9),
+        channel: line::small(s, k + 10),
+        information: code(s, k + 11),
     }
 }

@@ -23,6 +23,7 @@ pub fn reading(s: &[u8]) {
 
 fn print_request(r: StaticRequest) {
     print::text(b"0 0");
+    also_code(r.address);
     also_code(r.requester);
     print::also(r.number);
     print::also(r.bib);
@@ -46,13 +47,14 @@ fn writing_to(r: StaticRequest, out: &mut [u8]) {
 
 fn request_asked(s: &[u8]) -> StaticRequest {
     StaticRequest {
-        requester: code(s, 2),
-        number: line::small(s, 3),
-        bib: line::small(s, 4),
-        information: code(s, 5),
-        channel: line::small(s, 6),
-        run: line::small(s, 7),
-        group: line::small(s, 8),
-        output: code(s, 9),
+        address: code(s, 2),
+        requester: code(s, 3),
+        number: line::small(s, 4),
+        bib: line::small(s, 5),
+        information: code(s, 6),
+        channel: line::small(s, 7),
+        run: line::small(s, 8),
+        group: line::small(s, 9),
+        output: code(s, 10),
     }
 }

@@ -2,7 +2,7 @@
 use mathlib.Core.Path.{refl}
 use Rattle.digits.specs.Digits.{numberAt, numberFrom}
 use Rattle.digits.specs.Text.{oneOf}
-use Rattle.frames.specs.Rules.{between, upTo, isRaw, isRequester, isOutput}
+use Rattle.frames.specs.Rules.{between, upTo, isAddress, isRaw, isRequester, isOutput}
 use Rattle.frames.specs.Status.{isStatus}
 use Rattle.frames.specs.Shape.{allFrom}
 use Rattle.frames.specs.Layout.{fieldsOf}
@@ -18,21 +18,25 @@ use Rattle.desk.specs.Memory.{capacityOf, recordsOf}
 use Rattle.desk.specs.Desk.{isZero, markNames, lastEnds, isDesk}
 use Rattle.desk.specs.Calls.{keyTried, requestTried, openTried, opens, seatTried, labelTried, replyTried, replies, seatsInUse}
 use Rattle.desk.specs.Mix.{run, repliesTo}
-use Rattle.desk.specs.Cases.{Worked, MixWorked}
+use Rattle.desk.specs.Cases.{Worked, MixWorked, AddressMixWorked}
 use Rattle.desk.specs.DeskCases.{DeskWorked}
 
 pub worked : Worked
-unfolding numberAt numberFrom oneOf between upTo isRaw isRequester isOutput allFrom fieldsOf headTold read timingKind timed Q.isInformation Q.isRequestChannel Q.requestFields isStatus P.isLetter P.isReplyChannel P.leastRun P.fromBib P.replyFields allBelow countBelow first sameKey isKey heard ends inPlace keyed seatWith lowestClear capacityOf isZero markNames lastEnds isDesk keyTried requestTried openTried opens seatTried labelTried replyTried replies run seatsInUse recordsOf
+unfolding numberAt numberFrom oneOf between upTo isAddress isRaw isRequester isOutput allFrom fieldsOf headTold read timingKind timed Q.isInformation Q.isRequestChannel Q.requestFields isStatus P.isLetter P.isReplyChannel P.leastRun P.fromBib P.replyFields allBelow countBelow first sameKey isKey heard ends inPlace keyed seatWith lowestClear capacityOf isZero markNames lastEnds isDesk keyTried requestTried openTried opens seatTried labelTried replyTried replies run seatsInUse recordsOf
 worked = record {
   no-desk-opens = refl;
   no-desk-replies = refl;
   no-answer-due = refl;
   opened = refl;
   in-use = refl;
+  other-address = refl;
+  no-address = refl;
   next-seat = refl;
   no-seat = refl;
   stray = refl;
   stray-by-thousand = refl;
+  stray-by-address = refl;
+  reply-without-address = refl;
   taken = refl;
   taken-twice = refl;
   ended = refl;
@@ -57,21 +61,31 @@ worked = record {
 }
 
 pub mix-worked : MixWorked
-unfolding numberAt numberFrom oneOf between upTo isRaw isRequester isOutput allFrom fieldsOf headTold read timingKind timed Q.isInformation Q.isRequestChannel Q.requestFields isStatus P.isLetter P.isReplyChannel P.leastRun P.fromBib P.replyFields allBelow countBelow first sameKey isKey heard ends inPlace keyed seatWith lowestClear capacityOf isZero markNames lastEnds isDesk keyTried requestTried openTried opens seatTried labelTried replyTried replies run repliesTo recordsOf
+unfolding numberAt numberFrom oneOf between upTo isAddress isRaw isRequester isOutput allFrom fieldsOf headTold read timingKind timed Q.isInformation Q.isRequestChannel Q.requestFields isStatus P.isLetter P.isReplyChannel P.leastRun P.fromBib P.replyFields allBelow countBelow first sameKey isKey heard ends inPlace keyed seatWith lowestClear capacityOf isZero markNames lastEnds isDesk keyTried requestTried openTried opens seatTried labelTried replyTried replies run repliesTo recordsOf
 mix-worked = record { answers = refl; marks = refl; count = refl; bits = refl; seats = refl; held-by-1 = refl; held-by-A = refl; held-by-z = refl; bound = refl }
 
+pub address-mix-worked : AddressMixWorked
+unfolding numberAt numberFrom oneOf between upTo isAddress isRaw isRequester isOutput allFrom fieldsOf headTold read timingKind timed Q.isInformation Q.isRequestChannel Q.requestFields isStatus P.isLetter P.isReplyChannel P.leastRun P.fromBib P.replyFields allBelow countBelow first sameKey isKey heard ends inPlace keyed seatWith lowestClear capacityOf isZero markNames lastEnds isDesk keyTried requestTried openTried opens seatTried labelTried replyTried replies run repliesTo recordsOf
+address-mix-worked = record { answers = refl; marks = refl; count = refl; seats = refl; held-at-space = refl; held-at-0 = refl; held-at-9 = refl; bound = refl }
+
 pub desk-worked : DeskWorked
-unfolding numberAt numberFrom oneOf between upTo isRaw isRequester allFrom fieldsOf headTold read timingKind timed isStatus P.isLetter P.isReplyChannel P.leastRun P.fromBib P.replyFields allBelow countBelow sameKey isKey heard ends keyed capacityOf isZero markNames lastEnds isDesk
+unfolding numberAt numberFrom oneOf between upTo isAddress isRaw isRequester allFrom fieldsOf headTold read timingKind timed isStatus P.isLetter P.isReplyChannel P.leastRun P.fromBib P.replyFields allBelow countBelow sameKey isKey heard ends keyed capacityOf isZero markNames lastEnds isDesk
 desk-worked = record {
   a-desk = refl;
   fifteen = refl;
   seventeen = refl;
   bit-16 = refl;
   key-B = refl;
+  key-at-9 = refl;
+  key-at-none = refl;
+  key-at-45 = refl;
+  key-at-58 = refl;
   key-of-64 = refl;
   key-1000 = refl;
   same-key = refl;
+  same-but-address = refl;
   same-number = refl;
+  address-left = refl;
   requester-left = refl;
   number-left = refl;
   held-left = refl;
@@ -82,6 +96,7 @@ desk-worked = record {
   mark-16 = refl;
   damaged = refl;
   of-another = refl;
+  of-another-address = refl;
   of-another-number = refl;
   held-less = refl;
   held-more = refl;

@@ -74,7 +74,7 @@ unfoldable pub openTried : Memory → List ℕ → Told Opening
 openTried m f = tried (isDesk m) DESK (whatIsGiven (read request f) (requestTried (m .row) (m .bits)))
 
 abbrev pub newSeat : Key → Seat
-newSeat k = record { requester = k .requester; number = k .number; held = 0; ended = 0 }
+newSeat k = record { address = k .address; requester = k .requester; number = k .number; held = 0; ended = 0 }
 
 -- the seat gets the key, and its bit is set; nothing else changes
 abbrev pub opened : Memory → Opening → Memory
@@ -114,7 +114,7 @@ replyTried m f = tried (isDesk m) DESK (whatIsGiven (heard f) (labelTried (m .ro
 
 -- the seat with one more record, ended if the status is E or Z
 abbrev pub grown : Seat → ℕ → Seat
-grown s status = record { requester = s .requester; number = s .number; held = s .held + 1; ended = endedBy status }
+grown s status = record { address = s .address; requester = s .requester; number = s .number; held = s .held + 1; ended = endedBy status }
 
 -- the cells with the frame f stored over the cell that begins at byte `at`
 abbrev pub withCell : List ℕ → ℕ → List ℕ → List ℕ

@@ -43,7 +43,7 @@ CaptureSorts =
     → events (pieces s) ≡ openings (before ++ f ∷ after) ++ es
     → read request f ≡ gives r → opens (run (emptied m) (openings before)) f .answer ≡ gives seat
     → Stretch es → repliesTo (run (emptied m) (openings (before ++ f ∷ after))) es ≤ capacity m
-    → heldBy (captures (emptied m) s .after) seat ≡ kept false false (framesTo (record { requester = r .requester; number = r .number }) es)
+    → heldBy (captures (emptied m) s .after) seat ≡ kept false false (framesTo (record { address = r .address; requester = r .requester; number = r .number }) es)
 
 -- ---- the counts
 

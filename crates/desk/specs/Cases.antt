@@ -15,14 +15,22 @@ use Rattle.desk.specs.Mix.{Event, toReply, happens, run, openings, repli
 abbrev pub lending : ℕ → ℕ → Memory
 lending bytes marks = record { row = []; bits = 0; count = 0; cells = replicate bytes 0; marks = replicate marks 0 }
 
--- a request with number 007, from this requester and with this letter
-abbrev pub asking : String → String → List ℕ
-asking requester letter = 17 ∷ (codes "R " ++ (codes requester ++ (codes "00700000" ++ (codes letter ++ (codes "000002000S" ++ (13 ∷ []))))))
+-- a request with number 007, with this address, requester and letter
+abbrev pub askingAt : String → String → String → List ℕ
+askingAt address requester letter =
+    17 ∷ (codes "R" ++ (codes address ++ (codes requester ++ (codes "00700000" ++ (codes letter ++ (codes "000002000S" ++ (13 ∷ [])))))))
 
--- a reply with this status, requester, number and bib
+-- a reply with this address, status, requester, number and bib
+abbrev pub replyFrom : String → String → String → String → String → List ℕ
+replyFrom address status requester number bib =
+    18 ∷ (codes "R" ++ (codes address ++ (codes "SO" ++ (codes status ++ (codes requester ++ (codes number ++ (codes bib ++ (codes "000002000000P000000000000000000  " ++ (13 ∷ [])))))))))
+
+-- both with a space as the address
+abbrev pub asking : String → String → List ℕ
+asking = askingAt " "
+
 abbrev pub replyTo : String → String → String → String → List ℕ
-replyTo status requester number bib =
-    18 ∷ (codes "R SO" ++ (codes status ++ (codes requester ++ (codes number ++ (codes bib ++ (codes "000002000000P000000000000000000  " ++ (13 ∷ [])))))))
+replyTo = replyFrom " "
 
 -- a reply to the request of requester 1, with this status
 abbrev pub replying : String → List ℕ
@@ -51,11 +59,16 @@ pub record Worked : Type 0 where
   pub no-answer-due : opens bare (asking "1" "q") .answer ≡ refuses (plain 10)
   pub opened : opens bare (asking "1" "P") .answer ≡ gives 0
   pub in-use : opens asked (asking "1" "P") .answer ≡ refuses (plain 11)
+  -- the same requester and number at another address is another key, and a space is not 0
+  pub other-address : opens asked (askingAt "0" "1" "P") .answer ≡ gives 1
+  pub no-address : opens bare (askingAt "-" "1" "P") .answer ≡ refuses (plain 4)
   pub next-seat : opens asked (asking "A" "P") .answer ≡ gives 1
   pub no-seat : opens (run bare (openings sixteen)) (asking "B" "P") .answer ≡ refuses (plain 12)
   pub stray : replies bare (replying "R") .answer ≡ refuses (plain 13)
   -- a reply's number is compared whole: 01007 is not a request's 007
   pub stray-by-thousand : replies asked (replyTo "R" "1" "01007" "00015") .answer ≡ refuses (plain 13)
+  pub stray-by-address : replies asked (replyFrom "0" "R" "1" "00007" "00015") .answer ≡ refuses (plain 13)
+  pub reply-without-address : replies asked (replyFrom "-" "R" "1" "00007" "00015") .answer ≡ refuses (plain 4)
   pub taken : replies asked (replying "R") .answer ≡ gives 0
   -- the same R twice is two records
   pub taken-twice : heldBy (crowded "R") 0 ≡ replying "R" ∷ replying "R" ∷ []
@@ -120,10 +133,42 @@ pub record MixWorked : Type 0 where
   pub count : run three mixed .count ≡ 6
   pub bits : run three mixed .bits ≡ 7
   pub seats : run three mixed .row
-      ≡ record { requester = 49; number = 7; held = 2; ended = 1 } ∷ record { requester = 65; number = 7; held = 3; ended = 1 } ∷ record { requester = 122; number = 7; held = 1; ended = 1 }
-      ∷ replicate 13 (record { requester = 0; number = 0; held = 0; ended = 0 })
+      ≡ record { address = 32; requester = 49; number = 7; held = 2; ended = 1 } ∷ record { address = 32; requester = 65; number = 7; held = 3; ended = 1 } ∷ record { address = 32; requester = 122; number = 7; held = 1; ended = 1 }
+      ∷ replicate 13 (record { address = 0; requester = 0; number = 0; held = 0; ended = 0 })
   pub held-by-1 : heldBy (run three mixed) 0 ≡ replyTo "R" "1" "00007" "00002" ∷ replyTo "E" "1" "00007" "00007" ∷ []
   pub held-by-A : heldBy (run three mixed) 1 ≡ replyTo "R" "A" "00007" "00001" ∷ replyTo "R" "A" "00007" "00000" ∷ replyTo "E" "A" "00007" "00010" ∷ []
   pub held-by-z : heldBy (run three mixed) 2 ≡ replyTo "Z" "z" "00007" "00005" ∷ []
   -- six are kept; the three that are refused after the end or out of place count as replies too
   pub bound : repliesTo three mixed ≡ 9
+
+-- ---- three requests that differ in the address alone: a space, 0 and 9
+
+abbrev pub stopwatches : Memory
+stopwatches = run (emptied (lending 306 6)) (openings (askingAt " " "1" "P" ∷ askingAt "0" "1" "P" ∷ askingAt "9" "1" "P" ∷ []))
+
+abbrev pub fromAll : List Event
+fromAll =
+    toReply (replyFrom "0" "R" "1" "00007" "00001")
+    ∷ toReply (replyFrom " " "R" "1" "00007" "00002")
+    -- a stopwatch that was not asked, and a byte that is no address
+    ∷ toReply (replyFrom "1" "R" "1" "00007" "00003")
+    ∷ toReply (replyFrom "-" "R" "1" "00007" "00004")
+    -- each stopwatch ends its own request, and no other
+    ∷ toReply (replyFrom "0" "E" "1" "00007" "00005")
+    ∷ toReply (replyFrom "9" "Z" "1" "00007" "00006")
+    ∷ toReply (replyFrom "0" "R" "1" "00007" "00007")
+    ∷ toReply (replyFrom " " "E" "1" "00007" "00008")
+    ∷ []
+
+pub record AddressMixWorked : Type 0 where
+  pub answers : answersOf stopwatches fromAll
+      ≡ gives 1 ∷ gives 0 ∷ refuses (plain 13) ∷ refuses (plain 4) ∷ gives 1 ∷ gives 2 ∷ refuses (plain 14) ∷ gives 0 ∷ []
+  pub marks : run stopwatches fromAll .marks ≡ 1 ∷ 0 ∷ 1 ∷ 2 ∷ 0 ∷ 0 ∷ []
+  pub count : run stopwatches fromAll .count ≡ 5
+  pub seats : run stopwatches fromAll .row
+      ≡ record { address = 32; requester = 49; number = 7; held = 2; ended = 1 } ∷ record { address = 48; requester = 49; number = 7; held = 2; ended = 1 } ∷ record { address = 57; requester = 49; number = 7; held = 1; ended = 1 }
+      ∷ replicate 13 (record { address = 0; requester = 0; number = 0; held = 0; ended = 0 })
+  pub held-at-space : heldBy (run stopwatches fromAll) 0 ≡ replyFrom " " "R" "1" "00007" "00002" ∷ replyFrom " " "E" "1" "00007" "00008" ∷ []
+  pub held-at-0 : heldBy (run stopwatches fromAll) 1 ≡ replyFrom "0" "R" "1" "00007" "00001" ∷ replyFrom "0" "E" "1" "00007" "00005" ∷ []
+  pub held-at-9 : heldBy (run stopwatches fromAll) 2 ≡ replyFrom "9" "Z" "1" "00007" "00006" ∷ []
+  pub bound : repliesTo stopwatches fromAll ≡ 6

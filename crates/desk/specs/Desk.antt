@@ -25,7 +25,7 @@ abbrev pub apartBelow : List Seat → ℕ → ℕ → Bool
 apartBelow row bits i = allBelow i (apartAt row bits i)
 
 unfoldable pub isZero : Seat → Bool
-isZero s = eqb (s .requester) 0 && eqb (s .number) 0 && eqb (s .held) 0 && eqb (s .ended) 0
+isZero s = eqb (s .address) 0 && eqb (s .requester) 0 && eqb (s .number) 0 && eqb (s .held) 0 && eqb (s .ended) 0
 
 -- clause 5: seat i, if unused, is all zero
 abbrev pub unusedZero : List Seat → ℕ → ℕ → Bool

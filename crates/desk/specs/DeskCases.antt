@@ -8,17 +8,17 @@ use lib.ListN.{replicate}
 use Rattle.desk.specs.declared.state.Seat.{Seat}
 use Rattle.desk.specs.Memory.{Memory}
 use Rattle.desk.specs.Desk.{isDesk}
-use Rattle.desk.specs.Cases.{replyTo}
+use Rattle.desk.specs.Cases.{replyFrom, replyTo}
 
-abbrev pub seat : ℕ → ℕ → ℕ → ℕ → Seat
-seat requester number held ended = record { requester = requester; number = number; held = held; ended = ended }
+abbrev pub seat : ℕ → ℕ → ℕ → ℕ → ℕ → Seat
+seat address requester number held ended = record { address = address; requester = requester; number = number; held = held; ended = ended }
 
 -- requester 1 has two records and has ended, requester A has one
 abbrev pub one : Seat
-one = seat 49 7 2 1
+one = seat 32 49 7 2 1
 
 abbrev pub two : Seat
-two = seat 65 7 1 0
+two = seat 32 65 7 1 0
 
 -- the reply to a requester, with this status
 abbrev pub told : String → String → List ℕ
@@ -37,10 +37,10 @@ with row bits count cells marks = record { row = row; bits = bits; count = count
 
 -- the first three seats, and thirteen seats of zeros
 abbrev pub seats : Seat → Seat → Seat → List Seat
-seats a b c = a ∷ b ∷ c ∷ replicate 13 (seat 0 0 0 0)
+seats a b c = a ∷ b ∷ c ∷ replicate 13 (seat 0 0 0 0 0)
 
 abbrev pub none : Seat
-none = seat 0 0 0 0
+none = seat 0 0 0 0 0
 
 -- the last mark is that of a free cell: it is not looked at
 abbrev pub marks : List ℕ
@@ -54,38 +54,45 @@ pub record DeskWorked : Type 0 where
   -- no bit above them
   pub bit-16 : isDesk (with (seats one two none) 65539 3 records marks) ≡ false
   -- keys that a request can have
-  pub key-B : isDesk (with (seats one two (seat 66 999 0 0)) 7 3 records marks) ≡ true
-  pub key-of-64 : isDesk (with (seats one two (seat 64 999 0 0)) 7 3 records marks) ≡ false
-  pub key-1000 : isDesk (with (seats one two (seat 66 1000 0 0)) 7 3 records marks) ≡ false
+  pub key-B : isDesk (with (seats one two (seat 32 66 999 0 0)) 7 3 records marks) ≡ true
+  pub key-at-9 : isDesk (with (seats one two (seat 57 66 999 0 0)) 7 3 records marks) ≡ true
+  pub key-at-none : isDesk (with (seats one two (seat 0 66 999 0 0)) 7 3 records marks) ≡ false
+  pub key-at-45 : isDesk (with (seats one two (seat 45 66 999 0 0)) 7 3 records marks) ≡ false
+  pub key-at-58 : isDesk (with (seats one two (seat 58 66 999 0 0)) 7 3 records marks) ≡ false
+  pub key-of-64 : isDesk (with (seats one two (seat 32 64 999 0 0)) 7 3 records marks) ≡ false
+  pub key-1000 : isDesk (with (seats one two (seat 32 66 1000 0 0)) 7 3 records marks) ≡ false
   -- no two used seats share a key
-  pub same-key : isDesk (with (seats one two (seat 65 7 0 0)) 7 3 records marks) ≡ false
-  pub same-number : isDesk (with (seats one two (seat 97 7 0 0)) 7 3 records marks) ≡ true
+  pub same-key : isDesk (with (seats one two (seat 32 65 7 0 0)) 7 3 records marks) ≡ false
+  pub same-but-address : isDesk (with (seats one two (seat 48 65 7 0 0)) 7 3 records marks) ≡ true
+  pub same-number : isDesk (with (seats one two (seat 32 97 7 0 0)) 7 3 records marks) ≡ true
   -- unused seats are all zero
-  pub requester-left : isDesk (with (seats one two (seat 66 0 0 0)) 3 3 records marks) ≡ false
-  pub number-left : isDesk (with (seats one two (seat 0 7 0 0)) 3 3 records marks) ≡ false
-  pub held-left : isDesk (with (seats one two (seat 0 0 1 0)) 3 3 records marks) ≡ false
-  pub ended-left : isDesk (with (seats one two (seat 0 0 0 1)) 3 3 records marks) ≡ false
+  pub address-left : isDesk (with (seats one two (seat 32 0 0 0 0)) 3 3 records marks) ≡ false
+  pub requester-left : isDesk (with (seats one two (seat 0 66 0 0 0)) 3 3 records marks) ≡ false
+  pub number-left : isDesk (with (seats one two (seat 0 0 7 0 0)) 3 3 records marks) ≡ false
+  pub held-left : isDesk (with (seats one two (seat 0 0 0 1 0)) 3 3 records marks) ≡ false
+  pub ended-left : isDesk (with (seats one two (seat 0 0 0 0 1)) 3 3 records marks) ≡ false
   -- the count is at most the capacity
   pub full : isDesk (with (seats one two none) 3 3 (told "1" "R" ++ told "A" "R" ++ told "1" "E") (0 ∷ 1 ∷ 0 ∷ [])) ≡ true
   pub no-mark : isDesk (with (seats one two none) 3 3 records (0 ∷ 1 ∷ [])) ≡ false
   -- marks name used seats
-  pub mark-of-unused : isDesk (with (seats one (seat 65 7 0 0) none) 3 3 records (0 ∷ 2 ∷ 0 ∷ [])) ≡ false
-  pub mark-16 : isDesk (with (seats one (seat 65 7 0 0) none) 3 3 records (0 ∷ 16 ∷ 0 ∷ [])) ≡ false
+  pub mark-of-unused : isDesk (with (seats one (seat 32 65 7 0 0) none) 3 3 records (0 ∷ 2 ∷ 0 ∷ [])) ≡ false
+  pub mark-16 : isDesk (with (seats one (seat 32 65 7 0 0) none) 3 3 records (0 ∷ 16 ∷ 0 ∷ [])) ≡ false
   -- cells are well formed replies with the keys of their seats
   pub damaged : isDesk (with (seats one two none) 3 3 (cells (told "1" "R") (told "A" "Q") (told "1" "E")) marks) ≡ false
   pub of-another : isDesk (with (seats one two none) 3 3 (cells (told "1" "R") (told "a" "R") (told "1" "E")) marks) ≡ false
+  pub of-another-address : isDesk (with (seats one two none) 3 3 (cells (told "1" "R") (replyFrom "0" "R" "A" "00007" "00015") (told "1" "E")) marks) ≡ false
   pub of-another-number : isDesk (with (seats one two none) 3 3 (cells (told "1" "R") (replyTo "R" "A" "00008" "00015") (told "1" "E")) marks) ≡ false
   -- a seat holds as many records as marks name it
-  pub held-less : isDesk (with (seats (seat 49 7 1 1) two none) 3 3 records marks) ≡ false
-  pub held-more : isDesk (with (seats (seat 49 7 3 1) two none) 3 3 records marks) ≡ false
+  pub held-less : isDesk (with (seats (seat 32 49 7 1 1) two none) 3 3 records marks) ≡ false
+  pub held-more : isDesk (with (seats (seat 32 49 7 3 1) two none) 3 3 records marks) ≡ false
   -- only the last record is E or Z, and a Z is the only one
-  pub E-first : isDesk (with (seats (seat 49 7 2 0) two none) 3 3 (cells (told "1" "E") (told "A" "R") (told "1" "R")) marks) ≡ false
+  pub E-first : isDesk (with (seats (seat 32 49 7 2 0) two none) 3 3 (cells (told "1" "E") (told "A" "R") (told "1" "R")) marks) ≡ false
   pub E-twice : isDesk (with (seats one two none) 3 3 (cells (told "1" "E") (told "A" "R") (told "1" "E")) marks) ≡ false
-  pub Z-first : isDesk (with (seats (seat 49 7 2 0) two none) 3 3 (cells (told "1" "Z") (told "A" "R") (told "1" "R")) marks) ≡ false
+  pub Z-first : isDesk (with (seats (seat 32 49 7 2 0) two none) 3 3 (cells (told "1" "Z") (told "A" "R") (told "1" "R")) marks) ≡ false
   pub Z-last : isDesk (with (seats one two none) 3 3 (cells (told "1" "R") (told "A" "R") (told "1" "Z")) marks) ≡ false
-  pub Z-alone : isDesk (with (seats one (seat 65 7 1 1) none) 3 3 (cells (told "1" "R") (told "A" "Z") (told "1" "E")) marks) ≡ true
+  pub Z-alone : isDesk (with (seats one (seat 32 65 7 1 1) none) 3 3 (cells (told "1" "R") (told "A" "Z") (told "1" "E")) marks) ≡ true
   -- `ended` is 1 if the last record is E or Z, and otherwise 0
-  pub goes-on : isDesk (with (seats (seat 49 7 2 0) two none) 3 3 (cells (told "1" "R") (told "A" "R") (told "1" "R")) marks) ≡ true
-  pub not-ended : isDesk (with (seats (seat 49 7 2 0) two none) 3 3 records marks) ≡ false
-  pub ended-by-2 : isDesk (with (seats (seat 49 7 2 2) two none) 3 3 records marks) ≡ false
-  pub ended-early : isDesk (with (seats one (seat 65 7 1 1) none) 3 3 records marks) ≡ false
+  pub goes-on : isDesk (with (seats (seat 32 49 7 2 0) two none) 3 3 (cells (told "1" "R") (told "A" "R") (told "1" "R")) marks) ≡ true
+  pub not-ended : isDesk (with (seats (seat 32 49 7 2 0) two none) 3 3 records marks) ≡ false
+  pub ended-by-2 : isDesk (with (seats (seat 32 49 7 2 2) two none) 3 3 records marks) ≡ false
+  pub ended-early : isDesk (with (seats one (seat 32 65 7 1 1) none) 3 3 records marks) ≡ false

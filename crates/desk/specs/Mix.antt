@@ -56,7 +56,7 @@ Stretch (e ∷ es) = (isReply e ≡ true) × Stretch es
 
 -- ---- the replies of one request
 
--- a well formed reply with this requester and number
+-- a well formed reply with this address, requester and number
 unfoldable pub addressed : Key → Event → Bool
 addressed k (toOpen f) = false
 addressed k (toReply f) = isTo k (read reply f)
@@ -94,7 +94,7 @@ repliesTo m (e ∷ es) = cond (expected m e) 1 0 + repliesTo m es
 unfoldable pub awaited : Memory → List Event → ℕ → ℕ
 awaited m es zero = 0
 awaited m es (suc n) =
-    cond (usedBit (m .bits) n) (length (framesTo (record { requester = seatAt (m .row) n .requester; number = seatAt (m .row) n .number }) es)) 0 + awaited m es n
+    cond (usedBit (m .bits) n) (length (framesTo (record { address = seatAt (m .row) n .address; requester = seatAt (m .row) n .requester; number = seatAt (m .row) n .number }) es)) 0 + awaited m es n
 
 -- both counts agree: a frame is counted only if it is addressed to an open request, and then once
 abbrev pub RepliesAreAwaited : Type 0
@@ -118,7 +118,7 @@ SortsFromAnyDesk =
     (m : Memory) (es : List Event) (s : ℕ)
     → isDesk m ≡ true → Stretch es → m .count + repliesTo m es ≤ capacity m
     → s < seatCount → usedBit (m .bits) s ≡ true
-    → Sorted m es s (record { requester = seatAt (m .row) s .requester; number = seatAt (m .row) s .number }) (heldBy m s) (not (eqb (seatAt (m .row) s .held) 0)) (not (eqb (seatAt (m .row) s .ended) 0))
+    → Sorted m es s (record { address = seatAt (m .row) s .address; requester = seatAt (m .row) s .requester; number = seatAt (m .row) s .number }) (heldBy m s) (not (eqb (seatAt (m .row) s .held) 0)) (not (eqb (seatAt (m .row) s .ended) 0))
 
 -- each request that was opened, on an emptied desk with all openings first
 abbrev pub SortsOpenedRequests : Type 0
@@ -126,7 +126,7 @@ SortsOpenedRequests =
     (m : Memory) (before after : List Frame) (f : Frame) (r : StaticRequest) (es : List Event) (s : ℕ)
     → read request f ≡ gives r → opens (run (emptied m) (openings before)) f .answer ≡ gives s
     → Stretch es → repliesTo (run (emptied m) (openings (before ++ f ∷ after))) es ≤ capacity m
-    → Sorted (run (emptied m) (openings (before ++ f ∷ after))) es s (record { requester = r .requester; number = r .number }) [] false false
+    → Sorted (run (emptied m) (openings (before ++ f ∷ after))) es s (record { address = r .address; requester = r .requester; number = r .number }) [] false false
 
 -- a desk stays a desk, and an emptied memory is one
 pub record StaysDesk : Type 1 where

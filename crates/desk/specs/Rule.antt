@@ -1,5 +1,5 @@
 -- The rule of mixed replies, for the frames of one request: which of them it keeps, and how each is answered.
--- No definition of the desk is in it. Of a frame it uses only what the reader says: whether it is well formed, its requester, its number and its status letter.
+-- No definition of the desk is in it. Of a frame it uses only what the reader says: whether it is well formed, its address, requester and number, and its status letter.
 use Prim.Native.Nat.{ℕ}
 use mathlib.Core.List.{List, [], _∷_}
 use mathlib.Core.Bool.{Bool, true, false, cond, _&&_}
@@ -14,10 +14,10 @@ use Rattle.desk.specs.declared.key.Key.{Key}
 abbrev pub Frame : Type 0
 Frame = List ℕ
 
--- ---- which frames are the request's: well formed, with its requester and number
+-- ---- which frames are the request's: well formed, with its address, requester and number
 
 abbrev pub isTo : Key → Told StaticReply → Bool
-isTo k (gives r) = eqb (k .requester) (r .head .requester) && eqb (k .number) (r .head .number)
+isTo k (gives r) = eqb (k .address) (r .head .address) && eqb (k .requester) (r .head .requester) && eqb (k .number) (r .head .number)
 isTo k (refuses f) = false
 
 -- ---- a frame's status: R, E or Z

@@ -11,7 +11,7 @@ use Rattle.desk.specs.Below.{first}
 use Rattle.desk.specs.Key.{seatKey, sameKey}
 
 abbrev pub zeroSeat : Seat
-zeroSeat = record { requester = 0; number = 0; held = 0; ended = 0 }
+zeroSeat = record { address = 0; requester = 0; number = 0; held = 0; ended = 0 }
 
 abbrev pub seatAt : List Seat → ℕ → Seat
 seatAt row i = getD row i zeroSeat

@@ -66,7 +66,7 @@ pub fn is_desk(desk: Desk, row: [Seat; SEATS], cells: &[u8], marks: &[u32]) -> b
 fn is_zero(s: Seat) -> bool
     ensures { λ r. ⌜ r ≡ isZero s ⌝ }
 {
-    (s.requester == 0) & (s.number == 0) & (s.held == 0) & (s.ended == 0)
+    (s.address == 0) & (s.requester == 0) & (s.number == 0) & (s.held == 0) & (s.ended == 0)
 }
 
 // A used seat has a legal key, an unused one is all zero.

@@ -1,4 +1,4 @@
-// Keys: who asked, and with which number.
+// Keys: which stopwatch was asked, by whom, and with which number.
 use crate::limits::SEATS;
 use crate::state::Seat;
 use frames::reply::ReplyLabel;
@@ -7,8 +7,9 @@ ghost use Prim.Native.Nat.{_<_};
 ghost use Rattle.desk.specs.Key.{keyIn, seatKey, sameKey, isKey};
 ghost use Rattle.desk.specs.Seats.{usedBit, keyed, seatWith};
 
-// The requester is held by its code.
+// Address and requester are held by their code.
 pub struct Key {
+    pub address: u32,
     pub requester: u32,
     pub number: u32,
 }
@@ -17,6 +18,7 @@ pub fn key_of(seat: Seat) -> Key
     ensures { λ r. ⌜ r ≡ seatKey seat ⌝ }
 {
     Key {
+        address: seat.address,
         requester: seat.requester,
         number: seat.number,
     }
@@ -26,6 +28,7 @@ pub fn key_in(label: ReplyLabel) -> Key
     ensures { λ r. ⌜ r ≡ keyIn label ⌝ }
 {
     Key {
+        address: label.address,
         requester: label.requester,
         number: label.number,
     }
@@ -34,15 +37,17 @@ pub fn key_in(label: ReplyLabel) -> Key
 pub fn same_key(a: Key, b: Key) -> bool
     ensures { λ r. ⌜ r ≡ sameKey a b ⌝ }
 {
-    (a.requester == b.requester) & (a.number == b.number)
+    (a.address == b.address) & (a.requester == b.requester) & (a.number == b.number)
 }
 
 // A key that a static request can have.
 pub fn is_key(k: Key) -> bool
     ensures { λ r. ⌜ r ≡ isKey k ⌝ }
 {
+    let a = k.address;
     let q = k.requester;
-    (((48 <= q) & (q <= 57)) | ((65 <= q) & (q <= 90)) | ((97 <= q) & (q <= 122)))
+    ((a == 32) | ((48 <= a) & (a <= 57)))
+        & (((48 <= q) & (q <= 57)) | ((65 <= q) & (q <= 90)) | ((97 <= q) & (q <= 122)))
         & (k.number <= 999)
 }
 

@@ -155,6 +155,7 @@ fn key_asked(r: StaticRequest) -> Key
     ensures { λ k. ⌜ k ≡ requestKey r ⌝ }
 {
     Key {
+        address: r.address as u32,
         requester: r.requester as u32,
         number: r.number,
     }
@@ -185,6 +186,7 @@ fn new_seat(key: Key) -> Seat
     ensures { λ r. ⌜ r ≡ newSeat key ⌝ }
 {
     Seat {
+        address: key.address,
         requester: key.requester,
         number: key.number,
         held: 0,

@@ -193,6 +193,7 @@ fn grown_seat(seat: Seat, status: u8) -> Seat
     ensures { λ r. ⌜ r ≡ grown seat status ⌝ }
 {
     Seat {
+        address: seat.address,
         requester: seat.requester,
         number: seat.number,
         held: seat.held + 1,

@@ -10,9 +10,10 @@ ghost use Rattle.desk.specs.Limits.{seatCount};
 ghost use Rattle.desk.specs.Memory.{capacityOf};
 ghost use Rattle.desk.specs.Calls.{seatsInUse, emptyDesk};
 
-// Four numbers without padding. `ended` is 0 or 1.
+// Five numbers without padding. Address and requester are held by their code; `ended` is 0 or 1.
 #[repr(C)]
 pub struct Seat {
+    pub address: u32,
     pub requester: u32,
     pub number: u32,
     pub held: u32,
@@ -46,6 +47,7 @@ pub fn reset() -> Emptied
     ensures { λ r. ⌜ r ≡ emptyDesk ⌝ }
 {
     let zero = Seat {
+        address: 0,
         requester: 0,
         number: 0,
         held: 0,

@@ -118,8 +118,9 @@ module _ {R : Type 0} {at : ℕ} where
   run-printed n some rest = printed some (λ v q. run-raw v 0 n q) rest
 
 address-raw : (b : ℕ) → isAddress b ≡ true → isRaw b ≡ true
-unfolding isRaw between
-address-raw b e = rw (eqb-true b space e)
+unfolding isAddress isRaw between
+address-raw b e =
+    or-cases (eqb b space) (between 48 57 b) (isRaw b ≡ true) (λ x. rw (eqb-true b space x)) (range-raw 48 57 (omega arith) (omega arith) b) e
 
 request-printed : Printed requestFields
 unfolding requestFields isInformation isOutput isRaw between
@@ -189,13 +190,13 @@ tail-printed status =
 reply-printed : Printed replyFields
 unfolding replyFields isStatus isRaw between
 reply-printed =
-    byte-printed tt address-raw λ _ _.
+    byte-printed tt address-raw λ address _.
     byte-printed tt (λ v q. q) λ program _.
     byte-printed tt (λ v q. q) λ mode _.
     byte-printed tt (listed-raw _ refl) λ status _.
     byte-printed tt requester-raw λ requester _.
     number-printed 5 tt λ n _.
-    within-printed tailOf (withTail program mode status requester n) (tail-printed status)
+    within-printed tailOf (withTail address program mode status requester n) (tail-printed status)
 
 -- ---- such a frame is found whole
 

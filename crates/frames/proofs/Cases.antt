@@ -6,7 +6,7 @@ use Rattle.times.specs.Clock.{ticksOf, clockNumber}
 use Rattle.times.specs.Day.{leap, monthLength, realDay}
 use Rattle.times.specs.Net.{isNet}
 use Rattle.times.specs.Running.{inRange, runningTime}
-use Rattle.frames.specs.Rules.{between, upTo, isRaw, isRequester, isOutput}
+use Rattle.frames.specs.Rules.{between, upTo, isAddress, isRaw, isRequester, isOutput}
 use Rattle.frames.specs.Layout.{fieldsOf, recordWrong, write}
 use Rattle.frames.specs.Kind.{headTold, read, wrongIn, frameOf, writeTried}
 use Rattle.frames.specs.Status.{isStatus}
@@ -20,9 +20,10 @@ use Rattle.frames.specs.RuleCases.{RulesWorked}
 use Rattle.frames.specs.RequestCases.{RequestWorked}
 use Rattle.frames.specs.ReplyCases.{ReplyWorked}
 use Rattle.frames.specs.DynamicCases.{DynamicWorked}
+use Rattle.frames.specs.AddressCases.{AddressWorked}
 
 pub worked : Worked
-unfolding numberAt numberFrom oneOf ticksOf leap monthLength realDay isNet inRange runningTime between upTo isRaw isRequester isOutput allFrom fieldsOf recordWrong headTold read wrongIn writeTried timingKind isSign timed Q.isInformation Q.isRequestChannel Q.requestFields isStatus P.isLetter P.isReplyChannel P.leastRun P.fromBib P.replyFields D.isOrder D.isDynamicChannel D.leastPeriod D.dynamicFields
+unfolding numberAt numberFrom oneOf ticksOf leap monthLength realDay isNet inRange runningTime between upTo isAddress isRaw isRequester isOutput allFrom fieldsOf recordWrong headTold read wrongIn writeTried timingKind isSign timed Q.isInformation Q.isRequestChannel Q.requestFields isStatus P.isLetter P.isReplyChannel P.leastRun P.fromBib P.replyFields D.isOrder D.isDynamicChannel D.leastPeriod D.dynamicFields
 worked = record {
   last-tick = refl;
   last-second = refl;
@@ -53,7 +54,7 @@ worked = record {
   bib-60000 = refl;
   running-60000 = (_, refl);
   line-feed = refl;
-  address-1 = refl;
+  address-minus = refl;
   address-S = refl;
   record-251 = refl;
   room-23 = refl;
@@ -66,7 +67,7 @@ worked = record {
 }
 
 pub request-worked : RequestWorked
-unfolding digits numberAt numberFrom oneOf between upTo isRequester isOutput allFrom fieldsOf recordWrong write headTold read wrongIn frameOf Q.isInformation Q.isRequestChannel Q.requestFields
+unfolding digits numberAt numberFrom oneOf between upTo isAddress isRequester isOutput allFrom fieldsOf recordWrong write headTold read wrongIn frameOf Q.isInformation Q.isRequestChannel Q.requestFields
 request-worked = record {
   spelled = refl;
   written = refl;
@@ -96,6 +97,7 @@ request-worked = record {
   group-200 = refl;
   output-T = (_, refl);
   output-C = refl;
+  wrong-address = refl;
   wrong-requester = refl;
   wrong-number = refl;
   wrong-bib = refl;
@@ -107,7 +109,7 @@ request-worked = record {
 }
 
 pub reply-worked : ReplyWorked
-unfolding digits numberAt numberFrom oneOf between upTo isRequester isOutput allFrom fieldsOf recordWrong write headTold read wrongIn frameOf ticksOf clockNumber leap monthLength realDay isNet isRaw timingKind isSign timed isStatus P.isLetter P.isReplyChannel P.leastRun P.fromBib P.replyFields
+unfolding digits numberAt numberFrom oneOf between upTo isAddress isRequester isOutput allFrom fieldsOf recordWrong write headTold read wrongIn frameOf ticksOf clockNumber leap monthLength realDay isNet isRaw timingKind isSign timed isStatus P.isLetter P.isReplyChannel P.leastRun P.fromBib P.replyFields
 reply-worked = record {
   net = refl;
   clock = refl;
@@ -141,6 +143,7 @@ reply-worked = record {
   minus-none = refl;
   minus-one = (_, refl);
   plus-none = (_, refl);
+  wrong-address = refl;
   wrong-program = refl;
   wrong-mode = refl;
   wrong-status = refl;
@@ -167,7 +170,7 @@ reply-worked = record {
 }
 
 pub dynamic-worked : DynamicWorked
-unfolding digits numberAt numberFrom oneOf between upTo isRequester isOutput allFrom fieldsOf recordWrong write headTold read wrongIn frameOf ticksOf clockNumber D.isOrder D.isDynamicChannel D.leastPeriod D.dynamicFields
+unfolding digits numberAt numberFrom oneOf between upTo isAddress isRequester isOutput allFrom fieldsOf recordWrong write headTold read wrongIn frameOf ticksOf clockNumber D.isOrder D.isDynamicChannel D.leastPeriod D.dynamicFields
 dynamic-worked = record {
   spelled = refl;
   written = refl;
@@ -198,6 +201,7 @@ dynamic-worked = record {
   hour-24 = refl;
   output-S = (_, refl);
   output-C = refl;
+  wrong-address = refl;
   wrong-requester = refl;
   wrong-order = refl;
   wrong-bib = refl;
@@ -215,8 +219,9 @@ dynamic-worked = record {
 }
 
 pub rules-worked : RulesWorked
-unfolding oneOf between isRaw isRequester isOutput timingKind isSign Q.isInformation Q.isRequestChannel isStatus P.isLetter P.isReplyChannel D.isOrder D.isDynamicChannel D.leastPeriod
+unfolding oneOf between isAddress isRaw isRequester isOutput timingKind isSign Q.isInformation Q.isRequestChannel isStatus P.isLetter P.isReplyChannel D.isOrder D.isDynamicChannel D.leastPeriod
 rules-worked = record {
+  addresses = refl;
   requesters = refl;
   outputs = refl;
   raw-bytes = refl;
@@ -233,4 +238,20 @@ rules-worked = record {
   clock-letters-of-Z = refl;
   net-letters-of-Z = refl;
   periods = refl;
+}
+
+pub address-worked : AddressWorked
+unfolding numberAt numberFrom oneOf between upTo isAddress isRequester isOutput allFrom fieldsOf recordWrong headTold read wrongIn ticksOf clockNumber isNet isRaw timingKind isSign timed isStatus Q.isInformation Q.isRequestChannel Q.requestFields P.isLetter P.isReplyChannel P.leastRun P.fromBib P.replyFields D.isOrder D.isDynamicChannel D.leastPeriod D.dynamicFields
+address-worked = record {
+  in-request = record { good = refl; others = refl };
+  in-reply = record { good = refl; others = refl };
+  in-dynamic = record { good = refl; others = refl };
+  before-field = refl;
+  address-first = refl;
+  of-request = record { good = refl; others = refl };
+  of-reply = record { good = refl; others = refl };
+  of-dynamic = record { good = refl; others = refl };
+  before-requester = refl;
+  before-program = refl;
+  before-order = refl;
 }

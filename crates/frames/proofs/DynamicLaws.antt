@@ -6,21 +6,20 @@ use mathlib.Core.Path.{_≡_, refl, sym}
 use native.Mathlib.Omega.{arith}
 use lib.ListN.{length, getD, set}
 use lib.Seq.{sets}
-use borrow.Author.Tests.{eqb-true}
 use Rattle.digits.specs.Digits.{digits}
 use Rattle.digits.proofs.Writing.{sets-append, length-digits}
 use Rattle.times.specs.Clock.{clock}
 use Rattle.frames.specs.declared.dynamic.DynamicRequest.{DynamicRequest}
-use Rattle.frames.specs.Rules.{between, upTo, space, isAddress}
+use Rattle.frames.specs.Rules.{between, upTo}
 use Rattle.frames.specs.Layout.{recordWrong, write}
 use Rattle.frames.specs.Kind.{letterR, CR, wrongIn, frameOf}
 use Rattle.frames.specs.Faithful.{Faithful}
 use Rattle.frames.specs.Dynamic.{isDynamicChannel, leastPeriod, dynamicFields, dynamic}
 use Rattle.frames.specs.inside.Held.{dynamicAt}
 use Rattle.frames.proofs.RuleLaws.{up-to, in-range, none-in-range, or-one, to-240}
-use Rattle.frames.proofs.LayoutLaws.{Sound, end-sound, byte-sound, number-sound, time-sound, Sees, sees-end}
+use Rattle.frames.proofs.LayoutLaws.{unless-none, Sound, end-sound, byte-sound, number-sound, time-sound, Sees, sees-end}
 use Rattle.frames.proofs.SeesLaws.{sees-byte, sees-number, sees-time}
-use Rattle.frames.proofs.KindLaws.{SoundKind, faithful, length-frame, sees-address}
+use Rattle.frames.proofs.KindLaws.{SoundKind, faithful, length-frame}
 
 channel-bound : (v : ℕ) → isDynamicChannel v ≡ true → v ≤ 255
 unfolding isDynamicChannel
@@ -29,7 +28,7 @@ channel-bound v = or-one v _ 255 tt (or-one v _ 255 tt (to-240 v))
 sound : Sound (λ _. Unit {0}) dynamicFields (λ _. Unit {0}) (Unit {0}) 43
 unfolding dynamicFields
 sound =
-    byte-sound tt λ address own.
+    byte-sound tt λ _ _.
     byte-sound tt λ _ _.
     byte-sound tt λ order _.
     number-sound 5 _ tt (up-to _) λ _ _.
@@ -43,9 +42,10 @@ sound =
     number-sound 1 _ tt (up-to _) λ _ _.
     number-sound 5 99999 tt (in-range (leastPeriod order) 99999) λ _ _.
     byte-sound tt λ _ _.
-    end-sound ((((((((((((((tt, sym (eqb-true address space own)), refl), refl), refl), refl), refl), refl), refl), refl), refl), refl), refl), refl), refl)
+    end-sound ((((((((((((((tt, refl), refl), refl), refl), refl), refl), refl), refl), refl), refl), refl), refl), refl), refl)
     (λ _. tt)
     (λ r _ h i. record {
+      address = sym (h .0 .0 .0 .0 .0 .0 .0 .0 .0 .0 .0 .0 .0 .1) i;
       requester = sym (h .0 .0 .0 .0 .0 .0 .0 .0 .0 .0 .0 .0 .1) i;
       order = sym (h .0 .0 .0 .0 .0 .0 .0 .0 .0 .0 .0 .1) i;
       bib = sym (h .0 .0 .0 .0 .0 .0 .0 .0 .0 .0 .1) i;
@@ -62,8 +62,8 @@ sound =
     })
 
 dynamic-sound : SoundKind dynamic (λ _. Unit {0})
-unfolding dynamicFields frameOf write
-dynamic-sound = record { bytes = 43; sound = sound; size = refl; some = omega arith; address = λ r e. refl }
+unfolding dynamicFields frameOf write wrongIn recordWrong
+dynamic-sound = record { bytes = 43; sound = sound; size = refl; some = omega arith; address = λ r e. unless-none _ 2 _ (omega arith) e .0 }
 
 -- what is demanded of reading and writing holds of the dynamic request
 pub dynamic-faithful : Faithful dynamic (λ _. Unit {0})
@@ -73,11 +73,11 @@ pub length-dynamic : (r : DynamicRequest) → wrongIn dynamic r ≡ 0 → length
 length-dynamic r = length-frame dynamic-sound r
 
 -- the code's values and its first wrong offset are those of the layout
-pub sees-dynamic : (s : List ℕ) → isAddress (getD s 2 0) ≡ true → Sees dynamicFields 2 s (wrongIn dynamic (dynamicAt s)) (dynamicAt s)
+pub sees-dynamic : (s : List ℕ) → Sees dynamicFields 2 s (wrongIn dynamic (dynamicAt s)) (dynamicAt s)
 unfolding dynamicFields wrongIn recordWrong upTo between isDynamicChannel
 sees-dynamic s =
-    sees-address
-    (sees-byte tt λ _.
+    sees-byte tt λ _.
+    sees-byte tt λ _.
     sees-byte tt λ _.
     sees-number 5 tt refl λ _.
     sees-number 3 tt refl λ _.
@@ -90,11 +90,11 @@ sees-dynamic s =
     sees-number 1 tt refl λ _.
     sees-number 5 tt (none-in-range (leastPeriod (getD s 4 0)) 99999 (omega arith)) λ _.
     sees-byte tt λ _.
-    sees-end refl)
+    sees-end refl
 
 -- the stores of a record, one after the other, are a single run
 pub stores-frame : (r : DynamicRequest) (l : List ℕ) →
-    set (set (sets (sets (sets (sets (sets (sets (sets (sets (sets (sets (set (set (sets l 0 (19 ∷ letterR ∷ space ∷ [])) 3 (r .requester)) 4 (r .order)) 5 (digits 5 (r .bib))) 10 (digits 3 (r .channel))) 13 (digits 3 (r .run)))
+    set (set (sets (sets (sets (sets (sets (sets (sets (sets (sets (sets (set (set (sets l 0 (19 ∷ letterR ∷ r .address ∷ [])) 3 (r .requester)) 4 (r .order)) 5 (digits 5 (r .bib))) 10 (digits 3 (r .channel))) 13 (digits 3 (r .run)))
     16 (digits 5 (r .«stop_bib»))) 21 (digits 3 (r .«stop_channel»))) 24 (digits 3 (r .«stop_run»))) 27 (digits 1 (r .sign))) 28 (clock .put (r .time))) 38 (digits 1 (r .days))) 39 (digits 5 (r .period))) 44 (r .output)) 45 CR
     ≡ sets l 0 (frameOf dynamic r)
 unfolding dynamicFields write frameOf

@@ -11,7 +11,7 @@ use Rattle.digits.specs.declared.refusal.Refusal.{Refusal}
 use Rattle.digits.specs.Refusals.{KIND, LENGTH, END, ADDRESS, RECORD, ROOM}
 use Rattle.digits.specs.Told.{Told, gives, refuses, tried, Sure}
 use Rattle.digits.proofs.Sure.{sure-refuses, sure-gives, sure-tried}
-use Rattle.frames.specs.Rules.{space, isAddress}
+use Rattle.frames.specs.Rules.{isAddress}
 use Rattle.frames.specs.Kind.{leadIs, letterR, CR, headTold, andThen, writeTried}
 
 -- ---- answers that are not refusals
@@ -69,10 +69,10 @@ module _ (lead size : ℕ) (s : List ℕ) (some : 0 < lead) where
             rw (lead-at lead s some, eq-eqb (getD s 0 0) lead kind, eq-eqb (length s) size long, eq-eqb (getD s (size - 1) 0) CR ended, ne-eqb (getD s 1 0) letterR a)
 
         module _ (letter : getD s 1 0 ≡ letterR) where
-          pub head-address : (getD s 2 0 ≡ space → ⊥) → refuses ADDRESS ≡ headTold lead size s
+          pub head-address : isAddress (getD s 2 0) ≡ false → refuses ADDRESS ≡ headTold lead size s
           unfolding headTold
           head-address a =
-              rw (lead-at lead s some, eq-eqb (getD s 0 0) lead kind, eq-eqb (length s) size long, eq-eqb (getD s (size - 1) 0) CR ended, eq-eqb (getD s 1 0) letterR letter, ne-eqb (getD s 2 0) space a)
+              rw (lead-at lead s some, eq-eqb (getD s 0 0) lead kind, eq-eqb (length s) size long, eq-eqb (getD s (size - 1) 0) CR ended, eq-eqb (getD s 1 0) letterR letter, a)
 
           pub head-good : isAddress (getD s 2 0) ≡ true → gives tt ≡ headTold lead size s
           unfolding headTold

@@ -133,7 +133,7 @@ module _ {R : Type 0} {k : Kind R} {Whole : R → Type 0} (g : SoundKind k Whole
 
 -- ---- `read`, from the tests of the head and from what the code reads of the fields
 
--- the fields after the address, if the address is good
+-- the fields after the address, for code that tests a frame's address only in the head
 pub sees-address : {R : Type 0} {part : R → ℕ} {next : ℕ → Layout R} {s : List ℕ} {w : ℕ} {r : R}
     → Sees (next (getD s 2 0)) 3 s w r → isAddress (getD s 2 0) ≡ true → Sees (field 2 byte isAddress part next) 2 s w r
 sees-address {R} {part} {next} {s} {w} {r} rest good =
@@ -147,10 +147,10 @@ read-fields k s w r sees h t q e f =
     rw (← good) (f ∙ sym (seen-is (sees (passed (k .lead) (k .size) s (sym good) .address))))
 
 -- for a kind whose fields the code holds as one record
-module _ {R : Type 0} (k : Kind R) (at : List ℕ → R) (sees : (s : List ℕ) → isAddress (getD s 2 0) ≡ true → Sees (k .fields) 2 s (wrongIn k (at s)) (at s)) where
+module _ {R : Type 0} (k : Kind R) (at : List ℕ → R) (sees : (s : List ℕ) → Sees (k .fields) 2 s (wrongIn k (at s)) (at s)) where
   pub read-record : (s : List ℕ) (r : R) → r ≡ at s → (h : ReadVerdict) (t : Told R) → h ≡ Read → verdictTold h ≡ headTold (k .lead) (k .size) s
       → t ≡ tried (eqb (wrongIn k r) 0) (FIELD (wrongIn k r)) (gives r) → t ≡ read k s
-  read-record s r e h t q f g = read-fields k s (wrongIn k (at s)) (at s) (sees s) h t q f (rw e at g)
+  read-record s r e h t q f g = read-fields k s (wrongIn k (at s)) (at s) (λ _. sees s) h t q f (rw e at g)
 
 pub read-head : {R : Type 0} (k : Kind R) (s : List ℕ) (h : ReadVerdict) (f : ReadRefusal) → h ≡ turned f → verdictTold h ≡ headTold (k .lead) (k .size) s → refuses (readRefused f) ≡ read k s
 unfolding read

@@ -54,8 +54,8 @@ tail-stands status =
 reply-stands : Stands reply
 unfolding replyFields
 reply-stands =
-    stands λ _ _. stands λ program _. stands λ mode _. stands λ status _. stands λ requester _. stands λ n _.
-    within-stands tailOf (withTail program mode status requester n) (tail-stands status)
+    stands λ address _. stands λ program _. stands λ mode _. stands λ status _. stands λ requester _. stands λ n _.
+    within-stands tailOf (withTail address program mode status requester n) (tail-stands status)
 
 pub fields-stand-where-they-say : FieldsStandWhereTheySay
 fields-stand-where-they-say = (request-stands, reply-stands, dynamic-stands)

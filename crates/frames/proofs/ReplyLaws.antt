@@ -24,7 +24,7 @@ use Rattle.frames.specs.declared.reply.ReplyHead.{ReplyHead}
 use Rattle.frames.specs.declared.reply.StaticReply.{StaticReply}
 use Rattle.frames.specs.declared.reply.ReplyRead.{ReplyRead}
 use Rattle.frames.specs.Refusals.{readRefused, verdictTold}
-use Rattle.frames.specs.Rules.{between, upTo, space, isAddress, isRaw, isRequester}
+use Rattle.frames.specs.Rules.{between, upTo, isAddress, isRaw, isRequester}
 use Rattle.frames.specs.Status.{isStatus}
 use Rattle.frames.specs.Shape.{number, bytesOf}
 use Rattle.frames.specs.Layout.{wrongUnless, recordWrong, write, within}
@@ -77,18 +77,19 @@ tail-sound least letters kind =
 sound : Sound Whole replyFields (λ _. Unit {0}) (Unit {0}) 48
 unfolding replyFields
 sound =
-    byte-sound tt λ address own.
+    byte-sound tt λ address _.
     byte-sound tt λ program _.
     byte-sound tt λ mode _.
     byte-sound tt λ status _.
     byte-sound tt λ requester _.
     number-sound 5 _ tt (up-to _) λ n _.
-    within-sound tailOf (withTail program mode status requester n) WholeTail Whole (λ q. refl)
+    within-sound tailOf (withTail address program mode status requester n) WholeTail Whole (λ q. refl)
     (λ r w. record { time = w .time; date = w .date; spare = w .spare })
     (λ q w. record { time = w .time; date = w .date; spare = w .spare })
-    (tail-sound (leastRun status) isLetter (timingKind status)) _ _ (λ _. tt) (λ r o. tt) (λ q k. ((((((tt, sym (eqb-true address space own)), refl), refl), refl), refl), refl))
+    (tail-sound (leastRun status) isLetter (timingKind status)) _ _ (λ _. tt) (λ r o. tt) (λ q k. ((((((tt, refl), refl), refl), refl), refl), refl))
     (λ r o i. record {
       head = record {
+        address = sym (o .0 .0 .0 .0 .0 .1) i;
         program = sym (o .0 .0 .0 .0 .1) i;
         mode = sym (o .0 .0 .0 .1) i;
         status = sym (o .0 .0 .1) i;
@@ -108,8 +109,8 @@ sound =
     })
 
 reply-sound : SoundKind reply Whole
-unfolding replyFields frameOf write
-reply-sound = record { bytes = 48; sound = sound; size = refl; some = omega arith; address = λ r e. refl }
+unfolding replyFields frameOf write wrongIn recordWrong
+reply-sound = record { bytes = 48; sound = sound; size = refl; some = omega arith; address = λ r e. unless-none _ 2 _ (omega arith) e .0 }
 
 -- what is demanded of reading and writing holds of the static reply
 pub reply-faithful : Faithful reply Whole
@@ -124,15 +125,15 @@ abbrev kindIn : StaticReply → TimingKind
 kindIn r = timingKind (r .head .status) (r .head .information)
 
 -- the test of time and date alone agrees with that of the whole layout
-times-wrong : (r : StaticReply) → headWrong (r .head) (recordWrong (timed (kindIn r)) (tailOf r .times)) ≡ wrongIn reply r
+times-wrong : (r : StaticReply) → wrongUnless (isAddress (r .head .address)) 2 (headWrong (r .head) (recordWrong (timed (kindIn r)) (tailOf r .times))) ≡ wrongIn reply r
 unfolding headWrong wrongIn replyFields fromBib recordWrong
 times-wrong r =
-    ap (headWrong (r .head))
+    ap (λ w. wrongUnless (isAddress (r .head .address)) 2 (headWrong (r .head) w))
     (sym (within-wrong _ _ (within (λ t. t .times) _ (timed (kindIn r))) r ∙ within-wrong _ _ (timed (kindIn r)) (tailOf r)))
 
 -- `reply_wrong` is the first wrong part of a record
-pub reply-wrong-is : (r : StaticReply) → headWrong (r .head) (timingWrong (kindIn r) (r .timing) (r .«raw_time») (r .«raw_date») (r .spare)) ≡ wrongIn reply r
-reply-wrong-is r = ap (headWrong (r .head)) (timing-wrong-is (kindIn r) (r .timing) (r .«raw_time») (r .«raw_date») (r .spare)) ∙ times-wrong r
+pub reply-wrong-is : (r : StaticReply) → wrongUnless (isAddress (r .head .address)) 2 (headWrong (r .head) (timingWrong (kindIn r) (r .timing) (r .«raw_time») (r .«raw_date») (r .spare))) ≡ wrongIn reply r
+reply-wrong-is r = ap (λ w. wrongUnless (isAddress (r .head .address)) 2 (headWrong (r .head) w)) (timing-wrong-is (kindIn r) (r .timing) (r .«raw_time») (r .«raw_date») (r .spare)) ∙ times-wrong r
 
 last-none : (t : Bool) (at rest : ℕ) → wrongUnless t at rest ≡ 0 → T (ltb 0 at) → rest ≡ 0
 last-none t at rest e h = unless-none t at rest (ltb→lt 0 at h) e .1
@@ -154,7 +155,7 @@ head-none h rest e =
 
 -- if a record is well formed, so are its time and date
 pub times-fine : (r : StaticReply) → wrongIn reply r ≡ 0 → recordWrong (timed (kindIn r)) (tailOf r .times) ≡ 0
-times-fine r e = head-none (r .head) _ (times-wrong r ∙ e)
+times-fine r e = head-none (r .head) _ (last-none (isAddress (r .head .address)) 2 _ (times-wrong r ∙ e) tt)
 
 -- ---- what the code reads of a frame
 
@@ -188,7 +189,7 @@ sees-reply s =
     sees-byte tt λ _.
     sees-byte tt λ _.
     sees-number 5 tt refl λ _.
-    sees-within tailOf (withTail (getD s 3 0) (getD s 4 0) (getD s 5 0) (getD s 6 0) (orNone (numberAt s 7 5))) (sees-tail s) refl)
+    sees-within tailOf (withTail (getD s 2 0) (getD s 3 0) (getD s 4 0) (getD s 5 0) (getD s 6 0) (orNone (numberAt s 7 5))) (sees-tail s) refl)
 
 -- ---- a reply's text, as it is stored, is its frame
 
@@ -205,14 +206,14 @@ text-is-frame r e =
     ∙ within-write _ _ (timed (kindIn r)) (tailOf r)
     ∙ timing-text (kindIn r) (r .timing) (r .«raw_time») (r .«raw_date») (r .spare) (kind-fits (kindIn r) (tailOf r .times) (times-fine r e)) in
     let numbers = digits 5 (h .number) ++ (digits 5 (h .bib) ++ (digits 3 (h .group) ++ (digits 3 (h .run) ++ (digits 3 (h .physical) ++ (digits 3 (h .channel) ++ (h .information ∷ [])))))) in
-    sym (ap (λ (l : List ℕ). 18 ∷ letterR ∷ space ∷ h .program ∷ h .mode ∷ h .status ∷ h .requester ∷ l)
+    sym (ap (λ (l : List ℕ). 18 ∷ letterR ∷ h .address ∷ h .program ∷ h .mode ∷ h .status ∷ h .requester ∷ l)
     (regroup (digits 5 (h .number)) (digits 5 (h .bib)) (digits 3 (h .group)) (digits 3 (h .run)) (digits 3 (h .physical)) (digits 3 (h .channel)) (h .information) _ (CR ∷ [])
     ∙ ap (λ (l : List ℕ). numbers ++ (l ++ (CR ∷ []))) q
     ∙ ap (λ (l : List ℕ). numbers ++ l) (append-assoc t (bytesOf (r .spare) 0 2) (CR ∷ []))))
 
 -- the stores of a reply are a single run
 pub head-stores : (h : ReplyHead) (l : List ℕ) →
-    set (sets (sets (sets (sets (sets (sets (set (set (set (set (sets l 0 (18 ∷ letterR ∷ space ∷ [])) 3 (h .program)) 4 (h .mode)) 5 (h .status)) 6 (h .requester)) 7 (digits 5 (h .number))) 12 (digits 5 (h .bib)))
+    set (sets (sets (sets (sets (sets (sets (set (set (set (set (sets l 0 (18 ∷ letterR ∷ h .address ∷ [])) 3 (h .program)) 4 (h .mode)) 5 (h .status)) 6 (h .requester)) 7 (digits 5 (h .number))) 12 (digits 5 (h .bib)))
     17 (digits 3 (h .group))) 20 (digits 3 (h .run))) 23 (digits 3 (h .physical))) 26 (digits 3 (h .channel))) 29 (h .information)
     ≡ sets l 0 (headText h)
 head-stores h l = simp (sets-append, length-digits)
@@ -274,7 +275,7 @@ labelled-tried true f r = refl
 labelled-tried false f r = refl
 
 module _ (s : List ℕ) (w : ℕ) (is : w ≡ wrongAt s) where
-  pub checked-good : (h : ReplyHead) → h ≡ headAt s → w ≡ 0 → gives (record { status = h .status; requester = h .requester; number = h .number }) ≡ fieldsChecked s
+  pub checked-good : (h : ReplyHead) → h ≡ headAt s → w ≡ 0 → gives (record { status = h .status; address = h .address; requester = h .requester; number = h .number }) ≡ fieldsChecked s
   unfolding fieldsChecked
   checked-good h e z = rw (e, ← is, eq-eqb w 0 z)
 

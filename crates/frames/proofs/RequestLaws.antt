@@ -6,21 +6,20 @@ use mathlib.Core.Path.{_≡_, refl, sym}
 use native.Mathlib.Omega.{arith}
 use lib.ListN.{length, getD, set}
 use lib.Seq.{sets}
-use borrow.Author.Tests.{eqb-true}
 use Rattle.digits.specs.Digits.{digits}
 use Rattle.digits.specs.Told.{gives}
 use Rattle.digits.proofs.Writing.{sets-append, length-digits}
 use Rattle.frames.specs.declared.request.StaticRequest.{StaticRequest}
-use Rattle.frames.specs.Rules.{upTo, space, isAddress}
+use Rattle.frames.specs.Rules.{upTo}
 use Rattle.frames.specs.Layout.{recordWrong, write}
 use Rattle.frames.specs.Kind.{letterR, CR, read, wrongIn, frameOf}
 use Rattle.frames.specs.Faithful.{Faithful}
 use Rattle.frames.specs.Request.{isRequestChannel, requestFields, request}
 use Rattle.frames.specs.inside.Held.{requestAt}
 use Rattle.frames.proofs.RuleLaws.{up-to, or-one, to-240}
-use Rattle.frames.proofs.LayoutLaws.{Sound, end-sound, byte-sound, number-sound, Sees, sees-end}
+use Rattle.frames.proofs.LayoutLaws.{unless-none, Sound, end-sound, byte-sound, number-sound, Sees, sees-end}
 use Rattle.frames.proofs.SeesLaws.{sees-byte, sees-number}
-use Rattle.frames.proofs.KindLaws.{SoundKind, faithful, frame-again, length-frame, sees-address}
+use Rattle.frames.proofs.KindLaws.{SoundKind, faithful, frame-again, length-frame}
 
 channel-bound : (v : ℕ) → isRequestChannel v ≡ true → v ≤ 255
 unfolding isRequestChannel
@@ -29,7 +28,7 @@ channel-bound v = or-one v _ 255 tt (or-one v _ 255 tt (or-one v _ 255 tt (or-on
 sound : Sound (λ _. Unit {0}) requestFields (λ _. Unit {0}) (Unit {0}) 21
 unfolding requestFields
 sound =
-    byte-sound tt λ address own.
+    byte-sound tt λ _ _.
     byte-sound tt λ _ _.
     number-sound 3 _ tt (up-to _) λ _ _.
     number-sound 5 _ tt (up-to _) λ _ _.
@@ -38,9 +37,10 @@ sound =
     number-sound 3 _ tt (up-to _) λ _ _.
     number-sound 3 _ tt (up-to _) λ _ _.
     byte-sound tt λ _ _.
-    end-sound (((((((((tt, sym (eqb-true address space own)), refl), refl), refl), refl), refl), refl), refl), refl)
+    end-sound (((((((((tt, refl), refl), refl), refl), refl), refl), refl), refl), refl)
     (λ _. tt)
     (λ r _ h i. record {
+      address = sym (h .0 .0 .0 .0 .0 .0 .0 .0 .1) i;
       requester = sym (h .0 .0 .0 .0 .0 .0 .0 .1) i;
       number = sym (h .0 .0 .0 .0 .0 .0 .1) i;
       bib = sym (h .0 .0 .0 .0 .0 .1) i;
@@ -52,8 +52,8 @@ sound =
     })
 
 request-sound : SoundKind request (λ _. Unit {0})
-unfolding requestFields frameOf write
-request-sound = record { bytes = 21; sound = sound; size = refl; some = omega arith; address = λ r e. refl }
+unfolding requestFields frameOf write wrongIn recordWrong
+request-sound = record { bytes = 21; sound = sound; size = refl; some = omega arith; address = λ r e. unless-none _ 2 _ (omega arith) e .0 }
 
 -- what is demanded of reading and writing holds of the static request
 pub request-faithful : Faithful request (λ _. Unit {0})
@@ -67,11 +67,11 @@ pub length-request : (r : StaticRequest) → wrongIn request r ≡ 0 → length 
 length-request r = length-frame request-sound r
 
 -- the code's values and its first wrong offset are those of the layout
-pub sees-request : (s : List ℕ) → isAddress (getD s 2 0) ≡ true → Sees requestFields 2 s (wrongIn request (requestAt s)) (requestAt s)
+pub sees-request : (s : List ℕ) → Sees requestFields 2 s (wrongIn request (requestAt s)) (requestAt s)
 unfolding requestFields wrongIn recordWrong upTo isRequestChannel
 sees-request s =
-    sees-address
-    (sees-byte tt λ _.
+    sees-byte tt λ _.
+    sees-byte tt λ _.
     sees-number 3 tt refl λ _.
     sees-number 5 tt refl λ _.
     sees-byte tt λ _.
@@ -79,11 +79,11 @@ sees-request s =
     sees-number 3 tt refl λ _.
     sees-number 3 tt refl λ _.
     sees-byte tt λ _.
-    sees-end refl)
+    sees-end refl
 
 -- the stores of a record, one after the other, are a single run
 pub stores-frame : (r : StaticRequest) (l : List ℕ) →
-    set (set (sets (sets (sets (set (sets (sets (set (sets l 0 (17 ∷ letterR ∷ space ∷ [])) 3 (r .requester)) 4 (digits 3 (r .number))) 7 (digits 5 (r .bib))) 12 (r .information)) 13 (digits 3 (r .channel)))
+    set (set (sets (sets (sets (set (sets (sets (set (sets l 0 (17 ∷ letterR ∷ r .address ∷ [])) 3 (r .requester)) 4 (digits 3 (r .number))) 7 (digits 5 (r .bib))) 12 (r .information)) 13 (digits 3 (r .channel)))
     16 (digits 3 (r .run))) 19 (digits 3 (r .group))) 22 (r .output)) 23 CR
     ≡ sets l 0 (frameOf request r)
 unfolding requestFields write frameOf

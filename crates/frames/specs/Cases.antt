@@ -45,7 +45,7 @@ asking requester letter channel run =
 
 -- the record of such a request from A with letter 1 and channel 255
 abbrev pub asked : ℕ → StaticRequest
-asked run = record { requester = 65; number = 12; bib = 41; information = 49; channel = 255; run = run; group = 0; output = 83 }
+asked run = record { address = 32; requester = 65; number = 12; bib = 41; information = 49; channel = 255; run = run; group = 0; output = 83 }
 
 -- a reply with this bib, channel, letter, time and date
 abbrev pub replying : String → String → String → String → String → List ℕ
@@ -55,7 +55,7 @@ replying bib channel letter time date =
 -- the record of such a reply with bib 41, channel 255 and no raw bytes
 abbrev pub replied : ℕ → Timing → StaticReply
 replied letter timing =
-    record { head = record { program = 83; mode = 79; status = 69; requester = 65; number = 12; bib = 41; group = 0; run = 1; physical = 15; channel = 255; information = letter }; timing = timing; «raw_time» = zeros10; «raw_date» = zeros8; spare = 32 ∷ 32 ∷ [] }
+    record { head = record { address = 32; program = 83; mode = 79; status = 69; requester = 65; number = 12; bib = 41; group = 0; run = 1; physical = 15; channel = 255; information = letter }; timing = timing; «raw_time» = zeros10; «raw_date» = zeros8; spare = 32 ∷ 32 ∷ [] }
   where
     zeros8 : List ℕ
     zeros8 = 0 ∷ 0 ∷ 0 ∷ 0 ∷ 0 ∷ 0 ∷ 0 ∷ 0 ∷ []
@@ -111,7 +111,7 @@ pub record Worked : Type 0 where
   pub running-60000 : Good dynamic (running "A" "60000" "00001")
   -- the refusals that no numbered case has: END, ADDRESS, RECORD with its offset, ROOM, TIME
   pub line-feed : read request (17 ∷ (codes "R A012000411255001000S" ++ (10 ∷ []))) ≡ refuses (plain 3)
-  pub address-1 : read request (17 ∷ (codes "R1A012000411255001000S" ++ (13 ∷ []))) ≡ refuses (plain 4)
+  pub address-minus : read request (17 ∷ (codes "R-A012000411255001000S" ++ (13 ∷ []))) ≡ refuses (plain 4)
   pub address-S : read reply (18 ∷ (codes "S SOEA000120004100000101525510001125400+0000000  " ++ (13 ∷ []))) ≡ refuses (plain 4)
   pub record-251 : writeTried (wrongIn request (asked 251)) 24 24 ≡ refuses (placed 6 16)
   pub room-23 : writeTried (wrongIn request (asked 250)) 24 23 ≡ refuses (plain 7)

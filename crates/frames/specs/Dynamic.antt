@@ -11,7 +11,7 @@ use Rattle.frames.specs.declared.dynamic.DynamicRequest.{DynamicRequest}
 use Rattle.frames.specs.declared.dynamic.DynamicRead.{DynamicRead}
 use Rattle.frames.specs.declared.dynamic.DynamicRead.the-variants.{Request, Refused}
 use Rattle.frames.specs.Refusals.{readRefused}
-use Rattle.frames.specs.Rules.{between, upTo, space, isAddress, isRequester, isOutput}
+use Rattle.frames.specs.Rules.{between, upTo, isAddress, isRequester, isOutput}
 use Rattle.frames.specs.Shape.{byte, number, time}
 use Rattle.frames.specs.Layout.{Layout, field, end}
 use Rattle.frames.specs.Kind.{Kind, read}
@@ -28,7 +28,7 @@ leastPeriod order = cond (oneOf (codes "AB") order) 1 0
 
 unfoldable pub dynamicFields : Layout DynamicRequest
 dynamicFields =
-    field 2 byte isAddress (λ _. space) λ _.
+    field 2 byte isAddress (λ r. r .address) λ address.
     field 3 byte isRequester (λ r. r .requester) λ requester.
     field 4 byte isOrder (λ r. r .order) λ order.
     field 5 (number 5) (upTo 60000) (λ r. r .bib) λ bib.
@@ -44,7 +44,7 @@ dynamicFields =
     field 38 (number 1) (upTo 9) (λ r. r .days) λ days.
     field 39 (number 5) (between (leastPeriod order) 99999) (λ r. r .period) λ period.
     field 44 byte isOutput (λ r. r .output) λ output.
-    end (record { requester = requester; order = order; bib = bib; channel = channel; run = run; «stop_bib» = stopBib; «stop_channel» = stopChannel; «stop_run» = stopRun; sign = sign; time = ticks; days = days; period = period; output = output })
+    end (record { address = address; requester = requester; order = order; bib = bib; channel = channel; run = run; «stop_bib» = stopBib; «stop_channel» = stopChannel; «stop_run» = stopRun; sign = sign; time = ticks; days = days; period = period; output = output })
 
 abbrev pub dynamic : Kind DynamicRequest
 dynamic = record { lead = 19; size = 46; fields = dynamicFields }

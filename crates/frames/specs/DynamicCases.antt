@@ -13,24 +13,24 @@ use Rattle.frames.specs.Cases.{Good, FieldAt, damaged, fieldsAt}
 
 -- a good dynamic request in which no two parts are alike; its time is 12:34:56.7890
 abbrev pub good : List ℕ
-good = 19 ∷ (codes "R Cb34567178209456781932141" ++ (codes "1234567890" ++ (codes "708642B" ++ (13 ∷ []))))
+good = 19 ∷ (codes "R9Cb34567178209456781932141" ++ (codes "1234567890" ++ (codes "708642B" ++ (13 ∷ []))))
 
 -- the same frame with this text at a place
 abbrev pub but : ℕ → String → List ℕ
 but at text = sets good at (codes text)
 
--- a record from its parts: requester, order, start, stop, Taux, period, output
-abbrev pub orders : ℕ → ℕ → ℕ → ℕ → ℕ → ℕ → ℕ → ℕ → ℕ → ℕ → ℕ → ℕ → ℕ → DynamicRequest
-orders requester order bib channel run stopBib stopChannel stopRun sign time days period output =
-    record { requester = requester; order = order; bib = bib; channel = channel; run = run; «stop_bib» = stopBib; «stop_channel» = stopChannel; «stop_run» = stopRun; sign = sign; time = time; days = days; period = period; output = output }
+-- a record from its parts: address, requester, order, start, stop, Taux, period, output
+abbrev pub orders : ℕ → ℕ → ℕ → ℕ → ℕ → ℕ → ℕ → ℕ → ℕ → ℕ → ℕ → ℕ → ℕ → ℕ → DynamicRequest
+orders address requester order bib channel run stopBib stopChannel stopRun sign time days period output =
+    record { address = address; requester = requester; order = order; bib = bib; channel = channel; run = run; «stop_bib» = stopBib; «stop_channel» = stopChannel; «stop_run» = stopRun; sign = sign; time = time; days = days; period = period; output = output }
 
 pub record DynamicWorked : Type 0 where
   -- the frame and its record
-  pub spelled : read dynamic good ≡ gives (orders 67 98 34567 178 209 45678 193 214 1 452967890 7 8642 66)
-  pub written : frameOf dynamic (orders 67 98 34567 178 209 45678 193 214 1 452967890 7 8642 66) ≡ good
+  pub spelled : read dynamic good ≡ gives (orders 57 67 98 34567 178 209 45678 193 214 1 452967890 7 8642 66)
+  pub written : frameOf dynamic (orders 57 67 98 34567 178 209 45678 193 214 1 452967890 7 8642 66) ≡ good
   -- the minus of a Taux of zero is kept when read and when written
-  pub minus-zero : read dynamic (but 27 "100000000000") ≡ gives (orders 67 98 34567 178 209 45678 193 214 1 0 0 8642 66)
-  pub minus-zero-written : frameOf dynamic (orders 67 98 34567 178 209 45678 193 214 1 0 0 8642 66) ≡ but 27 "100000000000"
+  pub minus-zero : read dynamic (but 27 "100000000000") ≡ gives (orders 57 67 98 34567 178 209 45678 193 214 1 0 0 8642 66)
+  pub minus-zero-written : frameOf dynamic (orders 57 67 98 34567 178 209 45678 193 214 1 0 0 8642 66) ≡ but 27 "100000000000"
   -- each byte of the fields damaged in turn: requester, order, bib, channel, run; stop bib, channel and run; sign, time, days; period, output
   pub offsets : damaged dynamic good 3 42 ≡ fieldsAt (3 ∷ 4 ∷ 5 ∷ 5 ∷ 5 ∷ 5 ∷ 5 ∷ 10 ∷ 10 ∷ 10 ∷ 13 ∷ 13 ∷ 13
       ∷ 16 ∷ 16 ∷ 16 ∷ 16 ∷ 16 ∷ 21 ∷ 21 ∷ 21 ∷ 24 ∷ 24 ∷ 24 ∷ 27 ∷ 28 ∷ 28 ∷ 28 ∷ 28 ∷ 28 ∷ 28 ∷ 28 ∷ 28 ∷ 28 ∷ 28 ∷ 38 ∷ 39 ∷ 39 ∷ 39 ∷ 39 ∷ 39 ∷ 44 ∷ [])
@@ -60,17 +60,18 @@ pub record DynamicWorked : Type 0 where
   pub output-S : Good dynamic (but 44 "S")
   pub output-C : FieldAt dynamic (but 44 "C") 44
   -- a record with one part out of range
-  pub wrong-requester : wrongIn dynamic (orders 64 98 34567 178 209 45678 193 214 1 452967890 7 8642 66) ≡ 3
-  pub wrong-order : wrongIn dynamic (orders 67 99 34567 178 209 45678 193 214 1 452967890 7 8642 66) ≡ 4
-  pub wrong-bib : wrongIn dynamic (orders 67 98 60001 178 209 45678 193 214 1 452967890 7 8642 66) ≡ 5
-  pub wrong-channel : wrongIn dynamic (orders 67 98 34567 241 209 45678 193 214 1 452967890 7 8642 66) ≡ 10
-  pub wrong-run : wrongIn dynamic (orders 67 98 34567 178 251 45678 193 214 1 452967890 7 8642 66) ≡ 13
-  pub wrong-stop-bib : wrongIn dynamic (orders 67 98 34567 178 209 0 193 214 1 452967890 7 8642 66) ≡ 16
-  pub wrong-stop-channel : wrongIn dynamic (orders 67 98 34567 178 209 45678 251 214 1 452967890 7 8642 66) ≡ 21
-  pub wrong-stop-run : wrongIn dynamic (orders 67 98 34567 178 209 45678 193 251 1 452967890 7 8642 66) ≡ 24
-  pub wrong-sign : wrongIn dynamic (orders 67 98 34567 178 209 45678 193 214 2 452967890 7 8642 66) ≡ 27
-  pub wrong-time : wrongIn dynamic (orders 67 98 34567 178 209 45678 193 214 1 864000000 7 8642 66) ≡ 28
-  pub wrong-days : wrongIn dynamic (orders 67 98 34567 178 209 45678 193 214 1 452967890 10 8642 66) ≡ 38
-  pub wrong-period : wrongIn dynamic (orders 67 98 34567 178 209 45678 193 214 1 452967890 7 100000 66) ≡ 39
-  pub no-period : wrongIn dynamic (orders 67 65 34567 178 209 45678 193 214 1 452967890 7 0 66) ≡ 39
-  pub wrong-output : wrongIn dynamic (orders 67 98 34567 178 209 45678 193 214 1 452967890 7 8642 67) ≡ 44
+  pub wrong-address : wrongIn dynamic (orders 45 67 98 34567 178 209 45678 193 214 1 452967890 7 8642 66) ≡ 2
+  pub wrong-requester : wrongIn dynamic (orders 57 64 98 34567 178 209 45678 193 214 1 452967890 7 8642 66) ≡ 3
+  pub wrong-order : wrongIn dynamic (orders 57 67 99 34567 178 209 45678 193 214 1 452967890 7 8642 66) ≡ 4
+  pub wrong-bib : wrongIn dynamic (orders 57 67 98 60001 178 209 45678 193 214 1 452967890 7 8642 66) ≡ 5
+  pub wrong-channel : wrongIn dynamic (orders 57 67 98 34567 241 209 45678 193 214 1 452967890 7 8642 66) ≡ 10
+  pub wrong-run : wrongIn dynamic (orders 57 67 98 34567 178 251 45678 193 214 1 452967890 7 8642 66) ≡ 13
+  pub wrong-stop-bib : wrongIn dynamic (orders 57 67 98 34567 178 209 0 193 214 1 452967890 7 8642 66) ≡ 16
+  pub wrong-stop-channel : wrongIn dynamic (orders 57 67 98 34567 178 209 45678 251 214 1 452967890 7 8642 66) ≡ 21
+  pub wrong-stop-run : wrongIn dynamic (orders 57 67 98 34567 178 209 45678 193 251 1 452967890 7 8642 66) ≡ 24
+  pub wrong-sign : wrongIn dynamic (orders 57 67 98 34567 178 209 45678 193 214 2 452967890 7 8642 66) ≡ 27
+  pub wrong-time : wrongIn dynamic (orders 57 67 98 34567 178 209 45678 193 214 1 864000000 7 8642 66) ≡ 28
+  pub wrong-days : wrongIn dynamic (orders 57 67 98 34567 178 209 45678 193 214 1 452967890 10 8642 66) ≡ 38
+  pub wrong-period : wrongIn dynamic (orders 57 67 98 34567 178 209 45678 193 214 1 452967890 7 100000 66) ≡ 39
+  pub no-period : wrongIn dynamic (orders 57 67 65 34567 178 209 45678 193 214 1 452967890 7 0 66) ≡ 39
+  pub wrong-output : wrongIn dynamic (orders 57 67 98 34567 178 209 45678 193 214 1 452967890 7 8642 67) ≡ 44

@@ -18,4 +18,5 @@ pub mod RuleCases
 pub mod RequestCases
 pub mod ReplyCases
 pub mod DynamicCases
+pub mod AddressCases
 pub mod inside

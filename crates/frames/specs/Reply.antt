@@ -18,7 +18,7 @@ use Rattle.frames.specs.declared.reply.ReplyLabel.{ReplyLabel}
 use Rattle.frames.specs.declared.reply.ReplyCheck.{ReplyCheck}
 use Rattle.frames.specs.declared.reply.ReplyCheck.the-variants.{Good, Refused as Rejected}
 use Rattle.frames.specs.Refusals.{readRefused}
-use Rattle.frames.specs.Rules.{between, upTo, space, isAddress, isRaw, isRequester}
+use Rattle.frames.specs.Rules.{between, upTo, isAddress, isRaw, isRequester}
 use Rattle.frames.specs.Status.{isStatus, isZ}
 use Rattle.frames.specs.Shape.{Shape, byte, number}
 use Rattle.frames.specs.Layout.{Layout, field, within}
@@ -67,11 +67,11 @@ abbrev pub tailOf : StaticReply → Tail
 tailOf r =
     record { bib = r .head .bib; group = r .head .group; run = r .head .run; physical = r .head .physical; channel = r .head .channel; information = r .head .information; times = record { timing = r .timing; rawTime = r .«raw_time»; rawDate = r .«raw_date»; spare = r .spare } }
 
--- a reply from program, mode, status, requester and number, and the tail
-abbrev pub withTail : ℕ → ℕ → ℕ → ℕ → ℕ → Tail → StaticReply
-withTail program mode status requester n t =
+-- a reply from address, program, mode, status, requester and number, and the tail
+abbrev pub withTail : ℕ → ℕ → ℕ → ℕ → ℕ → ℕ → Tail → StaticReply
+withTail address program mode status requester n t =
     record {
-      head = record { program = program; mode = mode; status = status; requester = requester; number = n; bib = t .bib; group = t .group; run = t .run; physical = t .physical; channel = t .channel; information = t .information };
+      head = record { address = address; program = program; mode = mode; status = status; requester = requester; number = n; bib = t .bib; group = t .group; run = t .run; physical = t .physical; channel = t .channel; information = t .information };
       timing = t .times .timing;
       «raw_time» = t .times .rawTime;
       «raw_date» = t .times .rawDate;
@@ -80,13 +80,13 @@ withTail program mode status requester n t =
 
 unfoldable pub replyFields : Layout StaticReply
 replyFields =
-    field 2 byte isAddress (λ _. space) λ _.
+    field 2 byte isAddress (λ r. r .head .address) λ address.
     field 3 byte isRaw (λ r. r .head .program) λ program.
     field 4 byte isRaw (λ r. r .head .mode) λ mode.
     field 5 byte isStatus (λ r. r .head .status) λ status.
     field 6 byte isRequester (λ r. r .head .requester) λ requester.
     field 7 (number 5) (upTo 99999) (λ r. r .head .number) λ n.
-    within tailOf (withTail program mode status requester n)
+    within tailOf (withTail address program mode status requester n)
     (fromBib (leastRun status) (number 3) (upTo 999) isLetter (timingKind status))
 
 abbrev pub reply : Kind StaticReply
@@ -102,7 +102,7 @@ pub record Whole (r : StaticReply) : Type 0 where
 
 -- the record that comes with a refusal: all zeros
 abbrev pub zeroHead : ReplyHead
-zeroHead = record { program = 0; mode = 0; status = 0; requester = 0; number = 0; bib = 0; group = 0; run = 0; physical = 0; channel = 0; information = 0 }
+zeroHead = record { address = 0; program = 0; mode = 0; status = 0; requester = 0; number = 0; bib = 0; group = 0; run = 0; physical = 0; channel = 0; information = 0 }
 
 abbrev pub zeroReply : StaticReply
 zeroReply =
@@ -122,10 +122,10 @@ pub record ReadAs (s : List ℕ) (a : ReplyRead) : Type 0 where
   pub told : toldBy (a .verdict) (a .reply) ≡ read reply s
   pub beside : a .reply ≡ orZero (read reply s)
 
--- ---- what the check answers: the same refusals as the reader, and of a good reply only status, requester and number
+-- ---- what the check answers: the same refusals as the reader, and of a good reply only status, address, requester and number
 
 abbrev pub labelOf : StaticReply → ReplyLabel
-labelOf r = record { status = r .head .status; requester = r .head .requester; number = r .head .number }
+labelOf r = record { status = r .head .status; address = r .head .address; requester = r .head .requester; number = r .head .number }
 
 abbrev pub labelled : Told StaticReply → Told ReplyLabel
 labelled (gives r) = gives (labelOf r)

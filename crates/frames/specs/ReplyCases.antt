@@ -17,7 +17,7 @@ use Rattle.frames.specs.Cases.{Good, FieldAt, damaged, fieldsAt}
 
 -- a good net reply in which no two parts are alike; its time is 12:34:56.7890
 abbrev pub good : List ℕ
-good = 18 ∷ (codes "R PmED1234523456078209345167" ++ (codes "2" ++ (codes "1234567890-0000003" ++ (codes "uv" ++ (13 ∷ [])))))
+good = 18 ∷ (codes "R5PmED1234523456078209345167" ++ (codes "2" ++ (codes "1234567890-0000003" ++ (codes "uv" ++ (13 ∷ [])))))
 
 -- the same frame with this text at a place
 abbrev pub but : ℕ → String → List ℕ
@@ -31,18 +31,18 @@ abbrev pub goodRaw : List ℕ
 goodRaw = but 29 "Qabcdefghijklmnopqr"
 
 -- a record from its parts
-abbrev pub tells : ℕ → ℕ → ℕ → ℕ → ℕ → ℕ → ℕ → ℕ → ℕ → ℕ → ℕ → Timing → List ℕ → List ℕ → List ℕ → StaticReply
-tells program mode status requester number bib group run physical channel letter timing rawTime rawDate spare =
-    record { head = record { program = program; mode = mode; status = status; requester = requester; number = number; bib = bib; group = group; run = run; physical = physical; channel = channel; information = letter }; timing = timing; «raw_time» = rawTime; «raw_date» = rawDate; spare = spare }
+abbrev pub tells : ℕ → ℕ → ℕ → ℕ → ℕ → ℕ → ℕ → ℕ → ℕ → ℕ → ℕ → ℕ → Timing → List ℕ → List ℕ → List ℕ → StaticReply
+tells address program mode status requester number bib group run physical channel letter timing rawTime rawDate spare =
+    record { head = record { address = address; program = program; mode = mode; status = status; requester = requester; number = number; bib = bib; group = group; run = run; physical = physical; channel = channel; information = letter }; timing = timing; «raw_time» = rawTime; «raw_date» = rawDate; spare = spare }
 
 -- the net reply's record with these parts before time and date
-abbrev pub heads : ℕ → ℕ → ℕ → ℕ → ℕ → ℕ → ℕ → ℕ → ℕ → ℕ → ℕ → StaticReply
-heads program mode status requester number bib group run physical channel letter =
-    tells program mode status requester number bib group run physical channel letter (Net (negsuc 2139032109)) (replicate 10 0) (replicate 8 0) (117 ∷ 118 ∷ [])
+abbrev pub heads : ℕ → ℕ → ℕ → ℕ → ℕ → ℕ → ℕ → ℕ → ℕ → ℕ → ℕ → ℕ → StaticReply
+heads address program mode status requester number bib group run physical channel letter =
+    tells address program mode status requester number bib group run physical channel letter (Net (negsuc 2139032109)) (replicate 10 0) (replicate 8 0) (117 ∷ 118 ∷ [])
 
 -- the same record with these parts from the letter on
 abbrev pub tails : ℕ → Timing → List ℕ → List ℕ → List ℕ → StaticReply
-tails = tells 80 109 69 68 12345 23456 78 209 345 167
+tails = tells 53 80 109 69 68 12345 23456 78 209 345 167
 
 -- raw time and date: the letters a to j, and k to r
 abbrev pub aToJ : List ℕ
@@ -65,10 +65,10 @@ pub record ReplyWorked : Type 0 where
   pub net-written : frameOf reply (tails 50 (Net (negsuc 2139032109)) (replicate 10 0) (replicate 8 0) (117 ∷ 118 ∷ [])) ≡ good
   pub clock-written : frameOf reply (tails 75 (Clock 452967890 28 11 2031) (replicate 10 0) (replicate 8 0) (117 ∷ 118 ∷ [])) ≡ goodClock
   pub raw-written : frameOf reply (tails 81 Raw aToJ kToR (117 ∷ 118 ∷ [])) ≡ goodRaw
-  -- what the check reports of the net reply: status, requester and number
-  pub label : labelled (read reply good) ≡ gives (record { status = 69; requester = 68; number = 12345 })
+  -- what the check reports of the net reply: status, address, requester and number
+  pub label : labelled (read reply good) ≡ gives (record { status = 69; address = 53; requester = 68; number = 12345 })
   -- with a refusal comes a record of zeros
-  pub zeros : orZero (read reply []) ≡ tells 0 0 0 0 0 0 0 0 0 0 0 Raw (0 ∷ 0 ∷ 0 ∷ 0 ∷ 0 ∷ 0 ∷ 0 ∷ 0 ∷ 0 ∷ 0 ∷ []) (0 ∷ 0 ∷ 0 ∷ 0 ∷ 0 ∷ 0 ∷ 0 ∷ 0 ∷ []) (0 ∷ 0 ∷ [])
+  pub zeros : orZero (read reply []) ≡ tells 0 0 0 0 0 0 0 0 0 0 0 0 Raw (0 ∷ 0 ∷ 0 ∷ 0 ∷ 0 ∷ 0 ∷ 0 ∷ 0 ∷ 0 ∷ 0 ∷ []) (0 ∷ 0 ∷ 0 ∷ 0 ∷ 0 ∷ 0 ∷ 0 ∷ 0 ∷ []) (0 ∷ 0 ∷ [])
   -- each byte of the fields damaged in turn
   pub net-offsets : damaged reply good 3 47 ≡ fieldsAt places
   pub clock-offsets : damaged reply goodClock 3 47 ≡ fieldsAt places
@@ -97,20 +97,21 @@ pub record ReplyWorked : Type 0 where
   pub minus-one : Good reply (but 40 "-0000001")
   pub plus-none : Good reply (but 40 "+0000000")
   -- a record with one part out of range
-  pub wrong-program : wrongIn reply (heads 31 109 69 68 12345 23456 78 209 345 167 50) ≡ 3
-  pub wrong-mode : wrongIn reply (heads 80 127 69 68 12345 23456 78 209 345 167 50) ≡ 4
-  pub wrong-status : wrongIn reply (heads 80 109 65 68 12345 23456 78 209 345 167 50) ≡ 5
-  pub wrong-requester : wrongIn reply (heads 80 109 69 64 12345 23456 78 209 345 167 50) ≡ 6
-  pub wrong-number : wrongIn reply (heads 80 109 69 68 100000 23456 78 209 345 167 50) ≡ 7
-  pub wrong-bib : wrongIn reply (heads 80 109 69 68 12345 60000 78 209 345 167 50) ≡ 12
-  pub wrong-group : wrongIn reply (heads 80 109 69 68 12345 23456 200 209 345 167 50) ≡ 17
-  pub wrong-run : wrongIn reply (heads 80 109 69 68 12345 23456 78 0 345 167 50) ≡ 20
-  pub wrong-physical : wrongIn reply (heads 80 109 69 68 12345 23456 78 209 1000 167 50) ≡ 23
-  pub wrong-channel : wrongIn reply (heads 80 109 69 68 12345 23456 78 209 345 241 50) ≡ 26
-  pub wrong-letter : wrongIn reply (heads 80 109 69 68 12345 23456 78 209 345 167 76) ≡ 29
+  pub wrong-address : wrongIn reply (heads 45 80 109 69 68 12345 23456 78 209 345 167 50) ≡ 2
+  pub wrong-program : wrongIn reply (heads 53 31 109 69 68 12345 23456 78 209 345 167 50) ≡ 3
+  pub wrong-mode : wrongIn reply (heads 53 80 127 69 68 12345 23456 78 209 345 167 50) ≡ 4
+  pub wrong-status : wrongIn reply (heads 53 80 109 65 68 12345 23456 78 209 345 167 50) ≡ 5
+  pub wrong-requester : wrongIn reply (heads 53 80 109 69 64 12345 23456 78 209 345 167 50) ≡ 6
+  pub wrong-number : wrongIn reply (heads 53 80 109 69 68 100000 23456 78 209 345 167 50) ≡ 7
+  pub wrong-bib : wrongIn reply (heads 53 80 109 69 68 12345 60000 78 209 345 167 50) ≡ 12
+  pub wrong-group : wrongIn reply (heads 53 80 109 69 68 12345 23456 200 209 345 167 50) ≡ 17
+  pub wrong-run : wrongIn reply (heads 53 80 109 69 68 12345 23456 78 0 345 167 50) ≡ 20
+  pub wrong-physical : wrongIn reply (heads 53 80 109 69 68 12345 23456 78 209 1000 167 50) ≡ 23
+  pub wrong-channel : wrongIn reply (heads 53 80 109 69 68 12345 23456 78 209 345 241 50) ≡ 26
+  pub wrong-letter : wrongIn reply (heads 53 80 109 69 68 12345 23456 78 209 345 167 76) ≡ 29
   -- a timing of another kind than status and letter ask for
-  pub net-for-clock : wrongIn reply (heads 80 109 69 68 12345 23456 78 209 345 167 48) ≡ 30
-  pub net-for-raw : wrongIn reply (heads 80 109 69 68 12345 23456 78 209 345 167 80) ≡ 30
+  pub net-for-clock : wrongIn reply (heads 53 80 109 69 68 12345 23456 78 209 345 167 48) ≡ 30
+  pub net-for-raw : wrongIn reply (heads 53 80 109 69 68 12345 23456 78 209 345 167 80) ≡ 30
   pub raw-for-net : wrongIn reply (tails 50 Raw aToJ kToR (117 ∷ 118 ∷ [])) ≡ 30
   -- a wrong time, date or spare, and raw arrays that are not used but not zero
   pub clock-time : wrongIn reply (tails 75 (Clock 864000000 28 11 2031) (replicate 10 0) (replicate 8 0) (117 ∷ 118 ∷ [])) ≡ 30

@@ -10,7 +10,7 @@ use Rattle.frames.specs.declared.request.StaticRequest.{StaticRequest}
 use Rattle.frames.specs.declared.request.RequestRead.{RequestRead}
 use Rattle.frames.specs.declared.request.RequestRead.the-variants.{Request, Refused}
 use Rattle.frames.specs.Refusals.{readRefused}
-use Rattle.frames.specs.Rules.{upTo, space, isAddress, isRequester, isOutput}
+use Rattle.frames.specs.Rules.{upTo, isAddress, isRequester, isOutput}
 use Rattle.frames.specs.Shape.{byte, number}
 use Rattle.frames.specs.Layout.{Layout, field, end}
 use Rattle.frames.specs.Kind.{Kind, read}
@@ -24,7 +24,7 @@ isRequestChannel v = leb v 240 || eqb v 248 || eqb v 249 || eqb v 251 || eqb v 2
 
 unfoldable pub requestFields : Layout StaticRequest
 requestFields =
-    field 2 byte isAddress (λ _. space) λ _.
+    field 2 byte isAddress (λ r. r .address) λ address.
     field 3 byte isRequester (λ r. r .requester) λ requester.
     field 4 (number 3) (upTo 999) (λ r. r .number) λ n.
     field 7 (number 5) (upTo 59999) (λ r. r .bib) λ bib.
@@ -34,7 +34,7 @@ requestFields =
     field 16 (number 3) (upTo 250) (λ r. r .run) λ run.
     field 19 (number 3) (upTo 199) (λ r. r .group) λ group.
     field 22 byte isOutput (λ r. r .output) λ output.
-    end (record { requester = requester; number = n; bib = bib; information = information; channel = channel; run = run; group = group; output = output })
+    end (record { address = address; requester = requester; number = n; bib = bib; information = information; channel = channel; run = run; group = group; output = output })
 
 abbrev pub request : Kind StaticRequest
 request = record { lead = 17; size = 24; fields = requestFields }

@@ -13,21 +13,21 @@ use Rattle.frames.specs.Cases.{Good, FieldAt, damaged, fieldsAt}
 
 -- a good request in which no two parts are alike
 abbrev pub good : List ℕ
-good = 17 ∷ (codes "R B12345678Q231156089A" ++ (13 ∷ []))
+good = 17 ∷ (codes "R7B12345678Q231156089A" ++ (13 ∷ []))
 
 -- the same frame with this text at a place
 abbrev pub but : ℕ → String → List ℕ
 but at text = sets good at (codes text)
 
 -- a record from its parts
-abbrev pub asks : ℕ → ℕ → ℕ → ℕ → ℕ → ℕ → ℕ → ℕ → StaticRequest
-asks requester number bib information channel run group output =
-    record { requester = requester; number = number; bib = bib; information = information; channel = channel; run = run; group = group; output = output }
+abbrev pub asks : ℕ → ℕ → ℕ → ℕ → ℕ → ℕ → ℕ → ℕ → ℕ → StaticRequest
+asks address requester number bib information channel run group output =
+    record { address = address; requester = requester; number = number; bib = bib; information = information; channel = channel; run = run; group = group; output = output }
 
 pub record RequestWorked : Type 0 where
   -- the frame and its record
-  pub spelled : read request good ≡ gives (asks 66 123 45678 81 231 156 89 65)
-  pub written : frameOf request (asks 66 123 45678 81 231 156 89 65) ≡ good
+  pub spelled : read request good ≡ gives (asks 55 66 123 45678 81 231 156 89 65)
+  pub written : frameOf request (asks 55 66 123 45678 81 231 156 89 65) ≡ good
   -- each byte of the fields damaged in turn: requester, number, bib, information, channel, run, group, output
   pub offsets : damaged request good 3 20 ≡ fieldsAt (3 ∷ 4 ∷ 4 ∷ 4 ∷ 7 ∷ 7 ∷ 7 ∷ 7 ∷ 7 ∷ 12 ∷ 13 ∷ 13 ∷ 13 ∷ 16 ∷ 16 ∷ 16 ∷ 19 ∷ 19 ∷ 19 ∷ 22 ∷ [])
   -- requesters, and the characters just outside their three ranges
@@ -58,11 +58,12 @@ pub record RequestWorked : Type 0 where
   pub output-T : Good request (but 22 "T")
   pub output-C : FieldAt request (but 22 "C") 22
   -- a record with one part out of range
-  pub wrong-requester : wrongIn request (asks 64 123 45678 81 231 156 89 65) ≡ 3
-  pub wrong-number : wrongIn request (asks 66 1000 45678 81 231 156 89 65) ≡ 4
-  pub wrong-bib : wrongIn request (asks 66 123 60000 81 231 156 89 65) ≡ 7
-  pub wrong-information : wrongIn request (asks 66 123 45678 101 231 156 89 65) ≡ 12
-  pub wrong-channel : wrongIn request (asks 66 123 45678 81 241 156 89 65) ≡ 13
-  pub wrong-run : wrongIn request (asks 66 123 45678 81 231 251 89 65) ≡ 16
-  pub wrong-group : wrongIn request (asks 66 123 45678 81 231 156 200 65) ≡ 19
-  pub wrong-output : wrongIn request (asks 66 123 45678 81 231 156 89 67) ≡ 22
+  pub wrong-address : wrongIn request (asks 45 66 123 45678 81 231 156 89 65) ≡ 2
+  pub wrong-requester : wrongIn request (asks 55 64 123 45678 81 231 156 89 65) ≡ 3
+  pub wrong-number : wrongIn request (asks 55 66 1000 45678 81 231 156 89 65) ≡ 4
+  pub wrong-bib : wrongIn request (asks 55 66 123 60000 81 231 156 89 65) ≡ 7
+  pub wrong-information : wrongIn request (asks 55 66 123 45678 101 231 156 89 65) ≡ 12
+  pub wrong-channel : wrongIn request (asks 55 66 123 45678 81 241 156 89 65) ≡ 13
+  pub wrong-run : wrongIn request (asks 55 66 123 45678 81 231 251 89 65) ≡ 16
+  pub wrong-group : wrongIn request (asks 55 66 123 45678 81 231 156 200 65) ≡ 19
+  pub wrong-output : wrongIn request (asks 55 66 123 45678 81 231 156 89 67) ≡ 22

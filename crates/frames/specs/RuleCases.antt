@@ -8,7 +8,7 @@ use lib.Dec.{eqb}
 use Rattle.digits.specs.Text.{codes}
 use Rattle.frames.specs.declared.timing.TimingKind.{TimingKind}
 use Rattle.frames.specs.declared.timing.TimingKind.the-variants.{Clock as clockKind, Net as netKind, Raw as rawKind}
-use Rattle.frames.specs.Rules.{isRequester, isOutput, isRaw}
+use Rattle.frames.specs.Rules.{isAddress, isRequester, isOutput, isRaw}
 use Rattle.frames.specs.Status.{isStatus}
 use Rattle.frames.specs.Request as Q
 use Rattle.frames.specs.Timing.{timingKind, isSign}
@@ -35,6 +35,7 @@ isNetTime netKind = true
 isNetTime rawKind = false
 
 pub record RulesWorked : Type 0 where
+  pub addresses : taken isAddress 256 ≡ codes " 0123456789"
   pub requesters : taken isRequester 256 ≡ codes "0123456789ABCDEFGHIJKLMNOPQRSTUVWXYZabcdefghijklmnopqrstuvwxyz"
   pub outputs : taken isOutput 256 ≡ codes "ABST"
   pub raw-bytes : taken isRaw 256 ≡ drop 32 (below 127)

@@ -21,9 +21,9 @@ isOutput = oneOf (codes "SABT")
 unfoldable pub isRaw : ℕ → Bool
 isRaw = between 32 126
 
--- the address is a space
 abbrev pub space : ℕ
 space = 32
 
-abbrev pub isAddress : ℕ → Bool
-isAddress b = eqb b space
+-- the address of a stopwatch: a space, or 0 to 9
+unfoldable pub isAddress : ℕ → Bool
+isAddress b = eqb b space || between 48 57 b

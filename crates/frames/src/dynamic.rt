@@ -1,5 +1,6 @@
 // The dynamic request: 46 bytes, lead byte DC3.
 use crate::fields::clock_or_none;
+use crate::fields::is_address;
 use crate::fields::is_output;
 use crate::fields::is_requester;
 use crate::fields::number_or_none;
@@ -33,6 +34,8 @@ pub const DYNAMIC_SIZE: usize = 46;
 
 // Where each field begins.
 pub mod field {
+    pub const ADDRESS: usize = crate::head::ADDRESS;
+
     pub const REQUESTER: usize = 3;
 
     pub const ORDER: usize = 4;
@@ -62,9 +65,10 @@ pub mod field {
     pub const END: usize = 45;
 }
 
-// Letters by their code. Sign, time in ticks and days are those of Taux; the sign is kept if time and days are zero.
+// Address and letters by their code. Sign, time in ticks and days are those of Taux; the sign is kept if time and days are zero.
 #[repr(C)]
 pub struct DynamicRequest {
+    pub address: u8,
     pub requester: u8,
     pub order: u8,
     pub bib: u32,
@@ -112,6 +116,7 @@ fn dynamic_at(s: &[u8]) -> DynamicRequest
     ensures { λ r. ⌜ r ≡ dynamicAt (now (s .entry)) ⌝ }
 {
     DynamicRequest {
+        address: byte_at(s, field::ADDRESS),
         requester: byte_at(s, field::REQUESTER),
         order: byte_at(s, field::ORDER),
         bib: number_or_none(s, field::BIB, 5),
@@ -163,7 +168,8 @@ fn dynamic_wrong(r: DynamicRequest) -> u8
     let wrong = wrong_unless(is_dynamic_channel(r.channel), field::CHANNEL, wrong);
     let wrong = wrong_unless(r.bib <= 60_000, field::BIB, wrong);
     let wrong = wrong_unless(is_order(r.order), field::ORDER, wrong);
-    wrong_unless(is_requester(r.requester), field::REQUESTER, wrong)
+    let wrong = wrong_unless(is_requester(r.requester), field::REQUESTER, wrong);
+    wrong_unless(is_address(r.address), field::ADDRESS, wrong)
 }
 
 fn is_order(b: u8) -> bool
@@ -191,7 +197,7 @@ fn least_period(order: u8) -> u32
 fn put_dynamic(r: DynamicRequest, out: &mut [u8])
     ensures { λ _. ⌜ now (out .exit) ≡ sets (now (out .entry)) 0 (frameOf dynamic r) ⌝ }
 {
-    put_head(out, DYNAMIC_LEAD);
+    put_head(out, DYNAMIC_LEAD, r.address);
     put_byte(out, field::REQUESTER, r.requester);
     put_byte(out, field::ORDER, r.order);
     put_number(out, field::BIB, 5, r.bib as u64);

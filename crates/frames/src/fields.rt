@@ -52,6 +52,12 @@ pub fn wrong_unless(ok: bool, at: usize, rest: u8) -> u8
     if ok { rest } else { at as u8 }
 }
 
+pub fn is_address(b: u8) -> bool
+    ensures { λ r. ⌜ r ≡ R.isAddress b ⌝ }
+{
+    (b == 32) | (48 <= b) & (b <= 57)
+}
+
 pub fn is_requester(b: u8) -> bool
     ensures { λ r. ⌜ r ≡ R.isRequester b ⌝ }
 {

@@ -1,4 +1,5 @@
-// The bytes around the fields of every kind: lead byte, R and address before them, CR after them.
+// The bytes that every kind has: lead byte, R and address first, CR last.
+use crate::fields::is_address;
 use crate::refusals::ReadRefusal;
 use crate::refusals::ReadVerdict;
 use digits::byte_at;
@@ -8,12 +9,12 @@ ghost use mathlib.Core.List.{[], _∷_};
 ghost use Prim.Native.Nat.{_<_};
 ghost use lib.Seq.{sets};
 ghost use Rattle.frames.specs.Refusals.{verdictTold};
-ghost use Rattle.frames.specs.Rules.{space};
 ghost use Rattle.frames.specs.Kind.{letterR, headTold};
 
 pub const LETTER: u8 = b'R';
 
-pub const SPACE: u8 = b' ';
+// Where the address is.
+pub const ADDRESS: usize = 2;
 
 pub const CR: u8 = 13;
 
@@ -34,17 +35,17 @@ pub fn head_of(s: &[u8], lead: u8, size: usize) -> ReadVerdict
     if byte_at(s, 1) != LETTER {
         return ReadVerdict::Refused(ReadRefusal::Address);
     }
-    if byte_at(s, 2) != SPACE {
+    if !is_address(byte_at(s, ADDRESS)) {
         return ReadVerdict::Refused(ReadRefusal::Address);
     }
     ReadVerdict::Read
 }
 
 // Stores the lead byte, R and the address.
-pub fn put_head(out: &mut [u8], lead: u8)
-    ensures { λ _. ⌜ now (out .exit) ≡ sets (now (out .entry)) 0 (lead ∷ letterR ∷ space ∷ []) ⌝ }
+pub fn put_head(out: &mut [u8], lead: u8, address: u8)
+    ensures { λ _. ⌜ now (out .exit) ≡ sets (now (out .entry)) 0 (lead ∷ letterR ∷ address ∷ []) ⌝ }
 {
     put_byte(out, 0, lead);
     put_byte(out, 1, LETTER);
-    put_byte(out, 2, SPACE);
+    put_byte(out, ADDRESS, address);
 }

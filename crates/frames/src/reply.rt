@@ -1,4 +1,5 @@
 // The static reply: 51 bytes, lead byte DC2.
+use crate::fields::is_address;
 use crate::fields::is_requester;
 use crate::fields::number_or_none;
 use crate::fields::within;
@@ -39,6 +40,8 @@ pub const REPLY_SIZE: usize = 51;
 
 // Where each field begins.
 pub mod field {
+    pub const ADDRESS: usize = crate::head::ADDRESS;
+
     pub const PROGRAM: usize = 3;
 
     pub const MODE: usize = 4;
@@ -89,9 +92,10 @@ const LETTERS_LOW: u64 = 0x3ff_0000_0000_0000;
 
 const LETTERS_HIGH: u64 = 0xa9_0f82_019f_0f82;
 
-// The parts before time and date. Letters, program and mode are held by their code.
+// The parts before time and date. Address, letters, program and mode are held by their code.
 #[repr(C)]
 pub struct ReplyHead {
+    pub address: u8,
     pub program: u8,
     pub mode: u8,
     pub status: u8,
@@ -120,9 +124,10 @@ pub struct ReplyRead {
     pub reply: StaticReply,
 }
 
-// Where a good reply belongs, and its status. The requester is held by its code, as in a key.
+// Where a good reply belongs, and its status. Address and requester are held by their code, as in a key.
 pub struct ReplyLabel {
     pub status: u8,
+    pub address: u32,
     pub requester: u32,
     pub number: u32,
 }
@@ -199,6 +204,7 @@ fn zero_reply() -> StaticReply
 {
     StaticReply {
         head: ReplyHead {
+            address: 0,
             program: 0,
             mode: 0,
             status: 0,
@@ -234,9 +240,11 @@ fn fields_checked(s: &[u8]) -> ReplyCheck
     let kind = kind_of(h.status, h.information);
     let wrong = head_wrong(h, timing_wrong_at(s, kind));
     if wrong == 0 {
+        let address = h.address as u32;
         let requester = h.requester as u32;
         return ReplyCheck::Good(ReplyLabel {
             status: h.status,
+            address,
             requester,
             number: h.number,
         });
@@ -261,6 +269,7 @@ fn head_at(s: &[u8]) -> ReplyHead
     ensures { λ r. ⌜ r ≡ I.headAt (now (s .entry)) ⌝ }
 {
     ReplyHead {
+        address: byte_at(s, field::ADDRESS),
         program: byte_at(s, field::PROGRAM),
         mode: byte_at(s, field::MODE),
         status: byte_at(s, field::STATUS),
@@ -300,10 +309,11 @@ fn reply_wrong(r: StaticReply) -> u8
     let raw_time = r.raw_time;
     let raw_date = r.raw_date;
     let spare = r.spare;
-    head_wrong(head, timing_wrong(kind, timing, raw_time, raw_date, spare))
+    let wrong = head_wrong(head, timing_wrong(kind, timing, raw_time, raw_date, spare));
+    wrong_unless(is_address(head.address), field::ADDRESS, wrong)
 }
 
-// The offset of the first wrong part before time and date; otherwise what `rest` says.
+// The offset of the first wrong part from the program on and before time and date; otherwise what `rest` says. A frame's address was tested before.
 fn head_wrong(h: ReplyHead, rest: u8) -> u8
     ensures { λ w. ⌜ w ≡ I.headWrong h rest ⌝ }
 {
@@ -361,7 +371,7 @@ fn put_reply(r: StaticReply, out: &mut [u8])
 fn put_reply_head(h: ReplyHead, out: &mut [u8])
     ensures { λ _. ⌜ now (out .exit) ≡ sets (now (out .entry)) 0 (I.headText h) ⌝ }
 {
-    put_head(out, REPLY_LEAD);
+    put_head(out, REPLY_LEAD, h.address);
     put_byte(out, field::PROGRAM, h.program);
     put_byte(out, field::MODE, h.mode);
     put_byte(out, field::STATUS, h.status);

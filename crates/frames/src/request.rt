@@ -1,4 +1,5 @@
 // The static request: 24 bytes, lead byte DC1.
+use crate::fields::is_address;
 use crate::fields::is_output;
 use crate::fields::is_requester;
 use crate::fields::number_or_none;
@@ -30,6 +31,8 @@ pub const REQUEST_SIZE: usize = 24;
 
 // Where each field begins.
 pub mod field {
+    pub const ADDRESS: usize = crate::head::ADDRESS;
+
     pub const REQUESTER: usize = 3;
 
     pub const NUMBER: usize = 4;
@@ -54,9 +57,10 @@ const INFORMATION_LOW: u64 = 0x3ff_0400_0000_0000;
 
 const INFORMATION_HIGH: u64 = 0xbb_1f9e_019f_1f82;
 
-// Letters are held by their code. A number can hold more than its field can show.
+// Address and letters are held by their code. A number can hold more than its field can show.
 #[repr(C)]
 pub struct StaticRequest {
+    pub address: u8,
     pub requester: u8,
     pub number: u32,
     pub bib: u32,
@@ -99,6 +103,7 @@ fn request_at(s: &[u8]) -> StaticRequest
     ensures { λ r. ⌜ r ≡ requestAt (now (s .entry)) ⌝ }
 {
     StaticRequest {
+        address: byte_at(s, field::ADDRESS),
         requester: byte_at(s, field::REQUESTER),
         number: number_or_none(s, field::NUMBER, 3),
         bib: number_or_none(s, field::BIB, 5),
@@ -132,7 +137,8 @@ fn request_wrong(r: StaticRequest) -> u8
     let wrong = wrong_unless(is_information(r.information), field::INFORMATION, wrong);
     let wrong = wrong_unless(r.bib <= 59999, field::BIB, wrong);
     let wrong = wrong_unless(r.number <= 999, field::NUMBER, wrong);
-    wrong_unless(is_requester(r.requester), field::REQUESTER, wrong)
+    let wrong = wrong_unless(is_requester(r.requester), field::REQUESTER, wrong);
+    wrong_unless(is_address(r.address), field::ADDRESS, wrong)
 }
 
 fn is_information(b: u8) -> bool
@@ -150,7 +156,7 @@ fn is_request_channel(v: u32) -> bool
 fn put_request(r: StaticRequest, out: &mut [u8])
     ensures { λ _. ⌜ now (out .exit) ≡ sets (now (out .entry)) 0 (frameOf request r) ⌝ }
 {
-    put_head(out, REQUEST_LEAD);
+    put_head(out, REQUEST_LEAD, r.address);
     put_byte(out, field::REQUESTER, r.requester);
     put_number(out, field::NUMBER, 3, r.number as u64);
     put_number(out, field::BIB, 5, r.bib as u64);

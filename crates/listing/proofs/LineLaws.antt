@@ -15,7 +15,7 @@ use Rattle.text.specs.Lines.{LF, lines}
 use Rattle.text.proofs.LineLaws.{lines-both, decimal-none}
 use Rattle.frames.specs.declared.reply.StaticReply.{StaticReply}
 use Rattle.frames.specs.declared.reply.ReplyLabel.{ReplyLabel}
-use Rattle.frames.specs.Rules.{between, isRaw}
+use Rattle.frames.specs.Rules.{space, between, isRaw}
 use Rattle.frames.specs.Kind.{CR, read}
 use Rattle.frames.specs.Reply.{reply, labelled}
 use Rattle.finder.specs.Pieces.{pieces}
@@ -31,7 +31,7 @@ use Rattle.desk.specs.Memory.{Memory, cellAt, markAt, recordsOf, heldBy}
 use Rattle.desk.proofs.ClauseLaws.{desk-facts}
 use Rattle.desk.proofs.LeavesLaws.{all-desk}
 use Rattle.desk.proofs.HearingLaws.{heard-long}
-use Rattle.listing.specs.Text.{Column, columns, shown, heading, rowText, rowsText, countText, endText}
+use Rattle.listing.specs.Text.{Look, plain, address, addressShown, looks, Column, columns, part, shown, heading, rowText, rowsText, countText, endText}
 use Rattle.listing.specs.Listing.{mostInput, store, seatsText, listText, after, counts, listOf}
 use Rattle.listing.specs.Sizes.{rowsIn, LinesAreRows}
 use Rattle.listing.proofs.StoreLaws.{store-desk}
@@ -59,6 +59,16 @@ every-drop p zero l e = e
 every-drop p (suc n) [] e = refl
 every-drop p (suc n) (x ∷ l) e = every-drop p n l (and-r (p x) (every p l) e)
 
+-- what a column shows has no LF either
+shown-raw : (b : ℕ) → isRaw b ≡ true → isRaw (addressShown b) ≡ true
+unfolding addressShown isRaw between
+shown-raw b e = by-test (eqb b space) (λ q. rw q) (λ q. rw q e)
+
+looks-raw : (k : Look) (l : List ℕ) → every isRaw l ≡ true → every isRaw (looks k l) ≡ true
+looks-raw plain l e = e
+looks-raw address [] e = refl
+looks-raw address (b ∷ l) e = and-true (shown-raw b (and-l (isRaw b) (every isRaw l) e)) (looks-raw address l (and-r (isRaw b) (every isRaw l) e))
+
 -- ---- a row
 
 -- columns between lead byte and CR
@@ -67,20 +77,20 @@ within [] = true
 within (c ∷ cs) = (leb 1 (c .from) && leb 1 (c .to) && leb (c .to) (cellSize - 1)) && within cs
 
 module _ (inner : List ℕ) (long : length inner ≡ cellSize - 2) (raw : every isRaw inner ≡ true) where
-  part-none : (a e : ℕ) → 1 ≤ a → 1 ≤ e → e ≤ cellSize - 1 → lines (slice a e (18 ∷ (inner ++ (CR ∷ [])))) ≡ 0
-  part-none zero e h k l = absurd (omega arith)
-  part-none (suc a) zero h k l = absurd (omega arith)
-  part-none (suc a) (suc e) h k l =
-      rw (take-append-le e inner (CR ∷ []) (omega arith)) (raw-none (drop a (take e inner)) (every-drop isRaw a (take e inner) (every-take isRaw e inner raw)))
+  part-raw : (a e : ℕ) → 1 ≤ a → 1 ≤ e → e ≤ cellSize - 1 → every isRaw (slice a e (18 ∷ (inner ++ (CR ∷ [])))) ≡ true
+  part-raw zero e h k l = absurd (omega arith)
+  part-raw (suc a) zero h k l = absurd (omega arith)
+  part-raw (suc a) (suc e) h k l =
+      rw (take-append-le e inner (CR ∷ []) (omega arith)) (every-drop isRaw a (take e inner) (every-take isRaw e inner raw))
 
   shown-none : (cs : List Column) → within cs ≡ true → lines (shown (18 ∷ (inner ++ (CR ∷ []))) cs) ≡ 0
   shown-none [] w = refl
   shown-none (c ∷ cs) w =
       let t = and-l (leb 1 (c .from) && leb 1 (c .to) && leb (c .to) (cellSize - 1)) (within cs) w in
       let u = and-l (leb 1 (c .from) && leb 1 (c .to)) (leb (c .to) (cellSize - 1)) t in
-      let x = part-none (c .from) (c .to) (leb-true 1 (c .from) (and-l (leb 1 (c .from)) (leb 1 (c .to)) u)) (leb-true 1 (c .to) (and-r (leb 1 (c .from)) (leb 1 (c .to)) u)) (leb-true (c .to) (cellSize - 1) (and-r (leb 1 (c .from) && leb 1 (c .to)) (leb (c .to) (cellSize - 1)) t)) in
+      let x = raw-none (part (18 ∷ (inner ++ (CR ∷ []))) c) (looks-raw (c .look) (slice (c .from) (c .to) (18 ∷ (inner ++ (CR ∷ [])))) (part-raw (c .from) (c .to) (leb-true 1 (c .from) (and-l (leb 1 (c .from)) (leb 1 (c .to)) u)) (leb-true 1 (c .to) (and-r (leb 1 (c .from)) (leb 1 (c .to)) u)) (leb-true (c .to) (cellSize - 1) (and-r (leb 1 (c .from) && leb 1 (c .to)) (leb (c .to) (cellSize - 1)) t)))) in
       let y = shown-none cs (and-r (leb 1 (c .from) && leb 1 (c .to) && leb (c .to) (cellSize - 1)) (within cs) w) in
-      lines-both (slice (c .from) (c .to) (18 ∷ (inner ++ (CR ∷ [])))) (shown (18 ∷ (inner ++ (CR ∷ []))) cs) ∙ omega (arith, x, y)
+      lines-both (part (18 ∷ (inner ++ (CR ∷ []))) c) (shown (18 ∷ (inner ++ (CR ∷ []))) cs) ∙ omega (arith, x, y)
 
 row-one : (s : ℕ) (f : List ℕ) → length f ≡ cellSize → Printable 18 f → lines (rowText s f) ≡ 1
 unfolding rowText columns

@@ -24,10 +24,10 @@ ghost use Rattle.listing.specs.Listing.{Listed};
 ghost use Rattle.listing.specs.inside.Rows.{listLines};
 ghost use Rattle.listing.specs.inside.Steps.{TakenAs, WroteAll};
 
-pub const HEADING_SIZE: usize = 62;
+pub const HEADING_SIZE: usize = 67;
 
 pub const HEADING: [u8; HEADING_SIZE] =
-    *b"seat\tfrom\tnumber\tbib\tgroup\trun\tphys\tlog\tinfo\ttime\tdate\tstatus\n";
+    *b"seat\tfrom\taddr\tnumber\tbib\tgroup\trun\tphys\tlog\tinfo\ttime\tdate\tstatus\n";
 
 // A longer capture is not listed.
 pub const MOST_INPUT: usize = 32768;

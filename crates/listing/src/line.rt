@@ -1,5 +1,6 @@
 // Puts the lines of a list on an output, from a place on.
 use desk::capture::Counts;
+use digits::byte_at;
 use frames::reply::field;
 use text::LF;
 use text::TAB;
@@ -16,13 +17,13 @@ ghost use lib.Seq.{slice};
 ghost use Rattle.text.specs.Put.{Put};
 ghost use Rattle.text.specs.Lines.{TAB};
 ghost use Rattle.desk.specs.Limits.{cellSize};
-ghost use Rattle.listing.specs.Text.{columns, shown, rowText, endText};
+ghost use Rattle.listing.specs.Text.{address, addressShown, looks, columns, shown, rowText, endText};
 
-const COLUMNS: usize = 11;
+const COLUMNS: usize = 12;
 
-// How many bytes a row has after the seat: the columns, each with its tab, and the LF. Together the columns show all bytes from the
-// status to the date, except two digits of the number.
-const AFTER_SEAT: usize = COLUMNS + (field::SPARE - field::STATUS - 2) + 1;
+// How many bytes a row has after the seat: the columns, each with its tab, and the LF. Together the columns show the address and all
+// bytes from the status to the date, except two digits of the number.
+const AFTER_SEAT: usize = COLUMNS + 1 + (field::SPARE - field::STATUS - 2) + 1;
 
 // How many digits the last seat has, and how many a count has at most.
 const SEAT_DIGITS: usize = 2;
@@ -75,6 +76,7 @@ fn put_columns(out: &mut [u8], frame: &[u8]) -> usize
     ensures { λ r. ⌜ Put (now (out .entry)) 0 (shown (now (frame .entry)) columns) r (now (out .exit)) ⌝ }
 {
     let p = put_column(out, 0, frame, field::REQUESTER, field::NUMBER);
+    let p = put_address(out, p, frame);
     let p = put_column(out, p, frame, field::NUMBER + 2, field::BIB);
     let p = put_column(out, p, frame, field::BIB, field::GROUP);
     let p = put_column(out, p, frame, field::GROUP, field::RUN);
@@ -94,4 +96,19 @@ fn put_column(out: &mut [u8], at: usize, frame: &[u8], from: usize, to: usize) -
 {
     let p = put_one(out, at, TAB);
     put_text(out, p, &frame[from..to])
+}
+
+fn put_address(out: &mut [u8], at: usize, frame: &[u8]) -> usize
+    requires { ⌜ length (now frame) ≡ cellSize ⌝ }
+    ensures { λ r. ⌜ Put (now (out .entry)) at (TAB ∷ looks address (slice 2 3 (now (frame .entry)))) r (now (out .exit)) ⌝ }
+{
+    let p = put_one(out, at, TAB);
+    put_one(out, p, address_shown(byte_at(frame, field::ADDRESS)))
+}
+
+// A space is shown as a minus sign.
+fn address_shown(b: u8) -> u8
+    ensures { λ r. ⌜ r ≡ addressShown b ⌝ }
+{
+    if b == b' ' { b'-' } else { b }
 }

@@ -11,7 +11,7 @@ use Rattle.times.specs.Clock.{ticksOf}
 use Rattle.times.specs.Day.{leap, monthLength, realDay}
 use Rattle.times.specs.Net.{isNet}
 use Rattle.times.specs.Running.{inRange, runningTime}
-use Rattle.frames.specs.Rules.{between, upTo, isRaw, isRequester, isOutput}
+use Rattle.frames.specs.Rules.{between, upTo, isAddress, isRaw, isRequester, isOutput}
 use Rattle.frames.specs.Shape.{allFrom}
 use Rattle.frames.specs.Layout.{fieldsOf, recordWrong, write}
 use Rattle.frames.specs.Kind.{headTold, read, wrongIn, writeTried, frameOf}
@@ -55,7 +55,7 @@ unfolding first capacityOf nextHeld
 cells-held = record { first = refl; later = refl; no-more = refl; not-held = refl }
 
 desk-calls : DeskCalls
-unfolding numberAt numberFrom oneOf between upTo isRaw isRequester isOutput allFrom fieldsOf headTold read timingKind timed Q.isInformation Q.isRequestChannel Q.requestFields isStatus P.isLetter P.isReplyChannel P.leastRun P.fromBib P.replyFields allBelow countBelow first sameKey isKey heard ends inPlace keyed seatWith lowestClear capacityOf isZero markNames lastEnds isDesk keyTried requestTried openTried opens seatTried labelTried replyTried replies resets run
+unfolding numberAt numberFrom oneOf between upTo isAddress isRaw isRequester isOutput allFrom fieldsOf headTold read timingKind timed Q.isInformation Q.isRequestChannel Q.requestFields isStatus P.isLetter P.isReplyChannel P.leastRun P.fromBib P.replyFields allBelow countBelow first sameKey isKey heard ends inPlace keyed seatWith lowestClear capacityOf isZero markNames lastEnds isDesk keyTried requestTried openTried opens seatTried labelTried replyTried replies resets run
 desk-calls = record {
   emptied = refl;
   not-emptied = refl;
@@ -72,6 +72,8 @@ desk-calls = record {
   no-seat = refl;
   no-desk-replies = refl;
   reply-field = refl;
+  other-address = refl;
+  stray-by-address = refl;
   stray = refl;
   taken = refl;
   ended = refl;
@@ -90,7 +92,7 @@ unfolding capturedBy
 captured-by m s ps a e h = ap (capturedBy m) e ∙ h
 
 good-reply : (r : StaticReply) × (read reply (replying "E") ≡ gives r)
-unfolding numberAt numberFrom oneOf between upTo isRaw isRequester allFrom fieldsOf headTold read timingKind timed isStatus P.isLetter P.isReplyChannel P.leastRun P.fromBib P.replyFields
+unfolding numberAt numberFrom oneOf between upTo isAddress isRaw isRequester allFrom fieldsOf headTold read timingKind timed isStatus P.isLetter P.isReplyChannel P.leastRun P.fromBib P.replyFields
 good-reply = (_, refl)
 
 no-more : piecesFrom (replying "E") 51 ≡ []
@@ -110,7 +112,7 @@ unfolding oneOf isLead walk piecesFrom
 request-and-leads = refl
 
 captures-taken : CapturesTaken
-unfolding capturedBy numberAt numberFrom oneOf between upTo isRaw isRequester isOutput allFrom fieldsOf headTold read timingKind timed Q.isInformation Q.isRequestChannel Q.requestFields isStatus P.isLetter P.isReplyChannel P.leastRun P.fromBib P.replyFields D.isOrder D.isDynamicChannel D.leastPeriod D.dynamicFields ticksOf allBelow countBelow first sameKey isKey heard ends inPlace keyed seatWith lowestClear capacityOf isZero markNames lastEnds isDesk keyTried requestTried openTried opens seatTried labelTried replyTried replies meets fates afterAll howMany
+unfolding capturedBy numberAt numberFrom oneOf between upTo isAddress isRaw isRequester isOutput allFrom fieldsOf headTold read timingKind timed Q.isInformation Q.isRequestChannel Q.requestFields isStatus P.isLetter P.isReplyChannel P.leastRun P.fromBib P.replyFields D.isOrder D.isDynamicChannel D.leastPeriod D.dynamicFields ticksOf allBelow countBelow first sameKey isKey heard ends inPlace keyed seatWith lowestClear capacityOf isZero markNames lastEnds isDesk keyTried requestTried openTried opens seatTried labelTried replyTried replies meets fates afterAll howMany
 captures-taken = record {
   asked-and-cut = captured-by bare _ _ _ request-and-leads refl;
   replied = captured-by asked _ _ _ one-reply refl;
@@ -119,11 +121,11 @@ captures-taken = record {
 }
 
 frames-read : FramesRead
-unfolding numberAt numberFrom oneOf ticksOf leap monthLength realDay isNet between upTo isRaw isRequester isOutput allFrom fieldsOf headTold read timingKind isSign timed Q.isInformation Q.isRequestChannel Q.requestFields isStatus P.isLetter P.isReplyChannel P.leastRun P.fromBib P.replyFields D.isOrder D.isDynamicChannel D.leastPeriod D.dynamicFields
+unfolding numberAt numberFrom oneOf ticksOf leap monthLength realDay isNet between upTo isAddress isRaw isRequester isOutput allFrom fieldsOf headTold read timingKind isSign timed Q.isInformation Q.isRequestChannel Q.requestFields isStatus P.isLetter P.isReplyChannel P.leastRun P.fromBib P.replyFields D.isOrder D.isDynamicChannel D.leastPeriod D.dynamicFields
 frames-read = record { request-read = refl; request-refused = refl; reply-read = refl; reply-refused = refl; dynamic-read = refl; dynamic-refused = refl }
 
 frames-written : FramesWritten
-unfolding oneOf leap monthLength realDay between upTo isRaw isRequester isOutput allFrom recordWrong wrongIn writeTried timingKind timed Q.isInformation Q.isRequestChannel Q.requestFields isStatus P.isLetter P.isReplyChannel P.leastRun P.fromBib P.replyFields timingOf leftOver wrongInC frameOf write digits
+unfolding oneOf leap monthLength realDay between upTo isAddress isRaw isRequester isOutput allFrom recordWrong wrongIn writeTried timingKind timed Q.isInformation Q.isRequestChannel Q.requestFields isStatus P.isLetter P.isReplyChannel P.leastRun P.fromBib P.replyFields timingOf leftOver wrongInC frameOf write digits
 frames-written = record {
   bytes = λ _ _ w. w .bytes;
   no-bytes = λ _ _ w. w .bytes;
@@ -136,7 +138,7 @@ frames-written = record {
 }
 
 timing-numbered : TimingNumbered
-unfolding oneOf leap monthLength realDay isNet between upTo isRaw isRequester allFrom recordWrong wrongIn timingKind isSign timed isStatus P.isLetter P.isReplyChannel P.leastRun P.fromBib P.replyFields timingOf leftOver wrongInC
+unfolding oneOf leap monthLength realDay isNet between upTo isAddress isRaw isRequester allFrom recordWrong wrongIn timingKind isSign timed isStatus P.isLetter P.isReplyChannel P.leastRun P.fromBib P.replyFields timingOf leftOver wrongInC
 timing-numbered = record {
   raw = refl;
   clock = refl;

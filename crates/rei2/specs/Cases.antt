@@ -17,7 +17,7 @@ use Rattle.desk.specs.Memory.{Memory, memory}
 use Rattle.desk.specs.Calls.{resets, opens, replies, nextHeld}
 use Rattle.desk.specs.Capture.{captures}
 use Rattle.desk.specs.Mix.{run, openings}
-use Rattle.desk.specs.Cases.{asking, replying, bare, asked, sixteen}
+use Rattle.desk.specs.Cases.{askingAt, asking, replyFrom, replying, bare, asked, sixteen}
 use Rattle.listing.specs.Listing.{listed}
 use Rattle.rei2.specs.declared.lent.DeskAnswer.{DeskAnswer}
 use Rattle.rei2.specs.declared.request.WrittenAnswer.{WrittenAnswer}
@@ -68,13 +68,16 @@ pub record DeskCalls : Type 0 where
   pub kind : answerOf (opens asked []) ≡ answering 1 0 1 0 0
   pub length : answerOf (opens asked (17 ∷ [])) ≡ answering 1 0 2 0 0
   pub end : answerOf (opens asked (17 ∷ (codes "R 200700000P000002000S" ++ (10 ∷ [])))) ≡ answering 1 0 3 0 0
-  pub address : answerOf (opens asked (17 ∷ (codes "R1200700000P000002000S" ++ (13 ∷ [])))) ≡ answering 1 0 4 0 0
+  pub address : answerOf (opens asked (17 ∷ (codes "R-200700000P000002000S" ++ (13 ∷ [])))) ≡ answering 1 0 4 0 0
   pub field : answerOf (opens asked (asking "[" "P")) ≡ answering 1 0 5 3 0
   pub no-answer-due : answerOf (opens asked (asking "2" "q")) ≡ answering 1 0 10 0 0
   pub in-use : answerOf (opens asked (asking "1" "P")) ≡ answering 1 0 11 0 0
   pub no-seat : answerOf (opens (run bare (openings sixteen)) (asking "B" "P")) ≡ answering 65535 0 12 0 0
   pub no-desk-replies : answerOf (replies noDesk (replying "R")) ≡ answering 5 7 9 0 0
   pub reply-field : answerOf (replies asked (replying "Q")) ≡ answering 1 0 5 5 0
+  -- the same requester and number at another address: another seat, and another key
+  pub other-address : answerOf (opens asked (askingAt "3" "1" "P")) ≡ answering 3 0 0 0 1
+  pub stray-by-address : answerOf (replies asked (replyFrom "3" "R" "1" "00007" "00015")) ≡ answering 1 0 13 0 0
   pub stray : answerOf (replies bare (replying "R")) ≡ answering 0 0 13 0 0
   pub taken : answerOf (replies asked (replying "R")) ≡ answering 1 1 0 0 0
   pub ended : answerOf (replies (replies asked (replying "E") .after) (replying "R")) ≡ answering 1 1 14 0 0
@@ -97,12 +100,12 @@ pub record CapturesTaken : Type 0 where
 -- the record of a reply as in the cases of frames, with this bib, letter and timing, and no raw bytes
 abbrev pub told : ℕ → ℕ → TimingNumbers → ReplyRecord
 told bib letter timing =
-    record { head = record { program = 83; mode = 79; status = 69; requester = 65; number = 12; bib = bib; group = 0; run = 1; physical = 15; channel = 255; information = letter }; timing = timing; «raw_time» = replicate 10 0; «raw_date» = replicate 8 0; spare = 32 ∷ 32 ∷ [] }
+    record { head = record { address = 32; program = 83; mode = 79; status = 69; requester = 65; number = 12; bib = bib; group = 0; run = 1; physical = 15; channel = 255; information = letter }; timing = timing; «raw_time» = replicate 10 0; «raw_date» = replicate 8 0; spare = 32 ∷ 32 ∷ [] }
 
 -- the same with bib 41 and letter P, and with raw bytes
 abbrev pub shownRaw : TimingNumbers → ReplyRecord
 shownRaw timing =
-    record { head = record { program = 83; mode = 79; status = 69; requester = 65; number = 12; bib = 41; group = 0; run = 1; physical = 15; channel = 255; information = 80 }; timing = timing; «raw_time» = replicate 10 32; «raw_date» = replicate 8 33; spare = 32 ∷ 32 ∷ [] }
+    record { head = record { address = 32; program = 83; mode = 79; status = 69; requester = 65; number = 12; bib = 41; group = 0; run = 1; physical = 15; channel = 255; information = 80 }; timing = timing; «raw_time» = replicate 10 32; «raw_date» = replicate 8 33; spare = 32 ∷ 32 ∷ [] }
 
 -- a clock timing with this net value beside it
 abbrev pub clocked : ℕ → TimingNumbers
@@ -110,17 +113,17 @@ clocked net = record { kind = 1; ticks = 725400; day = 29; month = 2; year = 202
 
 pub record FramesRead : Type 0 where
   pub request-read : requestAnswer (read request (F.asking "A" "1" "255" "250"))
-      ≡ record { refusal = 0; offset = 0; request = record { requester = 65; number = 12; bib = 41; information = 49; channel = 255; run = 250; group = 0; output = 83 } }
+      ≡ record { refusal = 0; offset = 0; request = record { address = 32; requester = 65; number = 12; bib = 41; information = 49; channel = 255; run = 250; group = 0; output = 83 } }
   pub request-refused : requestAnswer (read request (F.asking "A" "1" "255" "251"))
-      ≡ record { refusal = 5; offset = 16; request = record { requester = 0; number = 0; bib = 0; information = 0; channel = 0; run = 0; group = 0; output = 0 } }
+      ≡ record { refusal = 5; offset = 16; request = record { address = 0; requester = 0; number = 0; bib = 0; information = 0; channel = 0; run = 0; group = 0; output = 0 } }
   pub reply-read : replyAnswer (read reply (F.replying "00041" "255" "0" "0001125400" "29022024"))
       ≡ record { refusal = 0; offset = 0; reply = told 41 48 (record { kind = 1; ticks = 725400; day = 29; month = 2; year = 2024; net = pos 0 }) }
   pub reply-refused : replyAnswer (read reply (F.replying "60000" "255" "0" "0001125400" "29022024"))
-      ≡ record { refusal = 5; offset = 12; reply = record { head = record { program = 0; mode = 0; status = 0; requester = 0; number = 0; bib = 0; group = 0; run = 0; physical = 0; channel = 0; information = 0 }; timing = record { kind = 0; ticks = 0; day = 0; month = 0; year = 0; net = pos 0 }; «raw_time» = 0 ∷ 0 ∷ 0 ∷ 0 ∷ 0 ∷ 0 ∷ 0 ∷ 0 ∷ 0 ∷ 0 ∷ []; «raw_date» = 0 ∷ 0 ∷ 0 ∷ 0 ∷ 0 ∷ 0 ∷ 0 ∷ 0 ∷ []; spare = 0 ∷ 0 ∷ [] } }
+      ≡ record { refusal = 5; offset = 12; reply = record { head = record { address = 0; program = 0; mode = 0; status = 0; requester = 0; number = 0; bib = 0; group = 0; run = 0; physical = 0; channel = 0; information = 0 }; timing = record { kind = 0; ticks = 0; day = 0; month = 0; year = 0; net = pos 0 }; «raw_time» = 0 ∷ 0 ∷ 0 ∷ 0 ∷ 0 ∷ 0 ∷ 0 ∷ 0 ∷ 0 ∷ 0 ∷ []; «raw_date» = 0 ∷ 0 ∷ 0 ∷ 0 ∷ 0 ∷ 0 ∷ 0 ∷ 0 ∷ []; spare = 0 ∷ 0 ∷ [] } }
   pub dynamic-read : dynamicAnswer (read dynamic (F.running "A" "00041" "00001"))
-      ≡ record { refusal = 0; offset = 0; request = record { requester = 49; order = 65; bib = 41; channel = 0; run = 1; «stop_bib» = 60000; «stop_channel» = 255; «stop_run» = 0; sign = 0; time = 0; days = 0; period = 1; output = 83 } }
+      ≡ record { refusal = 0; offset = 0; request = record { address = 32; requester = 49; order = 65; bib = 41; channel = 0; run = 1; «stop_bib» = 60000; «stop_channel» = 255; «stop_run» = 0; sign = 0; time = 0; days = 0; period = 1; output = 83 } }
   pub dynamic-refused : dynamicAnswer (read dynamic (F.running "A" "00041" "00000"))
-      ≡ record { refusal = 5; offset = 39; request = record { requester = 0; order = 0; bib = 0; channel = 0; run = 0; «stop_bib» = 0; «stop_channel» = 0; «stop_run» = 0; sign = 0; time = 0; days = 0; period = 0; output = 0 } }
+      ≡ record { refusal = 5; offset = 39; request = record { address = 0; requester = 0; order = 0; bib = 0; channel = 0; run = 0; «stop_bib» = 0; «stop_channel» = 0; «stop_run» = 0; sign = 0; time = 0; days = 0; period = 0; output = 0 } }
 
 -- ---- frames written
 
@@ -169,7 +172,7 @@ pub record TimingNumbered : Type 0 where
 pub record OtherCalls : Type 0 where
   pub running : runningAnswer (runningTime (record { bib = 1; tnow = 20; tev = 5; sign = 0; days = 0; time = 18 })) ≡ record { refusal = 0; ticks = negsuc 2 }
   pub not-running : runningAnswer (runningTime (record { bib = 1; tnow = 20; tev = 5; sign = 2; days = 0; time = 18 })) ≡ record { refusal = 8; ticks = pos 0 }
-  pub list : listAnswer (listed [] [] [] (replicate 100 0)) ≡ record { refusal = 0; size = 74 }
+  pub list : listAnswer (listed [] [] [] (replicate 100 0)) ≡ record { refusal = 0; size = 79 }
   pub no-room : listAnswer (listed [] [] [] []) ≡ record { refusal = 7; size = 0 }
 
 -- ---- a refusal's name on an output: STRAY with a byte to spare, with exactly its room, and with one byte too few
@@ -184,7 +187,7 @@ pub record NamesWritten : Type 0 where
 -- ---- what a host must lend
 
 pub record Lends : Type 0 where
-  pub limits-are : limits ≡ record { seats = 16; cells = 13056; marks = 256; «cell_size» = 51; «most_input» = 32768; «longest_list» = 14170 }
+  pub limits-are : limits ≡ record { seats = 16; cells = 13056; marks = 256; «cell_size» = 51; «most_input» = 32768; «longest_list» = 14687 }
 
 pub record Worked : Type 0 where
   pub frames-found : FramesFound

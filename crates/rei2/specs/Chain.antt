@@ -58,4 +58,4 @@ SortsLentCalls =
     → (m : Memory) → Chain (memory (answer .desk) seats₂ cells₁ marks₁) (openings after) rs₂ m
     -- the replies
     → (es : List Event) (rs : List DeskAnswer) (m′ : Memory) → Chain m es rs m′ → Stretch es → repliesTo m es ≤ capacityOf (length cells) (length marks)
-    → SortedLent m m′ es rs (answer .seat) (record { requester = r .requester; number = r .number })
+    → SortedLent m m′ es rs (answer .seat) (record { address = r .address; requester = r .requester; number = r .number })

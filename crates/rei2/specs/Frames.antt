@@ -16,14 +16,14 @@ use Rattle.rei2.specs.Numbers.{numberIn, offsetIn, valueIn}
 -- ---- reading
 
 abbrev pub zeroRequest : StaticRequest
-zeroRequest = record { requester = 0; number = 0; bib = 0; information = 0; channel = 0; run = 0; group = 0; output = 0 }
+zeroRequest = record { address = 0; requester = 0; number = 0; bib = 0; information = 0; channel = 0; run = 0; group = 0; output = 0 }
 
 abbrev pub requestAnswer : Told StaticRequest → RequestAnswer
 requestAnswer t = record { refusal = numberIn t; offset = offsetIn t; request = valueIn zeroRequest t }
 
 abbrev pub zeroDynamic : DynamicRequest
 zeroDynamic =
-    record { requester = 0; order = 0; bib = 0; channel = 0; run = 0; «stop_bib» = 0; «stop_channel» = 0; «stop_run» = 0; sign = 0; time = 0; days = 0; period = 0; output = 0 }
+    record { address = 0; requester = 0; order = 0; bib = 0; channel = 0; run = 0; «stop_bib» = 0; «stop_channel» = 0; «stop_run» = 0; sign = 0; time = 0; days = 0; period = 0; output = 0 }
 
 abbrev pub dynamicAnswer : Told DynamicRequest → DynamicAnswer
 dynamicAnswer t = record { refusal = numberIn t; offset = offsetIn t; request = valueIn zeroDynamic t }

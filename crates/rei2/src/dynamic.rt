@@ -30,6 +30,7 @@ pub extern "C" fn rei2_read_dynamic(frame: &[u8]) -> DynamicAnswer
             refusal: 0,
             offset: 0,
             request: DynamicRequest {
+                address: r.address,
                 requester: r.requester,
                 order: r.order,
                 bib: r.bib,
@@ -68,6 +69,7 @@ fn no_dynamic() -> DynamicRequest
     ensures { λ r. ⌜ r ≡ zeroDynamic ⌝ }
 {
     DynamicRequest {
+        address: 0,
         requester: 0,
         order: 0,
         bib: 0,

@@ -119,6 +119,7 @@ fn no_reply() -> ReplyRecord
 {
     ReplyRecord {
         head: ReplyHead {
+            address: 0,
             program: 0,
             mode: 0,
             status: 0,

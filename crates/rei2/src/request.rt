@@ -39,6 +39,7 @@ pub extern "C" fn rei2_read_request(frame: &[u8]) -> RequestAnswer
             refusal: 0,
             offset: 0,
             request: StaticRequest {
+                address: r.address,
                 requester: r.requester,
                 number: r.number,
                 bib: r.bib,
@@ -92,6 +93,7 @@ fn no_request() -> StaticRequest
     ensures { λ r. ⌜ r ≡ zeroRequest ⌝ }
 {
     StaticRequest {
+        address: 0,
         requester: 0,
         number: 0,
         bib: 0,

@@ -93,6 +93,7 @@ fn print_seat(i: usize, before: Seat, seat: Seat) {
     }
     print::text(b" seat ");
     print::decimal(i as u64);
+    print::also(seat.address);
     print::also(seat.requester);
     print::also(seat.number);
     print::also(seat.held);
@@ -100,7 +101,8 @@ fn print_seat(i: usize, before: Seat, seat: Seat) {
 }
 
 fn same_seat(a: Seat, b: Seat) -> bool {
-    (a.requester == b.requester)
+    (a.address == b.address)
+        & (a.requester == b.requester)
         & (a.number == b.number)
         & (a.held == b.held)
         & (a.ended == b.ended)

@@ -35,7 +35,8 @@ pub fn take_row(digest: u64, row: [Seat; SEATS]) -> u64 {
 }
 
 fn take_seat(digest: u64, seat: Seat) -> u64 {
-    let key = take_small(take_small(digest, seat.requester), seat.number);
+    let asked = take_small(take_small(digest, seat.address), seat.requester);
+    let key = take_small(asked, seat.number);
     take_small(take_small(key, seat.held), seat.ended)
 }
 

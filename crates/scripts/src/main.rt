@@ -35,7 +35,11 @@ fn answer_line(script: Script, s: &[u8], cells: &mut [u8], marks: &mut [u32]) ->
         return script::lending(s, cells, marks);
     }
     if line::asks(s, b"mixes") {
-        mixes::playing(s);
+        mixes::playing(s, mixes::by_requester());
+        return script::lend(mixes::MIX_BYTES, mixes::MIX_MARKS, cells, marks);
+    }
+    if line::asks(s, b"mixes-by-address") {
+        mixes::playing(s, mixes::by_address());
         return script::lend(mixes::MIX_BYTES, mixes::MIX_MARKS, cells, marks);
     }
     answer_within(script, s, cells, marks)

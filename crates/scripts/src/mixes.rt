@@ -24,10 +24,34 @@ pub const MIX_MARKS: usize = 8;
 
 const REQUEST_A: [u8; 24] = *b"\x11R 100700000P000000000S\r";
 
-const REQUEST_B: [u8; 24] = *b"\x11R A00700000P000000000S\r";
-
-// A reply to request A. Its status is at 5, its requester at 6, its bib at 12.
+// A reply to request A. Its status is at 5, its bib at 12.
 const REPLY: [u8; 51] = *b"\x12R SOR10000700040000002000000P000000000000000000  \r";
+
+// The one byte in which B's frames and the strays differ from A's: where a request and where a reply has it, and its values.
+pub struct Apart {
+    asked_at: usize,
+    told_at: usize,
+    of_b: u8,
+    of_stray: u8,
+}
+
+pub fn by_requester() -> Apart {
+    Apart {
+        asked_at: 3,
+        told_at: 6,
+        of_b: b'A',
+        of_stray: b'a',
+    }
+}
+
+pub fn by_address() -> Apart {
+    Apart {
+        asked_at: 2,
+        told_at: 2,
+        of_b: b'0',
+        of_stray: b'1',
+    }
+}
 
 // How many mixes were played, and the digest of all of them.
 struct Played {
@@ -44,9 +68,9 @@ struct Mix {
     sum: u64,
 }
 
-pub fn playing(s: &[u8]) {
+pub fn playing(s: &[u8], apart: Apart) {
     let b = letters(s, 2);
-    let p = play_all(s, b, letters(s, 1) + b);
+    let p = play_all(s, apart, b, letters(s, 1) + b);
     print::pair(p.mixes, p.sum);
     print::end_line();
 }
@@ -84,7 +108,7 @@ fn letter(s: &[u8], k: usize, i: usize) -> u8 {
 
 // Plays every mix of n letters of which b are B's. A mix is a number with a bit for each letter.
 // With at most eight letters it is below 256.
-fn play_all(s: &[u8], b: usize, n: usize) -> Played
+fn play_all(s: &[u8], apart: Apart, b: usize, n: usize) -> Played
     requires { ⌜ n ≤ 8 ⌝ }
 {
     let mut p = Played {
@@ -93,19 +117,19 @@ fn play_all(s: &[u8], b: usize, n: usize) -> Played
     };
     let mut m: u32 = 0;
     while m < 256 {
-        p = play_if(p, s, b, n, m);
+        p = play_if(p, s, apart, b, n, m);
         m += 1;
     }
     p
 }
 
-fn play_if(p: Played, s: &[u8], b: usize, n: usize, m: u32) -> Played
+fn play_if(p: Played, s: &[u8], apart: Apart, b: usize, n: usize, m: u32) -> Played
     requires { ⌜ n ≤ 8 ⌝ }
 {
     if is_mix(m, b, n) {
         return Played {
             mixes: p.mixes % 256 + 1,
-            sum: play(s, n, m, p.sum),
+            sum: play(s, apart, n, m, p.sum),
         };
     }
     p
@@ -122,22 +146,22 @@ fn ones(m: u32) -> u32 {
     u32::count_ones(m)
 }
 
-fn play(s: &[u8], n: usize, m: u32, sum: u64) -> u64
+fn play(s: &[u8], apart: Apart, n: usize, m: u32, sum: u64) -> u64
     requires { ⌜ n ≤ 8 ⌝ }
 {
     let mut cells = [FRESH_BYTE; MIX_BYTES];
     let mut marks = [FRESH_MARK; MIX_MARKS];
-    let mut x = both_opened(sum, &cells, &marks);
+    let mut x = both_opened(apart, sum, &cells, &marks);
     let mut i: usize = 0;
     while i < n {
-        let next = play_reply(x, s, (m >> i) % 2 == 1, &mut cells, &mut marks);
+        let next = play_reply(x, s, apart, (m >> i) % 2 == 1, &mut cells, &mut marks);
         x = next;
         i += 1;
     }
     take_mix(x, &cells, &marks)
 }
 
-fn both_opened(sum: u64, cells: &[u8], marks: &[u32]) -> Mix {
+fn both_opened(apart: Apart, sum: u64, cells: &[u8], marks: &[u32]) -> Mix {
     let empty = reset();
     let desk = empty.desk;
     let row = empty.row;
@@ -149,7 +173,9 @@ fn both_opened(sum: u64, cells: &[u8], marks: &[u32]) -> Mix {
         sum,
     };
     let y = opened(x, &REQUEST_A, cells, marks);
-    opened(y, &REQUEST_B, cells, marks)
+    let mut request_b = REQUEST_A;
+    put_byte(&mut request_b, apart.asked_at, apart.of_b);
+    opened(y, &request_b, cells, marks)
 }
 
 fn opened(x: Mix, frame: &[u8], cells: &[u8], marks: &[u32]) -> Mix {
@@ -168,15 +194,23 @@ fn opened(x: Mix, frame: &[u8], cells: &[u8], marks: &[u32]) -> Mix {
 }
 
 // Plays the next reply to A, or to B.
-fn play_reply(x: Mix, s: &[u8], of_b: bool, cells: &mut [u8], marks: &mut [u32]) -> Mix {
+fn play_reply(
+    x: Mix,
+    s: &[u8],
+    apart: Apart,
+    of_b: bool,
+    cells: &mut [u8],
+    marks: &mut [u32],
+) -> Mix {
     let a = x.a % 8;
     let b = x.b % 8;
     if of_b {
-        let frame = reply_with(letter(s, 2, b), 65, (30 - b) as u64);
-        return play_three(counted(x, a, b + 1), frame, cells, marks);
+        let mut frame = reply_with(letter(s, 2, b), (30 - b) as u64);
+        put_byte(&mut frame, apart.told_at, apart.of_b);
+        return play_three(counted(x, a, b + 1), apart, frame, cells, marks);
     }
-    let frame = reply_with(letter(s, 1, a), 49, (40 - a) as u64);
-    play_three(counted(x, a + 1, b), frame, cells, marks)
+    let frame = reply_with(letter(s, 1, a), (40 - a) as u64);
+    play_three(counted(x, a + 1, b), apart, frame, cells, marks)
 }
 
 fn counted(x: Mix, a: usize, b: usize) -> Mix {
@@ -191,18 +225,17 @@ fn counted(x: Mix, a: usize, b: usize) -> Mix {
     }
 }
 
-fn reply_with(status: u8, requester: u8, bib: u64) -> [u8; 51] {
+fn reply_with(status: u8, bib: u64) -> [u8; 51] {
     let mut frame = REPLY;
     put_byte(&mut frame, 5, status);
-    put_byte(&mut frame, 6, requester);
     put_number(&mut frame, 12, 5, bib);
     frame
 }
 
 // Plays a stray, a damaged frame, and the reply itself.
-fn play_three(x: Mix, frame: [u8; 51], cells: &mut [u8], marks: &mut [u32]) -> Mix {
+fn play_three(x: Mix, apart: Apart, frame: [u8; 51], cells: &mut [u8], marks: &mut [u32]) -> Mix {
     let mut stray = frame;
-    put_byte(&mut stray, 6, 97);
+    put_byte(&mut stray, apart.told_at, apart.of_stray);
     let mut damaged = frame;
     put_byte(&mut damaged, 50, 0);
     let y = replied(x, &stray, cells, marks);

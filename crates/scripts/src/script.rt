@@ -23,6 +23,7 @@ pub struct Script {
 // All zero, except for how much is lent.
 pub fn empty(cell_bytes: usize, mark_count: usize) -> Script {
     let zero = Seat {
+        address: 0,
         requester: 0,
         number: 0,
         held: 0,
@@ -85,10 +86,11 @@ pub fn setting_count(script: Script, s: &[u8]) -> Script {
 pub fn setting_seat(script: Script, s: &[u8]) -> Script {
     print::text(b"set\n");
     let seat = Seat {
-        requester: line::small(s, 2),
-        number: line::small(s, 3),
-        held: line::small(s, 4),
-        ended: line::small(s, 5),
+        address: line::small(s, 2),
+        requester: line::small(s, 3),
+        number: line::small(s, 4),
+        held: line::small(s, 5),
+        ended: line::small(s, 6),
     };
     let row = script.row;
     with(

@@ -17,34 +17,44 @@ const NO_LETTERS: &str = "-";
 const LENT_BYTES: usize = 408;
 const LENT_MARKS: usize = 8;
 
-/// A byte that is not the CR a frame ends with, and a requester that neither request has.
+/// A byte that is not the CR a frame ends with.
 const NO_CR: u8 = 0x00;
-const STRAY_REQUESTER: u8 = b'a';
 
 /// One of the two requests and the replies to it.
 struct Side {
-    request: &'static [u8],
+    address: u8,
     requester: u8,
     /// The bib of its first reply. Each further reply has a bib that is lower by one.
     bib: usize,
 }
 
+/// The first word's side, and the second word's in `mixes` and in `mixes-by-address`.
 const A: Side = Side {
-    request: b"\x11R 100700000P000000000S\r",
+    address: b' ',
     requester: b'1',
     bib: 40,
 };
 const B: Side = Side {
-    request: b"\x11R A00700000P000000000S\r",
     requester: b'A',
     bib: 30,
+    ..A
+};
+const B_BY_ADDRESS: Side = Side {
+    address: b'0',
+    bib: 30,
+    ..A
 };
 
 impl Side {
+    fn request(&self) -> Vec<u8> {
+        let mut frame = vec![0x11, b'R', self.address, self.requester];
+        frame.extend(b"00700000P000000000S\r");
+        frame
+    }
+
     /// Reply `number` of this side, counted from 0, with the word's letter as its status.
     fn reply(&self, number: usize, letter: u8) -> Vec<u8> {
-        let mut frame = b"\x12R SO".to_vec();
-        frame.extend([letter, self.requester]);
+        let mut frame = vec![0x12, b'R', self.address, b'S', b'O', letter, self.requester];
         frame.extend(format!("00007{:05}", self.bib - number).bytes());
         frame.extend(b"000002000000P000000000000000000  \r");
         frame
@@ -56,6 +66,73 @@ impl Side {
         letters
             .map(|(number, &letter)| self.reply(number, letter))
             .collect()
+    }
+}
+
+/// The two answers that are mixed.
+pub struct Pair {
+    first: Side,
+    second: Side,
+    /// A place of a reply, and a byte that neither side has there. With it the reply is a stray.
+    stray: (usize, u8),
+}
+
+/// Two answers that differ in the requester, and two that differ in the address alone.
+pub const BY_REQUESTER: Pair = Pair {
+    first: A,
+    second: B,
+    stray: (reply::at::REQUESTER, b'a'),
+};
+pub const BY_ADDRESS: Pair = Pair {
+    first: A,
+    second: B_BY_ADDRESS,
+    stray: (reply::at::ADDRESS, b'1'),
+};
+
+impl Pair {
+    /// How many mixes there are, and the digest of all of them.
+    pub fn play(&self, first: &[u8], second: &[u8]) -> (usize, u64) {
+        let mut digest = Digest::default();
+        let mut played = 0;
+        for mix in self.mixes(first, second) {
+            self.play_one(&mix, &mut digest);
+            played += 1;
+        }
+        (played, digest.0)
+    }
+
+    /// Every order in which the replies of both words can come, such that the order within each
+    /// word is kept.
+    fn mixes(&self, first: &[u8], second: &[u8]) -> impl Iterator<Item = Vec<Vec<u8>>> {
+        let (first, second) = (self.first.replies(first), self.second.replies(second));
+        let second_letters = second.len();
+        let numbers = 0_u32..1 << (first.len() + second.len());
+        numbers
+            .filter(move |number| number.count_ones() as usize == second_letters)
+            .map(move |number| deal(&first, &second, number))
+    }
+
+    fn play_one(&self, replies: &[Vec<u8>], digest: &mut Digest) {
+        let mut desk = lend();
+        for side in [&self.first, &self.second] {
+            digest.take_call(desk.open(&side.request()));
+        }
+        for reply in replies {
+            for frame in self.heard(reply) {
+                digest.take_call(desk.reply(&frame));
+            }
+        }
+        digest.take_desk(&desk);
+    }
+
+    /// The three frames that come for a reply: a stray, a damaged one, and the reply itself.
+    fn heard(&self, reply: &[u8]) -> [Vec<u8>; 3] {
+        let (place, code) = self.stray;
+        [
+            with_byte(reply, place, code),
+            with_byte(reply, reply::at::CR, NO_CR),
+            reply.to_vec(),
+        ]
     }
 }
 
@@ -78,28 +155,6 @@ pub fn lend() -> Desk {
     script::lend(LENT_BYTES, LENT_MARKS)
 }
 
-/// How many mixes there are, and the digest of all of them.
-pub fn play(first: &[u8], second: &[u8]) -> (usize, u64) {
-    let mut digest = Digest::default();
-    let mut played = 0;
-    for mix in mixes(first, second) {
-        play_one(&mix, &mut digest);
-        played += 1;
-    }
-    (played, digest.0)
-}
-
-/// Every order in which the replies of both words can come, such that the order within each word is
-/// kept.
-fn mixes(first: &[u8], second: &[u8]) -> impl Iterator<Item = Vec<Vec<u8>>> {
-    let (first, second) = (A.replies(first), B.replies(second));
-    let second_letters = second.len();
-    let numbers = 0_u32..1 << (first.len() + second.len());
-    numbers
-        .filter(move |number| number.count_ones() as usize == second_letters)
-        .map(move |number| deal(&first, &second, number))
-}
-
 /// The mix with this number. Reply i is the second word's if bit i is set, otherwise the first
 /// word's.
 fn deal(first: &[Vec<u8>], second: &[Vec<u8>], number: u32) -> Vec<Vec<u8>> {
@@ -115,27 +170,6 @@ fn deal(first: &[Vec<u8>], second: &[Vec<u8>], number: u32) -> Vec<Vec<u8>> {
         replies.extend(side.next().cloned());
     }
     replies
-}
-
-fn play_one(replies: &[Vec<u8>], digest: &mut Digest) {
-    let mut desk = lend();
-    for side in [A, B] {
-        digest.take_call(desk.open(side.request));
-    }
-    for reply in replies {
-        for frame in [stray(reply), damaged(reply), reply.clone()] {
-            digest.take_call(desk.reply(&frame));
-        }
-    }
-    digest.take_desk(&desk);
-}
-
-fn stray(reply: &[u8]) -> Vec<u8> {
-    with_byte(reply, reply::at::REQUESTER, STRAY_REQUESTER)
-}
-
-fn damaged(reply: &[u8]) -> Vec<u8> {
-    with_byte(reply, reply::at::CR, NO_CR)
 }
 
 fn with_byte(frame: &[u8], place: usize, code: u8) -> Vec<u8> {
@@ -177,12 +211,13 @@ impl Digest {
         self.take(desk.count.into());
         for seat in &desk.seats {
             let Seat {
+                address,
                 requester,
                 number,
                 held,
                 ended,
             } = *seat;
-            for number in [requester, number, held, ended] {
+            for number in [address, requester, number, held, ended] {
                 self.take(number.into());
             }
         }
@@ -212,43 +247,77 @@ mod tests {
     }
 
     #[test]
+    fn requests_as_they_are_told() {
+        assert_eq!(A.request(), b"\x11R 100700000P000000000S\r");
+        assert_eq!(B.request(), b"\x11R A00700000P000000000S\r");
+        assert_eq!(B_BY_ADDRESS.request(), b"\x11R0100700000P000000000S\r");
+    }
+
+    #[test]
     fn replies_as_they_are_told() {
-        let reply = A.reply(0, b'R');
         assert_eq!(
-            reply,
+            A.reply(0, b'R'),
             b"\x12R SOR10000700040000002000000P000000000000000000  \r"
         );
         assert_eq!(
             B.reply(3, b'Z'),
             b"\x12R SOZA0000700027000002000000P000000000000000000  \r"
         );
-        assert!(Reply::read(&reply).is_ok());
-        assert!(Reply::read(&stray(&reply)).is_ok_and(|stray| stray.requester == b'a'));
-        assert_eq!(Reply::read(&damaged(&reply)), Err(Refusal::End));
+        assert_eq!(
+            B_BY_ADDRESS.reply(1, b'E'),
+            b"\x12R0SOE10000700029000002000000P000000000000000000  \r"
+        );
     }
 
-    /// The requester of each reply of each mix.
-    fn sides(first: &[u8], second: &[u8]) -> Vec<String> {
-        let requesters = |mix: Vec<Vec<u8>>| mix.iter().map(|reply| char::from(reply[6])).collect();
-        mixes(first, second).map(requesters).collect()
+    #[test]
+    fn a_stray_and_a_damaged_frame_come_before_a_reply() {
+        let reply = B_BY_ADDRESS.reply(0, b'R');
+        let expected = Reply::read(&reply).expect("a reply");
+        let [stray, damaged, last] = BY_ADDRESS.heard(&reply);
+        let address = b'1';
+        let stray_record = Reply {
+            address,
+            ..expected.clone()
+        };
+        assert_eq!(Reply::read(&stray), Ok(stray_record));
+        assert_eq!(Reply::read(&damaged), Err(Refusal::End));
+        assert_eq!(last, reply);
+        let [stray, ..] = BY_REQUESTER.heard(&reply);
+        let requester = b'a';
+        let stray_record = Reply {
+            requester,
+            ..expected
+        };
+        assert_eq!(Reply::read(&stray), Ok(stray_record));
+    }
+
+    /// The byte at this place of each reply of each mix.
+    fn sides(pair: &Pair, place: usize, first: &[u8], second: &[u8]) -> Vec<String> {
+        let codes = |mix: Vec<Vec<u8>>| mix.iter().map(|reply| char::from(reply[place])).collect();
+        pair.mixes(first, second).map(codes).collect()
     }
 
     #[test]
     fn mixes_by_rising_number() {
-        assert_eq!(sides(b"", b""), [""]);
-        assert_eq!(sides(b"RE", b""), ["11"]);
-        assert_eq!(sides(b"", b"RE"), ["AA"]);
-        assert_eq!(sides(b"RE", b"Z"), ["A11", "1A1", "11A"]);
-        assert_eq!(mixes(b"RRRR", b"RRRR").count(), 70);
+        let requesters = |first, second| sides(&BY_REQUESTER, 6, first, second);
+        assert_eq!(requesters(b"", b""), [""]);
+        assert_eq!(requesters(b"RE", b""), ["11"]);
+        assert_eq!(requesters(b"", b"RE"), ["AA"]);
+        assert_eq!(requesters(b"RE", b"Z"), ["A11", "1A1", "11A"]);
+        let addresses = sides(&BY_ADDRESS, 2, b"RE", b"Z");
+        assert_eq!(addresses, ["0  ", " 0 ", "  0"]);
+        assert_eq!(BY_REQUESTER.mixes(b"RRRR", b"RRRR").count(), 70);
     }
 
     #[test]
     fn a_mix_keeps_the_order_of_each_word() {
-        let (first, second) = (A.replies(b"RRE"), B.replies(b"ZR"));
-        for mix in mixes(b"RRE", b"ZR") {
-            let (ones, others): (Vec<_>, Vec<_>) =
-                mix.into_iter().partition(|reply| reply[6] == b'1');
-            assert_eq!((ones, others), (first.clone(), second.clone()));
+        for (pair, place) in [(BY_REQUESTER, 6), (BY_ADDRESS, 2)] {
+            let (first, second) = (pair.first.replies(b"RRE"), pair.second.replies(b"ZR"));
+            for mix in pair.mixes(b"RRE", b"ZR") {
+                let is_first = |reply: &Vec<u8>| reply[place] == first[0][place];
+                let (ones, others): (Vec<_>, Vec<_>) = mix.into_iter().partition(is_first);
+                assert_eq!((&ones, &others), (&first, &second));
+            }
         }
     }
 
@@ -275,42 +344,54 @@ mod tests {
 
     #[test]
     fn two_words_without_letters() {
-        let mut numbers = vec![0, 0, 0, 0, 0, 1, 3, 0];
-        numbers.extend([49, 7, 0, 0, 65, 7, 0, 0]);
-        numbers.extend([0; 56]);
-        numbers.extend([0xee; 408]);
-        numbers.extend([0xeeee_eeee; 8]);
-        assert_eq!(play(b"", b""), (1, digest_of(&numbers)));
+        for (pair, second) in [(BY_REQUESTER, [32, 65, 7]), (BY_ADDRESS, [48, 49, 7])] {
+            let mut numbers = vec![0, 0, 0, 0, 0, 1, 3, 0];
+            numbers.extend([32, 49, 7, 0, 0]);
+            numbers.extend(second);
+            numbers.extend([0; 2 + 5 * 14]);
+            numbers.extend([0xee; 408]);
+            numbers.extend([0xeeee_eeee; 8]);
+            assert_eq!(pair.play(b"", b""), (1, digest_of(&numbers)));
+        }
     }
 
     #[test]
     fn a_word_of_one_letter() {
-        let mut numbers = vec![0, 0, 0, 0, 0, 1];
-        // The stray, the damaged one, and the reply itself.
-        numbers.extend([13, 0, 0, 3, 0, 0, 0, 0, 1]);
-        numbers.extend([3, 1, 49, 7, 0, 0, 65, 7, 1, 1]);
-        numbers.extend([0; 56]);
-        let cell = b"\x12R SOEA0000700030000002000000P000000000000000000  \r";
-        numbers.extend(cell.map(u64::from));
-        numbers.extend([0xee; 357]);
-        numbers.push(1);
-        numbers.extend([0xeeee_eeee; 7]);
-        assert_eq!(play(b"", b"E"), (1, digest_of(&numbers)));
+        let by_requester = b"\x12R SOEA0000700030000002000000P000000000000000000  \r";
+        let by_address = b"\x12R0SOE10000700030000002000000P000000000000000000  \r";
+        for (pair, second, cell) in [
+            (BY_REQUESTER, [32, 65, 7], by_requester),
+            (BY_ADDRESS, [48, 49, 7], by_address),
+        ] {
+            let mut numbers = vec![0, 0, 0, 0, 0, 1];
+            // The stray, the damaged one, and the reply itself.
+            numbers.extend([13, 0, 0, 3, 0, 0, 0, 0, 1]);
+            numbers.extend([3, 1, 32, 49, 7, 0, 0]);
+            numbers.extend(second);
+            numbers.extend([1, 1]);
+            numbers.extend([0; 5 * 14]);
+            numbers.extend(cell.map(u64::from));
+            numbers.extend([0xee; 357]);
+            numbers.push(1);
+            numbers.extend([0xeeee_eeee; 7]);
+            assert_eq!(pair.play(b"", b"E"), (1, digest_of(&numbers)));
+        }
     }
 
     /// The outcome of each of a seat's replies, and the records that the seat holds at the end.
     type Service = (Vec<Result<usize, Refusal>>, Vec<Vec<u8>>);
 
     /// Opens both requests and then takes these frames. Returns how each side was served.
-    fn served(frames: &[Vec<u8>]) -> [Service; 2] {
+    fn served(pair: &Pair, frames: &[Vec<u8>]) -> [Service; 2] {
         let mut desk = lend();
-        for side in [A, B] {
-            assert!(desk.open(side.request).is_ok());
+        for side in [&pair.first, &pair.second] {
+            assert!(desk.open(&side.request()).is_ok());
         }
         let outcomes: Vec<_> = frames.iter().map(|frame| desk.reply(frame)).collect();
-        [(A, 0), (B, 1)].map(|(side, seat)| {
+        [(&pair.first, 0), (&pair.second, 1)].map(|(side, seat)| {
+            let key = (side.address, side.requester);
             let own = frames.iter().zip(&outcomes);
-            let own = own.filter(|(frame, _)| frame[6] == side.requester && frame[50] == b'\r');
+            let own = own.filter(|(frame, _)| (frame[2], frame[6]) == key && frame[50] == b'\r');
             let cells =
                 (0..desk.marks.len()).filter(|&cell| desk.next_held(seat, cell) == Some(cell));
             (
@@ -326,24 +407,28 @@ mod tests {
     #[test]
     fn a_mix_serves_each_request_as_its_replies_alone() {
         let words: [&[u8]; 8] = [b"", b"RE", b"RRR", b"RRE", b"Z", b"RZE", b"ZR", b"ERZ"];
-        for first in words {
-            for second in words {
-                let [alone, _] = served(&A.replies(first));
-                let [_, other_alone] = served(&B.replies(second));
-                for mix in mixes(first, second) {
-                    let disturbed: Vec<Vec<u8>> = mix
-                        .iter()
-                        .flat_map(|reply| [stray(reply), damaged(reply), reply.clone()])
-                        .collect();
-                    assert_eq!(served(&disturbed), [alone.clone(), other_alone.clone()]);
+        for pair in [BY_REQUESTER, BY_ADDRESS] {
+            for first in words {
+                for second in words {
+                    check_served_as_alone(&pair, first, second);
                 }
             }
         }
     }
 
+    fn check_served_as_alone(pair: &Pair, first: &[u8], second: &[u8]) {
+        let [alone, _] = served(pair, &pair.first.replies(first));
+        let [_, other_alone] = served(pair, &pair.second.replies(second));
+        let expected = [alone, other_alone];
+        for mix in pair.mixes(first, second) {
+            let disturbed: Vec<Vec<u8>> = mix.iter().flat_map(|reply| pair.heard(reply)).collect();
+            assert_eq!(served(pair, &disturbed), expected);
+        }
+    }
+
     #[test]
     fn replies_alone() {
-        let [(outcomes, records), _] = served(&A.replies(b"RZRE"));
+        let [(outcomes, records), _] = served(&BY_REQUESTER, &A.replies(b"RZRE"));
         let taken = [Ok(0), Err(Refusal::OutOfPlace), Ok(0), Ok(0)];
         assert_eq!(outcomes, taken);
         assert_eq!(

@@ -1,6 +1,7 @@
 //! The answers of scripts. Their lines work on one desk that lasts from line to line.
 
-use super::{mixes, refusal_text, DONE};
+use super::mixes::{self, Pair, BY_ADDRESS, BY_REQUESTER};
+use super::{refusal_text, DONE};
 use crate::desk::{Desk, SEATS};
 use crate::refusal::Refusal;
 use crate::script::{self, seat_text, Change, MOST_LENT_BYTES, MOST_LENT_MARKS};
@@ -23,7 +24,8 @@ pub fn answer(desk: &mut Desk, words: &[&str]) -> Option<Result<String, NotACase
         })),
         ["used"] => Ok(desk.seats_in_use().to_string()),
         ["held", seat, place] => held(desk, seat, place),
-        ["mixes", first, second] => play_mixes(desk, first, second),
+        ["mixes", first, second] => play_mixes(desk, &BY_REQUESTER, first, second),
+        ["mixes-by-address", first, second] => play_mixes(desk, &BY_ADDRESS, first, second),
         _ => Change::parse(words)?.and_then(|change| set(desk, &change)),
     })
 }
@@ -48,8 +50,9 @@ fn held(desk: &Desk, seat: &str, place: &str) -> Result<String, NotACase> {
     Ok(cell.map_or_else(|| NONE.to_string(), |cell| cell.to_string()))
 }
 
-fn play_mixes(desk: &mut Desk, first: &str, second: &str) -> Result<String, NotACase> {
-    let (played, digest) = mixes::play(&mixes::parse_word(first)?, &mixes::parse_word(second)?);
+fn play_mixes(desk: &mut Desk, pair: &Pair, first: &str, second: &str) -> Result<String, NotACase> {
+    let (first, second) = (mixes::parse_word(first)?, mixes::parse_word(second)?);
+    let (played, digest) = pair.play(&first, &second);
     *desk = mixes::lend();
     Ok(format!("{played} {digest}"))
 }
@@ -117,11 +120,11 @@ mod tests {
             ("held 0 0", "none"),
             ("reset", "0 0 0 0 0"),
             ("open -", "1 0 0 0 0"),
-            (OPEN, "0 0 0 1 0 seat 0 49 7 0 0"),
+            (OPEN, "0 0 0 1 0 seat 0 32 49 7 0 0"),
             (OPEN, "11 0 0 1 0"),
             (REPLY, "16 0 0 1 0"),
             ("used", "1"),
-            ("reset", "0 0 0 0 0 seat 0 0 0 0 0"),
+            ("reset", "0 0 0 0 0 seat 0 0 0 0 0 0"),
             (REPLY, "13 0 0 0 0"),
         ]);
     }
@@ -129,11 +132,11 @@ mod tests {
     #[test]
     fn a_taken_reply_shows_what_differs() {
         let frame = REPLY.strip_prefix("reply ").expect("a reply");
-        let taken = format!("0 0 0 1 1 seat 0 49 7 1 0 cells 0 {frame} marks 0 0");
-        let again = format!("0 0 0 1 2 seat 0 49 7 2 0 cells 51 {frame} marks 1 0");
+        let taken = format!("0 0 0 1 1 seat 0 32 49 7 1 0 cells 0 {frame} marks 0 0");
+        let again = format!("0 0 0 1 2 seat 0 32 49 7 2 0 cells 51 {frame} marks 1 0");
         check(&[
             ("lend 103 2", "2"),
-            (OPEN, "0 0 0 1 0 seat 0 49 7 0 0"),
+            (OPEN, "0 0 0 1 0 seat 0 32 49 7 0 0"),
             (REPLY, &taken),
             (REPLY, &again),
             (REPLY, "16 0 0 1 2"),
@@ -141,14 +144,17 @@ mod tests {
             ("held 0 1", "1"),
             ("held 0 2", "none"),
             ("held 1 0", "none"),
-            ("reset", "0 0 0 0 0 seat 0 0 0 0 0"),
-            (OPEN, "0 0 0 1 0 seat 0 49 7 0 0"),
+            ("reset", "0 0 0 0 0 seat 0 0 0 0 0 0"),
+            (OPEN, "0 0 0 1 0 seat 0 32 49 7 0 0"),
             // The cell and its mark hold these bytes already.
-            (REPLY, "0 0 0 1 1 seat 0 49 7 1 0"),
+            (REPLY, "0 0 0 1 1 seat 0 32 49 7 1 0"),
             ("cell 102 ff", "set"),
             ("cell 54 0102", "set"),
             ("mark 1 9", "set"),
-            (REPLY, "0 0 0 1 2 seat 0 49 7 2 0 cells 54 534f marks 1 0"),
+            (
+                REPLY,
+                "0 0 0 1 2 seat 0 32 49 7 2 0 cells 54 534f marks 1 0",
+            ),
         ]);
     }
 
@@ -161,25 +167,28 @@ mod tests {
             ("used", "63"),
             (OPEN, "9 0 0 9223372036854775807 0"),
             ("bits 2", "set"),
-            ("seat 1 48 5 0 0", "set"),
-            (OPEN, "0 0 0 3 0 seat 0 49 7 0 0"),
+            ("seat 1 53 48 5 0 0", "set"),
+            (OPEN, "0 0 0 3 0 seat 0 32 49 7 0 0"),
             ("count 1", "set"),
             ("open 13", "9 0 0 3 1"),
-            ("reset", "0 0 0 0 0 seat 0 0 0 0 0 seat 1 0 0 0 0"),
+            ("reset", "0 0 0 0 0 seat 0 0 0 0 0 0 seat 1 0 0 0 0 0"),
         ]);
     }
 
     #[test]
     fn mixes_leave_an_empty_desk() {
-        let (played, digest) = mixes::play(b"R", b"ZE");
-        check(&[
-            (OPEN, "0 0 0 1 0 seat 0 49 7 0 0"),
-            ("mixes R ZE", &format!("{played} {digest}")),
-            ("used", "0"),
-            ("mark 7 1", "set"),
-            ("cell 407 00", "set"),
-        ]);
-        assert_eq!(played, 3);
+        for (word, pair) in [("mixes", BY_REQUESTER), ("mixes-by-address", BY_ADDRESS)] {
+            let (played, digest) = pair.play(b"R", b"ZE");
+            check(&[
+                (OPEN, "0 0 0 1 0 seat 0 32 49 7 0 0"),
+                (&format!("{word} R ZE"), &format!("{played} {digest}")),
+                ("used", "0"),
+                ("mark 7 1", "set"),
+                ("cell 407 00", "set"),
+            ]);
+            assert_eq!(played, 3);
+        }
+        assert_ne!(BY_REQUESTER.play(b"R", b"ZE"), BY_ADDRESS.play(b"R", b"ZE"));
     }
 
     #[test]
@@ -196,7 +205,8 @@ mod tests {
             "lend 15401 0",
             "lend 0 311",
             "bits 9223372036854775808",
-            "seat 16 0 0 0 0",
+            "seat 16 0 0 0 0 0",
+            "seat 0 0 0 0 0",
             "mark 0 0",
             "cell 0 00",
             "open 1",
@@ -204,13 +214,23 @@ mod tests {
             "held 0 -1",
             "mixes R RRRRR",
             "mixes r R",
+            "mixes-by-address R RRRRR",
+            "mixes-by-address r R",
         ] {
             let words: Vec<&str> = line.split(' ').collect();
             let answer = answer(&mut Desk::default(), &words);
             assert!(answer.expect("a line of a script").is_err(), "{line}");
         }
         for line in [
-            "lend 0", "open", "reset 0", "used 1", "held 0", "mixes R", "find -",
+            "lend 0",
+            "open",
+            "reset 0",
+            "used 1",
+            "held 0",
+            "mixes R",
+            "mixes-by-address R",
+            "mixes-by-requester R R",
+            "find -",
         ] {
             let words: Vec<&str> = line.split(' ').collect();
             assert_eq!(answer(&mut Desk::default(), &words), None, "{line}");

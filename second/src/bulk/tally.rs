@@ -105,7 +105,7 @@ mod tests {
         let request = "11522031303037303030303050303030303032303030530d";
         let tally = tally(&format!(
             "read-request -\nread-request {request}\nread-reply {request}\n\
-             write-request 0 49 7 0 80 0 2 0 83\nlend 0 0\nopen {request}\nopen {request}\n\
+             write-request 0 32 49 7 0 80 0 2 0 83\nlend 0 0\nopen {request}\nopen {request}\n\
              used\nreset\n"
         ));
         assert_eq!((tally.frames[0], tally.frames[1]), (1, 2));
@@ -119,10 +119,10 @@ mod tests {
         let request = "11522031303037303030303050303030303032303030530d";
         let tally = tally(&format!("damage-request {request}\n"));
         assert_eq!(tally.frames.iter().sum::<u64>(), 256 * 24);
-        // One value of the lead byte is good, and 255 are not.
+        // One value of the lead byte is good, and 255 are not. Eleven addresses are good.
         assert_eq!(tally.frames[1], 255);
         assert_eq!(tally.frames[2], 0);
-        assert_eq!((tally.frames[3], tally.frames[4]), (255, 2 * 255));
+        assert_eq!((tally.frames[3], tally.frames[4]), (255, 255 + 245));
     }
 
     #[test]

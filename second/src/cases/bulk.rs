@@ -22,7 +22,7 @@ struct Maker {
     /// How the words of its cases end.
     word: &'static str,
     numbers: &'static [Number],
-    /// The offsets of the fields that are one letter each.
+    /// The offsets of the address and of the fields that are one letter each.
     letters: &'static [usize],
     /// A good frame.
     good: fn(&mut Random) -> Vec<u8>,
@@ -39,6 +39,7 @@ const REQUEST: Maker = Maker {
     word: "request",
     numbers: &request::NUMBERS,
     letters: &[
+        crate::request::at::ADDRESS,
         crate::request::at::REQUESTER,
         crate::request::at::INFORMATION,
         crate::request::at::OUTPUT,
@@ -53,6 +54,7 @@ const REPLY: Maker = Maker {
     word: "reply",
     numbers: &reply::NUMBERS,
     letters: &[
+        crate::reply::at::ADDRESS,
         crate::reply::at::PROGRAM,
         crate::reply::at::MODE,
         crate::reply::at::STATUS,
@@ -69,6 +71,7 @@ const DYNAMIC: Maker = Maker {
     word: "dynamic",
     numbers: &dynamic::NUMBERS,
     letters: &[
+        crate::dynamic::at::ADDRESS,
         crate::dynamic::at::REQUESTER,
         crate::dynamic::at::ORDER,
         crate::dynamic::at::OUTPUT,
@@ -114,7 +117,7 @@ mod tests {
         assert_eq!(frames_asked("damage-request 1152"), 512);
         assert_eq!(frames_asked("damage-reply -"), 0);
         assert_eq!(frames_asked("read-reply-value -"), 1);
-        assert_eq!(frames_asked("write-request 0 1 2 3 4 5 6 7 8"), 0);
+        assert_eq!(frames_asked("write-request 0 1 2 3 4 5 6 7 8 9"), 0);
         assert_eq!(frames_asked("used"), 0);
     }
 

@@ -1,5 +1,6 @@
 //! The captures that are listed. First come those that every seed has, then the random ones.
 
+mod addresses;
 pub mod bulk;
 mod counts;
 mod cuts;
@@ -36,6 +37,7 @@ fn of_every_seed() -> Vec<Capture> {
         cuts::captures(),
         noise::captures(),
         seats::captures(),
+        addresses::captures(),
         counts::captures(),
         full::captures(),
         sizes::captures(),
@@ -43,14 +45,19 @@ fn of_every_seed() -> Vec<Capture> {
     .concat()
 }
 
-/// The keys of two requests that many of the captures use. They have nothing in common.
-const ONE: Key = (b'1', 7);
-const OTHER: Key = (b'A', 12);
+/// The keys of two requests that many of the captures use. They have only the address in common.
+const ONE: Key = (b' ', b'1', 7);
+const OTHER: Key = (b' ', b'A', 12);
 
-/// A row of keys, all different. Groups of four share a number, and every fourth key has the same
-/// requester.
+/// A row of keys, all different. The keys of each group of three differ in the address alone. Four
+/// groups share a number, and every fourth group has the same requester.
 fn key(place: usize) -> Key {
-    (b"1Aaz"[place % 4], 7 * (place / 4) as u32)
+    let group = place / 3;
+    (
+        b" 03"[place % 3],
+        b"1Aaz"[group % 4],
+        7 * (group / 4) as u32,
+    )
 }
 
 fn keys(count: usize) -> Vec<Key> {

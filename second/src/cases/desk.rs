@@ -1,6 +1,7 @@
 //! Scripts of a desk. The first of them begins before anything is lent. Each of the others begins
-//! with `lend`, or with `mixes`, which lends too.
+//! with `lend`, or with `mixes` or `mixes-by-address`, which lend too.
 
+mod addresses;
 pub mod bulk;
 mod clauses;
 pub mod frames;
@@ -19,6 +20,7 @@ pub fn add_all(cases: &mut Cases, seed: u64) {
     memory::add_nothing_lent(cases);
     openings::add_all(cases);
     replies::add_all(cases);
+    addresses::add_all(cases);
     clauses::add_all(cases);
     memory::add_all(cases);
     looks::add_all(cases);

@@ -1,9 +1,11 @@
 //! Cases of the dynamic request: `read-dynamic`, `damage-dynamic` and `write-dynamic`.
 
 use super::frames::{
-    any_number, at_lengths, befall_at_random, faults_of, neighbours_and_tails, number_of_faults,
-    put, time_text, with_blank_numbers, with_faults, with_number_edges, with_surround_faults,
-    Number, WrongField, LARGEST, NOT_PRINTABLE, OUTPUTS, REQUESTERS, REQUESTER_EDGES, TIMES,
+    any_number, at_lengths, befall_at_random, faults_around, faults_of, neighbours_and_tails,
+    number_of_faults, put, random_address, time_text, to_damage_by_address, with_address_edges,
+    with_addresses_and_faults, with_blank_numbers, with_faults, with_number_edges,
+    with_surround_faults, Number, WrongField, ADDRESS_EDGES, LARGEST, NOT_PRINTABLE, OUTPUTS,
+    REQUESTERS, REQUESTER_EDGES, TIMES,
 };
 use super::{replaced, Cases};
 use crate::dynamic::{at, Dynamic, ORDERS};
@@ -18,10 +20,10 @@ const LENGTH: usize = Dynamic::LENGTH;
 /// Two requests that differ in every field. The order of the first requires a period. The sign of
 /// the second is minus.
 pub const PLUS: &[u8; LENGTH] = b"\x13R 1A000150010020004125500301234567898200100S\r";
-pub const MINUS: &[u8; LENGTH] = b"\x13R zt600002402506000025000012359599999999999T\r";
+pub const MINUS: &[u8; LENGTH] = b"\x13R9zt600002402506000025000012359599999999999T\r";
 
 /// Minus zero: no days, no time, and a minus sign.
-pub const MINUS_ZERO: &[u8; LENGTH] = b"\x13R Ma000000000000000100000010000000000000000B\r";
+pub const MINUS_ZERO: &[u8; LENGTH] = b"\x13R0Ma000000000000000100000010000000000000000B\r";
 
 /// No room, one byte too little, just enough, and more.
 const ROOMS: [usize; 4] = [0, LENGTH - 1, LENGTH, 60];
@@ -61,13 +63,15 @@ pub const WRONG_FIELDS: [WrongField; 13] = [
 
 pub fn add_all(cases: &mut Cases, seed: u64) {
     for frame in [PLUS, MINUS] {
-        cases.add(format!("damage-dynamic {}", bytes_text(frame)));
+        add_damage(cases, frame);
     }
     add_surroundings(cases);
+    add_addresses(cases);
     add_fields(cases);
     add_periods(cases);
     add_random_frames(cases, &mut Random::new(seed, "read-dynamic"));
     add_writes(cases);
+    add_addresses_to_write(cases);
     add_letters_to_write(cases);
     add_numbers_to_write(cases);
     add_several_wrong_to_write(cases);
@@ -76,6 +80,10 @@ pub fn add_all(cases: &mut Cases, seed: u64) {
 
 fn add_read(cases: &mut Cases, frame: &[u8]) {
     cases.add(format!("read-dynamic {}", bytes_text(frame)));
+}
+
+fn add_damage(cases: &mut Cases, frame: &[u8]) {
+    cases.add(format!("damage-dynamic {}", bytes_text(frame)));
 }
 
 fn add_reads(cases: &mut Cases, frames: &[Vec<u8>]) {
@@ -95,6 +103,16 @@ fn add_surroundings(cases: &mut Cases) {
     let faults = faults_of::<Dynamic>(b"\x11", &WRONG_FIELDS);
     for faults in neighbours_and_tails(&faults) {
         add_read(cases, &with_faults(PLUS, faults));
+    }
+}
+
+fn add_addresses(cases: &mut Cases) {
+    add_reads(cases, &with_address_edges(PLUS));
+    let around = faults_around::<Dynamic>(b"\x12");
+    let faulty = with_addresses_and_faults(PLUS, WRONG_FIELDS[0], &around);
+    add_reads(cases, &faulty);
+    for frame in to_damage_by_address(PLUS, &WRONG_FIELDS) {
+        add_damage(cases, &frame);
     }
 }
 
@@ -152,6 +170,7 @@ pub fn random_frame(random: &mut Random) -> Vec<u8> {
 pub fn random_record(random: &mut Random) -> Dynamic {
     let order = random.pick(ORDERS);
     Dynamic {
+        address: random_address(random),
         requester: random.pick(REQUESTERS),
         order,
         bib: random.below(60_001),
@@ -180,8 +199,8 @@ fn random_channel(random: &mut Random) -> u64 {
 
 /// The frame of a good record. It is built here, without the writer that is compared.
 pub fn frame_of(record: &Dynamic) -> Vec<u8> {
-    let mut frame = b"\x13R ".to_vec();
-    frame.extend([record.requester, record.order]);
+    let mut frame = b"\x13R".to_vec();
+    frame.extend([record.address, record.requester, record.order]);
     let start = format!("{:05}{:03}{:03}", record.bib, record.channel, record.run);
     let stop = format!(
         "{:05}{:03}{:03}",
@@ -215,12 +234,31 @@ fn add_writes(cases: &mut Cases) {
     }
 }
 
-/// Every letter in a record of short numbers, which keeps the file short.
-fn add_letters_to_write(cases: &mut Cases) {
-    let base = Dynamic {
+/// A record of short numbers, which keeps the file short.
+fn short_record() -> Dynamic {
+    Dynamic {
         time: 0,
         ..record_of(PLUS)
-    };
+    }
+}
+
+/// Every byte as the address, with enough room. The bytes at the edges come again with a wrong part
+/// behind them, and with one byte too little.
+fn add_addresses_to_write(cases: &mut Cases) {
+    let base = short_record();
+    for address in 0..=u8::MAX {
+        add_write(cases, LENGTH, &Dynamic { address, ..base });
+    }
+    for address in ADDRESS_EDGES {
+        let requester = b'[';
+        let spoiled = Dynamic { requester, ..base };
+        add_write(cases, LENGTH, &Dynamic { address, ..spoiled });
+        add_write(cases, LENGTH - 1, &Dynamic { address, ..base });
+    }
+}
+
+fn add_letters_to_write(cases: &mut Cases) {
+    let base = short_record();
     for requester in REQUESTER_EDGES.into_iter().chain(NOT_PRINTABLE) {
         add_write(cases, LENGTH, &Dynamic { requester, ..base });
     }
@@ -285,7 +323,8 @@ fn set_number(record: &mut Dynamic, offset: usize, value: u64) {
 type Spoil = (usize, fn(&mut Dynamic));
 
 /// By rising offset.
-const SPOILS: [Spoil; 13] = [
+const SPOILS: [Spoil; 14] = [
+    (at::ADDRESS, |record| record.address = b'-'),
     (at::REQUESTER, |record| record.requester = b'['),
     (at::ORDER, |record| record.order = b'c'),
     (at::BIB, |record| record.bib = 60_001),
@@ -334,12 +373,13 @@ pub fn random_write(random: &mut Random) -> String {
 }
 
 fn spoil_at_random(record: &mut Dynamic, random: &mut Random) {
-    match random.below(8) {
-        0 => record.requester = random.byte(),
-        1 => record.order = random.pick(ORDERS),
-        2 => record.output = random.byte(),
-        3 => record.time = any_number(random).into(),
-        4 => record.period = 0,
+    match random.below(9) {
+        0 => record.address = random.pick(&ADDRESS_EDGES),
+        1 => record.requester = random.byte(),
+        2 => record.order = random.pick(ORDERS),
+        3 => record.output = random.byte(),
+        4 => record.time = any_number(random).into(),
+        5 => record.period = 0,
         _ => {
             let (offset, _, _) = random.pick(&NUMBERS);
             set_number(record, offset, any_number(random));

@@ -6,7 +6,7 @@ mod writes;
 pub use reads::random_frame;
 pub use writes::random_write;
 
-use super::frames::{time_text, Number, REQUESTERS};
+use super::frames::{random_address, time_text, Number, REQUESTERS};
 use super::Cases;
 use crate::frame::Kind;
 use crate::random::Random;
@@ -17,10 +17,11 @@ const LENGTH: usize = Reply::LENGTH;
 
 /// A reply of each kind. `NET` and `RAW` are the scope paper's examples. `CLOCK` and `ABSENT` differ
 /// from them and from each other in every field, except that `CLOCK` and `RAW` both have status R.
-const CLOCK: &[u8; LENGTH] = b"\x12R GmRz9876559999199250547240K235959999929022024xy\r";
+/// The examples have no digit as their address.
+const CLOCK: &[u8; LENGTH] = b"\x12R9GmRz9876559999199250547240K235959999929022024xy\r";
 const NET: &[u8; LENGTH] = b"\x12R SOEA000120004100000101525510001125400+0000000  \r";
 const RAW: &[u8; LENGTH] = b"\x12R SOR10000700015000002000000P000000000000000000  \r";
-const ABSENT: &[u8; LENGTH] = b"\x12R ~ Za5432130000100000999249s--:--.----no date!#~\r";
+const ABSENT: &[u8; LENGTH] = b"\x12R0~ Za5432130000100000999249s--:--.----no date!#~\r";
 
 const STATUSES: &[u8; 3] = b"REZ";
 
@@ -65,6 +66,7 @@ pub fn random_record(random: &mut Random) -> Reply {
     };
     let first_run = u64::from(status != NOT_AVAILABLE);
     let mut record = Reply {
+        address: random_address(random),
         program: random_raw_byte(random),
         mode: random_raw_byte(random),
         status,
@@ -125,8 +127,9 @@ fn random_net(random: &mut Random) -> Timing {
 
 /// The frame of a good record. It is built here, without the writer that is compared.
 pub fn frame_of(record: &Reply) -> Vec<u8> {
-    let mut frame = b"\x12R ".to_vec();
-    frame.extend([record.program, record.mode, record.status, record.requester]);
+    let mut frame = b"\x12R".to_vec();
+    frame.extend([record.address, record.program, record.mode]);
+    frame.extend([record.status, record.requester]);
     let numbers = format!(
         "{:05}{:05}{:03}{:03}{:03}{:03}",
         record.number, record.bib, record.group, record.run, record.physical, record.channel

@@ -1,8 +1,9 @@
 //! Cases of the static request: `read-request`, `damage-request` and `write-request`.
 
 use super::frames::{
-    any_number, befall_at_random, faults_of, with_faults, Number, WrongField, OUTPUTS, REQUESTERS,
-    REQUESTER_EDGES,
+    any_number, befall_at_random, faults_around, faults_of, random_address, to_damage_by_address,
+    with_address_edges, with_addresses_and_faults, with_faults, Number, WrongField, ADDRESS_EDGES,
+    OUTPUTS, REQUESTERS, REQUESTER_EDGES,
 };
 use super::{replaced, Cases};
 use crate::frame::Kind;
@@ -14,10 +15,10 @@ use crate::spelling::bytes_text;
 const LENGTH: usize = Request::LENGTH;
 
 /// The two requests of the scope paper's example, and one at the upper limits. No field is the same in
-/// all three.
+/// all three. The first two have no digit as their address.
 const FIRST: &[u8; LENGTH] = b"\x11R 100700000P000002000S\r";
 const SECOND: &[u8; LENGTH] = b"\x11R A012000411255001000S\r";
-const UPPER: &[u8; LENGTH] = b"\x11R z99959999q240250199T\r";
+const UPPER: &[u8; LENGTH] = b"\x11R9z99959999q240250199T\r";
 
 const LAST: usize = LENGTH - 1;
 
@@ -54,6 +55,19 @@ pub const NUMBERS: [Number; 5] = [
     (at::GROUP, 3, GROUP_EDGES),
 ];
 
+/// The offset of each part of a record, by rising offset.
+const PARTS: [usize; 9] = [
+    at::ADDRESS,
+    at::REQUESTER,
+    at::NUMBER,
+    at::BIB,
+    at::INFORMATION,
+    at::CHANNEL,
+    at::RUN,
+    at::GROUP,
+    at::OUTPUT,
+];
+
 /// One wrong text for each field, by rising offset.
 const WRONG_FIELDS: [WrongField; 8] = [
     (at::REQUESTER, b"["),
@@ -76,8 +90,9 @@ pub fn add_all(cases: &mut Cases, seed: u64) {
     add_letters(cases);
     add_random_frames(cases, &mut Random::new(seed, "read-request"));
     for frame in [FIRST, SECOND, UPPER] {
-        cases.add(format!("damage-request {}", bytes_text(frame)));
+        add_damage(cases, frame);
     }
+    add_addresses(cases);
     add_writes(cases);
     add_wrong_letters_to_write(cases);
     add_wrong_numbers_to_write(cases);
@@ -87,6 +102,10 @@ pub fn add_all(cases: &mut Cases, seed: u64) {
 
 fn add_read(cases: &mut Cases, frame: &[u8]) {
     cases.add(format!("read-request {}", bytes_text(frame)));
+}
+
+fn add_damage(cases: &mut Cases, frame: &[u8]) {
+    cases.add(format!("damage-request {}", bytes_text(frame)));
 }
 
 fn add_good_frames(cases: &mut Cases) {
@@ -142,6 +161,17 @@ fn add_surround_faults(cases: &mut Cases) {
     // a CR.
     add_read(cases, &replaced(FIRST, LAST - 1, b"\rS"));
     add_read(cases, &replaced(FIRST, LAST - 1, b"\r\r"));
+}
+
+fn add_addresses(cases: &mut Cases) {
+    let around = faults_around::<Request>(b"\x13");
+    let faulty = with_addresses_and_faults(FIRST, WRONG_FIELDS[0], &around);
+    for frame in with_address_edges(FIRST).iter().chain(&faulty) {
+        add_read(cases, frame);
+    }
+    for frame in to_damage_by_address(FIRST, &WRONG_FIELDS) {
+        add_damage(cases, &frame);
+    }
 }
 
 /// Every two faults together, and every end part of the list, to show which refusal comes first.
@@ -214,6 +244,7 @@ pub fn random_frame(random: &mut Random) -> Vec<u8> {
 
 pub fn random_record(random: &mut Random) -> Request {
     Request {
+        address: random_address(random),
         requester: random.pick(REQUESTERS),
         number: random.below(1_000),
         bib: random.below(60_000),
@@ -231,8 +262,8 @@ pub fn random_record(random: &mut Random) -> Request {
 /// The frame of a record whose numbers fit their fields. It is built here, without the writer that
 /// is compared.
 pub fn frame_of(record: &Request) -> Vec<u8> {
-    let mut frame = b"\x11R ".to_vec();
-    frame.push(record.requester);
+    let mut frame = b"\x11R".to_vec();
+    frame.extend([record.address, record.requester]);
     frame.extend(format!("{:03}{:05}", record.number, record.bib).bytes());
     frame.push(record.information);
     let numbers = format!("{:03}{:03}{:03}", record.channel, record.run, record.group);
@@ -262,6 +293,7 @@ fn add_write_to_all_rooms(cases: &mut Cases, record: &Request) {
 /// The record of `SECOND`.
 fn middle_record() -> Request {
     Request {
+        address: b' ',
         requester: b'A',
         number: 12,
         bib: 41,
@@ -276,6 +308,7 @@ fn middle_record() -> Request {
 /// The record of `UPPER`.
 fn upper_record() -> Request {
     Request {
+        address: b'9',
         requester: b'z',
         number: 999,
         bib: 59_999,
@@ -289,6 +322,7 @@ fn upper_record() -> Request {
 
 fn set_letter(record: &mut Request, offset: usize, code: u8) {
     match offset {
+        at::ADDRESS => record.address = code,
         at::REQUESTER => record.requester = code,
         at::INFORMATION => record.information = code,
         _ => record.output = code,
@@ -307,6 +341,7 @@ fn set_number(record: &mut Request, offset: usize, value: u64) {
 
 fn add_writes(cases: &mut Cases) {
     let zeros = Request {
+        address: b'0',
         requester: b'0',
         number: 0,
         bib: 0,
@@ -325,7 +360,8 @@ fn add_writes(cases: &mut Cases) {
 
 /// Every code of every letter to just enough room, and the codes at the edges to all rooms.
 fn add_wrong_letters_to_write(cases: &mut Cases) {
-    let edges: [(usize, &[u8]); 3] = [
+    let edges: [(usize, &[u8]); 4] = [
+        (at::ADDRESS, &ADDRESS_EDGES),
         (at::REQUESTER, &REQUESTER_EDGES),
         (at::INFORMATION, b")*+/09:@ABLlqr \xff"),
         (at::OUTPUT, b"@ABCRSTUs \x00\xff"),
@@ -354,18 +390,17 @@ fn add_wrong_numbers_to_write(cases: &mut Cases) {
     }
 }
 
-/// Every two fields wrong together, and every end part of the list.
+/// Every two parts wrong together, and every end part of the list.
 fn add_several_wrong_to_write(cases: &mut Cases) {
-    let offsets = WRONG_FIELDS.map(|(offset, _)| offset);
-    for (low, &first) in offsets.iter().enumerate() {
-        for &other in &offsets[low + 1..] {
+    for (low, &first) in PARTS.iter().enumerate() {
+        for &other in &PARTS[low + 1..] {
             let mut record = upper_record();
             spoil(&mut record, first);
             spoil(&mut record, other);
             add_write(cases, 24, &record);
         }
         let mut record = upper_record();
-        for &offset in &offsets[low..] {
+        for &offset in &PARTS[low..] {
             spoil(&mut record, offset);
         }
         add_write_to_all_rooms(cases, &record);
@@ -374,7 +409,9 @@ fn add_several_wrong_to_write(cases: &mut Cases) {
 
 fn spoil(record: &mut Request, offset: usize) {
     match offset {
-        at::REQUESTER | at::INFORMATION | at::OUTPUT => set_letter(record, offset, b'['),
+        at::ADDRESS | at::REQUESTER | at::INFORMATION | at::OUTPUT => {
+            set_letter(record, offset, b'[');
+        }
         _ => set_number(record, offset, 70_000),
     }
 }
@@ -400,8 +437,9 @@ pub fn random_write(random: &mut Random) -> String {
 }
 
 fn spoil_at_random(record: &mut Request, random: &mut Random) {
-    let (offset, _) = random.pick(&WRONG_FIELDS);
+    let offset = random.pick(&PARTS);
     match offset {
+        at::ADDRESS => record.address = random.pick(&ADDRESS_EDGES),
         at::REQUESTER | at::INFORMATION | at::OUTPUT => {
             let code = random.byte();
             set_letter(record, offset, code);

@@ -3,7 +3,7 @@
 //! and any memory.
 
 use super::{Desk, Key, Seat, CELL};
-use crate::frame::{is_requester, Kind};
+use crate::frame::{is_address, is_requester, Kind};
 use crate::reply::{at, Reply, LAST_RECORD, NOT_AVAILABLE};
 use crate::request;
 
@@ -33,7 +33,9 @@ fn used_keys_are_a_requests(desk: &Desk) -> bool {
 }
 
 fn is_a_requests(key: Key) -> bool {
-    u8::try_from(key.requester).is_ok_and(is_requester) && request::is_number(key.number)
+    u8::try_from(key.address).is_ok_and(is_address)
+        && u8::try_from(key.requester).is_ok_and(is_requester)
+        && request::is_number(key.number)
 }
 
 fn no_two_used_seats_share_a_key(desk: &Desk) -> bool {
@@ -126,7 +128,7 @@ fn statuses_at(desk: &Desk, seat: usize) -> Vec<u8> {
 #[cfg(test)]
 mod tests {
     use super::*;
-    use crate::desk::tests::{desk_of, reply, request};
+    use crate::desk::tests::{addressed, desk_of, reply, request};
     use crate::desk::{MOST_CELLS, SEATS};
 
     /// The places of the clauses in `CLAUSES`.
@@ -183,6 +185,7 @@ mod tests {
         }
         check(&[], |desk| {
             desk.bits |= 1 << 15;
+            desk.seats[15].address = b' '.into();
             desk.seats[15].requester = b'0'.into();
         });
     }
@@ -215,8 +218,46 @@ mod tests {
     }
 
     #[test]
+    fn addresses_of_used_seats() {
+        for address in [0, 0x1f, 0x21, 0x2d, 0x2f, 0x3a, 288, 304, u32::MAX] {
+            check(&[KEYS], |desk| {
+                desk.seats[2].address = address;
+            });
+        }
+        for &address in b" 0123456789" {
+            check(&[], |desk| desk.seats[2].address = address.into());
+        }
+    }
+
+    /// Two used seats may differ in the address alone, but not share all three parts of the key.
+    #[test]
+    fn seats_that_differ_in_the_address_alone() {
+        check(&[], |desk| {
+            desk.seats[2] = Seat {
+                address: b'0'.into(),
+                held: 0,
+                ..desk.seats[1]
+            };
+        });
+        check(&[], |desk| {
+            desk.bits |= 1 << 15;
+            desk.seats[15] = Seat {
+                address: b'9'.into(),
+                ..desk.seats[2]
+            };
+        });
+        check(&[SHARED_KEYS], |desk| {
+            desk.seats[2].address = b'9'.into();
+            desk.bits |= 1 << 15;
+            desk.seats[15] = desk.seats[2];
+        });
+    }
+
+    #[test]
     fn unused_seats() {
-        let spoils: [fn(&mut Seat); 4] = [
+        let spoils: [fn(&mut Seat); 6] = [
+            |seat| seat.address = 32,
+            |seat| seat.address = 48,
             |seat| seat.requester = 48,
             |seat| seat.number = 1,
             |seat| seat.held = 1,
@@ -310,6 +351,15 @@ mod tests {
                 put(desk, 1, offset, text);
             });
         }
+        // The key of its seat but for the address, once of the cell and once of the seat.
+        for address in [b"0", b"9", b"-"] {
+            check(&[CELLS], |desk| put(desk, 1, at::ADDRESS, address));
+        }
+        check(&[CELLS], |desk| desk.seats[1].address = b'0'.into());
+        check(&[], |desk| {
+            desk.seats[1].address = b'0'.into();
+            put(desk, 1, at::ADDRESS, b"0");
+        });
         check(&[], |desk| put(desk, 1, at::BIB, b"59999"));
         check(&[], |desk| put(desk, 4, at::RUN, b"000"));
     }
@@ -380,6 +430,9 @@ mod tests {
             check(&[], |desk| desk.marks[5] = mark);
         }
         check(&[], |desk| put(desk, 5, 0, &reply(b'Z', b'1', 7)));
+        check(&[], |desk| {
+            put(desk, 5, 0, &addressed(b'3', reply(b'Z', b'1', 7)));
+        });
         check(&[], |desk| put(desk, 5, 50, b"\0"));
     }
 

@@ -30,6 +30,12 @@ fn reply_with_bib(status: u8, requester: u8, number: u32, bib: u32) -> Vec<u8> {
     frame
 }
 
+/// The frame with this address.
+pub fn addressed(address: u8, mut frame: Vec<u8>) -> Vec<u8> {
+    frame[crate::frame::ADDRESS] = address;
+    frame
+}
+
 /// An empty desk with this many cells.
 pub fn desk_of(cells: usize) -> Desk {
     Desk::with(vec![0xee; cells * CELL], vec![0xeeee_eeee; cells])
@@ -91,10 +97,18 @@ fn an_opening_fills_its_seat_alone() {
     let mut expected = desk_of(1);
     expected.bits = 1;
     expected.seats[0] = Seat {
+        address: 32,
         requester: 122,
         number: 999,
         held: 0,
         ended: 0,
+    };
+    assert_eq!(desk, expected);
+    assert_eq!(desk.open(&addressed(b'9', request(b'z', 999))), Ok(1));
+    expected.bits = 3;
+    expected.seats[1] = Seat {
+        address: 57,
+        ..expected.seats[0]
     };
     assert_eq!(desk, expected);
 }
@@ -231,6 +245,57 @@ fn strays() {
     assert_eq!(desk.reply(&reply(R, b'A', 999)), Ok(1));
 }
 
+const ADDRESSES: &[u8; 11] = b" 0123456789";
+
+#[test]
+fn the_address_is_part_of_the_key() {
+    let mut desk = desk_of(22);
+    for (seat, &address) in ADDRESSES.iter().enumerate() {
+        let request = addressed(address, request(b'1', 7));
+        assert_eq!(desk.open(&request), Ok(seat));
+        check_refused(&desk, Refusal::InUse, |desk| desk.open(&request));
+    }
+    for status in [R, E] {
+        for (seat, &address) in ADDRESSES.iter().enumerate().rev() {
+            let reply = addressed(address, reply(status, b'1', 7));
+            assert_eq!(desk.reply(&reply), Ok(seat));
+            assert_eq!(records_at(&desk, seat as u32).last(), Some(&&reply[..]));
+        }
+    }
+    for &address in ADDRESSES {
+        let reply = addressed(address, reply(R, b'1', 7));
+        check_refused(&desk, Refusal::Ended, |desk| desk.reply(&reply));
+    }
+}
+
+#[test]
+fn another_address_is_a_stray() {
+    for &own in ADDRESSES {
+        let mut desk = desk_of(1);
+        assert_eq!(desk.open(&addressed(own, request(b'1', 7))), Ok(0));
+        for &other in ADDRESSES.iter().filter(|&&other| other != own) {
+            let frame = addressed(other, reply(R, b'1', 7));
+            check_refused(&desk, Refusal::Stray, |desk| desk.reply(&frame));
+        }
+        assert_eq!(desk.reply(&addressed(own, reply(R, b'1', 7))), Ok(0));
+    }
+}
+
+#[test]
+fn a_wrong_address_is_refused_before_the_key_is_looked_up() {
+    let desk = opened(1, &[(b'1', 7)]);
+    for address in [0x00, 0x1f, 0x21, 0x2d, 0x2f, 0x3a] {
+        let frame = addressed(address, request(b'1', 7));
+        check_refused(&desk, Refusal::Address, |desk| desk.open(&frame));
+        let frame = addressed(address, request_for(b'1', 8, b'q'));
+        check_refused(&desk, Refusal::Address, |desk| desk.open(&frame));
+        let frame = addressed(address, reply(R, b'1', 7));
+        check_refused(&desk, Refusal::Address, |desk| desk.reply(&frame));
+    }
+    let frame = addressed(b'5', request_for(b'1', 7, b'q'));
+    check_refused(&desk, Refusal::NoAnswerDue, |desk| desk.open(&frame));
+}
+
 #[test]
 fn on_a_full_desk_the_other_refusals_go_first() {
     let mut desk = opened(2, &[(b'1', 7), (b'A', 7), (b'z', 7)]);
@@ -313,6 +378,7 @@ fn a_desk_is_full_at_its_capacity() {
 #[test]
 fn a_reset_takes_any_state_and_leaves_cells_and_marks() {
     let seat = Seat {
+        address: 32,
         requester: 1,
         number: 2,
         held: 3,

@@ -32,14 +32,20 @@ fn reply(requester: u8, bib: usize) -> Vec<u8> {
     frame
 }
 
+fn with_address(frame: &[u8], address: u8) -> Vec<u8> {
+    let mut frame = frame.to_vec();
+    frame[at::ADDRESS] = address;
+    frame
+}
+
 /// The seat and the bib of each row.
 fn seats_and_bibs(capture: &[u8]) -> Vec<(usize, usize)> {
     let rest = after_heading(capture);
     let rows = rest.lines().filter(|line| !line.starts_with("end"));
     rows.map(|row| {
         let fields: Vec<&str> = row.split('\t').collect();
-        assert_eq!(fields.len(), 12);
-        let [seat, bib] = [fields[0], fields[3]].map(|field| field.parse().expect("digits"));
+        assert_eq!(fields.len(), 13);
+        let [seat, bib] = [fields[0], fields[4]].map(|field| field.parse().expect("digits"));
         (seat, bib)
     })
     .collect()
@@ -49,10 +55,10 @@ fn seats_and_bibs(capture: &[u8]) -> Vec<(usize, usize)> {
 fn the_example() {
     let capture = [REQUEST, OTHER_REQUEST, FIRST, SECOND, THIRD, SECOND].concat();
     let expected = "\
-        seat\tfrom\tnumber\tbib\tgroup\trun\tphys\tlog\tinfo\ttime\tdate\tstatus\n\
-        0\t1\t007\t00015\t000\t002\t000\t000\tP\t0000000000\t00000000\tR\n\
-        0\t1\t007\t00022\t000\t002\t000\t000\tP\t0000000000\t00000000\tE\n\
-        1\tA\t012\t00041\t000\t001\t015\t255\t1\t0001125400\t+0000000\tE\n\
+        seat\tfrom\taddr\tnumber\tbib\tgroup\trun\tphys\tlog\tinfo\ttime\tdate\tstatus\n\
+        0\t1\t-\t007\t00015\t000\t002\t000\t000\tP\t0000000000\t00000000\tR\n\
+        0\t1\t-\t007\t00022\t000\t002\t000\t000\tP\t0000000000\t00000000\tE\n\
+        1\tA\t-\t012\t00041\t000\t001\t015\t255\t1\t0001125400\t+0000000\tE\n\
         end\t2\t3\t0\t1\n";
     assert_eq!(String::from_utf8(list(&capture)).as_deref(), Ok(expected));
 }
@@ -112,15 +118,50 @@ fn the_longest_capture_has_32768_bytes() {
 
 #[test]
 fn fields_are_as_the_frame_has_them() {
-    let request = b"\x11R z00000000K000000000T\r";
-    let clock = b"\x12R GmRz0000059999199250547240K235959999929022024xy\r";
-    let raw = b"\x12R GmEz0000012345067089123245X ~         ~~    ~~ \r";
+    let request = b"\x11R9z00000000K000000000T\r";
+    let clock = b"\x12R9GmRz0000059999199250547240K235959999929022024xy\r";
+    let raw = b"\x12R9GmEz0000012345067089123245X ~         ~~    ~~ \r";
     check(
         &[request, clock, raw],
-        "0\tz\t000\t59999\t199\t250\t547\t240\tK\t2359599999\t29022024\tR\n\
-         0\tz\t000\t12345\t067\t089\t123\t245\tX\t ~        \t ~~    ~\tE\n\
+        "0\tz\t9\t000\t59999\t199\t250\t547\t240\tK\t2359599999\t29022024\tR\n\
+         0\tz\t9\t000\t12345\t067\t089\t123\t245\tX\t ~        \t ~~    ~\tE\n\
          end\t1\t2\t0\t0\n",
     );
+}
+
+#[test]
+fn each_address_has_its_rows() {
+    let capture: Vec<u8> = b" 0123456789"
+        .iter()
+        .flat_map(|&address| {
+            [request(b'1'), reply(b'1', 15)].map(|frame| with_address(&frame, address))
+        })
+        .flatten()
+        .collect();
+    let mut expected = String::new();
+    for (seat, shown) in "-0123456789".chars().enumerate() {
+        let row = format!("{seat}\t1\t{shown}\t007\t00015\t000\t002\t000\t000\tP");
+        expected.push_str(&format!("{row}\t0000000000\t00000000\tR\n"));
+    }
+    check(&[&capture], &format!("{expected}end\t11\t11\t0\t0\n"));
+}
+
+#[test]
+fn a_reply_with_another_address_is_a_stray() {
+    check(&[REQUEST, &with_address(FIRST, b'0')], "end\t1\t0\t0\t1\n");
+    check(&[&with_address(REQUEST, b'0'), FIRST], "end\t1\t0\t0\t1\n");
+}
+
+/// The `-` of the column is not an address.
+#[test]
+fn a_wrong_address_is_refused_in_every_kind() {
+    for address in *b"\x1f!-/:" {
+        for frame in [REQUEST, FIRST, DYNAMIC] {
+            let wrong = with_address(frame, address);
+            check(&[OTHER_REQUEST, &wrong], "end\t1\t0\t0\t1\n");
+        }
+    }
+    check(&[&with_address(DYNAMIC, b'9')], "end\t0\t0\t1\t0\n");
 }
 
 #[test]
@@ -129,7 +170,7 @@ fn the_number_has_three_digits() {
         let request = format!("\x11R 1{number}00000P000002000S\r");
         let reply = format!("\x12R SOZ100{number}00015000000000000P0000000000--------  \r");
         let row =
-            format!("0\t1\t{number}\t00015\t000\t000\t000\t000\tP\t0000000000\t--------\tZ\n");
+            format!("0\t1\t-\t{number}\t00015\t000\t000\t000\t000\tP\t0000000000\t--------\tZ\n");
         check(
             &[request.as_bytes(), reply.as_bytes()],
             &format!("{row}end\t1\t1\t0\t0\n"),
@@ -188,7 +229,7 @@ fn seventeen_requests() {
     let expected: Vec<(usize, usize)> = (0..16).map(|seat| (seat, 1)).collect();
     assert_eq!(seats_and_bibs(&capture), expected);
     let list = after_heading(&capture);
-    assert!(list.contains("\n15\tP\t007\t00001\t"));
+    assert!(list.contains("\n15\tP\t-\t007\t00001\t"));
     assert!(list.ends_with("end\t16\t16\t0\t2\n"));
 }
 

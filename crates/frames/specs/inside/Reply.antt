@@ -15,7 +15,7 @@ use Rattle.frames.specs.declared.reply.StaticReply.{StaticReply}
 use Rattle.frames.specs.declared.reply.ReplyRead.{ReplyRead}
 use Rattle.frames.specs.declared.reply.ReplyLabel.{ReplyLabel}
 use Rattle.frames.specs.declared.timing.Seen.{Seen}
-use Rattle.frames.specs.Rules.{between, upTo, space, isRaw, isRequester}
+use Rattle.frames.specs.Rules.{between, upTo, isRaw, isRequester}
 use Rattle.frames.specs.Status.{isStatus}
 use Rattle.frames.specs.Shape.{bytesOf}
 use Rattle.frames.specs.Layout.{wrongUnless}
@@ -34,7 +34,7 @@ judgedAs r wrong = cond (eqb wrong 0) (record { verdict = Read; reply = r }) (re
 -- the parts before time and date, as they are in a frame
 abbrev pub headAt : List ℕ → ReplyHead
 headAt s =
-    record { program = getD s 3 0; mode = getD s 4 0; status = getD s 5 0; requester = getD s 6 0; number = orNone (numberAt s 7 5); bib = orNone (numberAt s 12 5); group = orNone (numberAt s 17 3); run = orNone (numberAt s 20 3); physical = orNone (numberAt s 23 3); channel = orNone (numberAt s 26 3); information = getD s 29 0 }
+    record { address = getD s 2 0; program = getD s 3 0; mode = getD s 4 0; status = getD s 5 0; requester = getD s 6 0; number = orNone (numberAt s 7 5); bib = orNone (numberAt s 12 5); group = orNone (numberAt s 17 3); run = orNone (numberAt s 20 3); physical = orNone (numberAt s 23 3); channel = orNone (numberAt s 26 3); information = getD s 29 0 }
 
 abbrev pub replyOf : ReplyHead → Seen → List ℕ → StaticReply
 replyOf h seen spare = record { head = h; timing = seen .timing; «raw_time» = seen .«raw_time»; «raw_date» = seen .«raw_date»; spare = spare }
@@ -64,7 +64,7 @@ fieldsChecked s = tried (eqb (wrongAt s) 0) (FIELD (wrongAt s)) (gives (labelOf 
 
 abbrev pub headText : ReplyHead → List ℕ
 headText h =
-    18 ∷ letterR ∷ space ∷ h .program ∷ h .mode ∷ h .status ∷ h .requester ∷ (digits 5 (h .number) ++ (digits 5 (h .bib) ++ (digits 3 (h .group) ++ (digits 3 (h .run)
+    18 ∷ letterR ∷ h .address ∷ h .program ∷ h .mode ∷ h .status ∷ h .requester ∷ (digits 5 (h .number) ++ (digits 5 (h .bib) ++ (digits 3 (h .group) ++ (digits 3 (h .run)
     ++ (digits 3 (h .physical) ++ (digits 3 (h .channel) ++ (h .information ∷ [])))))))
 
 unfoldable pub replyText : StaticReply → List ℕ

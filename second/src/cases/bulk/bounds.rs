@@ -127,7 +127,7 @@ mod tests {
     use super::super::{DYNAMIC, MAKERS, REPLY, REQUEST};
     use super::*;
     use crate::dynamic::Dynamic;
-    use crate::frame::Kind;
+    use crate::frame::{Kind, ADDRESS};
     use crate::refusal::Refusal;
     use crate::reply::Reply;
     use crate::request::Request;
@@ -141,13 +141,15 @@ mod tests {
         }
     }
 
-    /// How often each field is the first wrong one. Under 0: how often a frame is good.
+    /// How often each field is the first wrong one, under 2 the address. Under 0: how often a frame
+    /// is good.
     fn offsets<Record: Kind>(maker: &Maker) -> BTreeMap<usize, usize> {
         let mut random = Random::new(1, "test");
         let mut offsets = BTreeMap::new();
         for _ in 0..4000 {
             let offset = match Record::read(&frame(maker, &mut random)) {
                 Ok(_) => 0,
+                Err(Refusal::Address) => ADDRESS,
                 Err(Refusal::Field(offset)) => offset,
                 Err(refusal) => panic!("{refusal:?}"),
             };
@@ -171,13 +173,13 @@ mod tests {
     fn every_bound_is_met_from_both_sides() {
         check(
             &offsets::<Request>(&REQUEST),
-            &[0, 3, 7, 12, 13, 16, 19, 22],
+            &[0, 2, 3, 7, 12, 13, 16, 19, 22],
         );
         check(
             &offsets::<Reply>(&REPLY),
-            &[0, 5, 6, 12, 17, 20, 26, 29, 30, 40],
+            &[0, 2, 5, 6, 12, 17, 20, 26, 29, 30, 40],
         );
-        let dynamic = [0, 3, 4, 5, 10, 13, 16, 21, 24, 27, 28, 39, 44];
+        let dynamic = [0, 2, 3, 4, 5, 10, 13, 16, 21, 24, 27, 28, 39, 44];
         check(&offsets::<Dynamic>(&DYNAMIC), &dynamic);
     }
 

@@ -93,7 +93,7 @@ fn conversation(random: &mut Random, frames: usize, end_once_in: u64) -> Frames 
 
 /// A conversation with about as many replies as there are cells.
 fn full(random: &mut Random) -> Capture {
-    let frames = 250 + random.place(80);
+    let frames = 280 + random.place(80);
     conversation(random, frames, 200).concat()
 }
 

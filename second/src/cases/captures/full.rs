@@ -26,7 +26,14 @@ fn many_replies(count: usize, keys: &[Key]) -> Capture {
     capture.extend(reply_with_bib(E, ended, 1_000));
     let late = key(SEATS);
     capture.extend([request(late), reply(Z, late), reply(R, late)].concat());
-    capture.extend([reply(Z, ended), reply(R, ended), reply(R, (b'z', 999))].concat());
+    capture.extend(
+        [
+            reply(Z, ended),
+            reply(R, ended),
+            reply(R, (b' ', b'z', 999)),
+        ]
+        .concat(),
+    );
     capture.extend(PLUS);
     capture
 }

@@ -78,18 +78,18 @@ fn a_key_again() -> Capture {
     [
         request(ONE),
         request(ONE),
-        request((b'1', 8)),
+        request((b' ', b'1', 8)),
         reply_with_bib(R, ONE, 3),
         request(ONE),
         reply_with_bib(E, ONE, 2),
         request(ONE),
         reply_with_bib(R, ONE, 1),
-        request((b'A', 7)),
-        request((b'a', 7)),
-        reply(E, (b'a', 7)),
-        reply(Z, (b'1', 8)),
-        request((b'1', 8)),
-        reply(R, (b'A', 7)),
+        request((b' ', b'A', 7)),
+        request((b' ', b'a', 7)),
+        reply(E, (b' ', b'a', 7)),
+        reply(Z, (b' ', b'1', 8)),
+        request((b' ', b'1', 8)),
+        reply(R, (b' ', b'A', 7)),
     ]
     .concat()
 }
@@ -170,11 +170,11 @@ fn blanks_and_tildes() -> Capture {
         (at::PROGRAM, b" ~"),
         (at::PROGRAM, b"~ "),
     ];
-    let mut capture = [request(ONE), request(OTHER), request((b'z', 0))].concat();
+    let mut capture = [request(ONE), request(OTHER), request((b' ', b'z', 0))].concat();
     for (place, text) in patches {
         capture.extend(replaced(&reply(R, ONE), place, text));
     }
-    for (status, key) in [(Z, OTHER), (E, (b'z', 0))] {
+    for (status, key) in [(Z, OTHER), (E, (b' ', b'z', 0))] {
         capture.extend(replaced(&reply(status, key), at::TIME, &[b' '; 20]));
     }
     capture.extend(replaced(&reply(E, ONE), at::TIME, &[b'~'; 20]));

@@ -73,9 +73,16 @@ fn good_reply(random: &mut Random, own: Key) -> Vec<u8> {
     random_reply(random, status, own)
 }
 
-fn stray(random: &mut Random, (requester, number): Key) -> Vec<u8> {
-    let number = number + random.pick(&[1, 2, 1_000, 65_536]);
-    good_reply(random, (requester, number))
+/// A reply with another address or another number than all keys of the capture.
+fn stray(random: &mut Random, (address, requester, number): Key) -> Vec<u8> {
+    let other = match random.below(2) {
+        0 => (random.pick(b"12456789"), requester, number),
+        _ => {
+            let number = number + random.pick(&[1, 2, 1_000, 65_536]);
+            (address, requester, number)
+        }
+    };
+    good_reply(random, other)
 }
 
 /// A good frame of any kind.

@@ -16,7 +16,7 @@ pub fn captures() -> Vec<Capture> {
         numbers_above_999(),
         damaged_requests(),
         damaged_replies(ONE),
-        damaged_replies((b'z', 999)),
+        damaged_replies((b' ', b'z', 999)),
         wrong_lengths(),
         dynamic_requests(),
         wrong_dynamic_requests(),
@@ -31,13 +31,13 @@ pub fn captures() -> Vec<Capture> {
 fn strays() -> Capture {
     let mut capture = [request(ONE), request(OTHER)].concat();
     for stray in [
-        (b'1', 12),
-        (b'A', 7),
-        (b'a', 12),
-        (b'0', 7),
-        (b'1', 70),
-        (b'1', 0),
-        (b'z', 999),
+        (b' ', b'1', 12),
+        (b' ', b'A', 7),
+        (b' ', b'a', 12),
+        (b' ', b'0', 7),
+        (b' ', b'1', 70),
+        (b' ', b'1', 0),
+        (b' ', b'z', 999),
     ] {
         for status in [R, E, Z] {
             capture.extend(reply(status, stray));
@@ -51,15 +51,20 @@ fn strays() -> Capture {
 /// No request has such a number. Some of them would match a request if cut to three digits or to
 /// sixteen bits.
 fn numbers_above_999() -> Capture {
-    let mut capture = [request(ONE), request((b'A', 999)), request((b'z', 0))].concat();
+    let mut capture = [
+        request(ONE),
+        request((b' ', b'A', 999)),
+        request((b' ', b'z', 0)),
+    ]
+    .concat();
     for requester in *b"1Az" {
         for number in [
             1_000, 1_007, 1_999, 7_000, 10_007, 65_536, 65_543, 66_535, 99_999,
         ] {
-            capture.extend(reply(R, (requester, number)));
+            capture.extend(reply(R, (b' ', requester, number)));
         }
     }
-    for key in [(b'z', 0), (b'A', 999), ONE] {
+    for key in [(b' ', b'z', 0), (b' ', b'A', 999), ONE] {
         capture.extend(reply(E, key));
     }
     capture
@@ -151,7 +156,7 @@ fn no_answer_due() -> Capture {
 
 /// Every status after R and E, after a Z, and after an E that came first.
 fn after_the_end() -> Capture {
-    let third = (b'z', 999);
+    let third = (b' ', b'z', 999);
     [
         request(ONE),
         request(OTHER),

@@ -3,8 +3,8 @@ use crate::finder::{self, is_lead, Ending};
 use crate::listing::{self, MOST_BYTES};
 use std::collections::BTreeSet;
 
-const MOST_CAPTURES: usize = 130;
-const MOST_BYTES_OF_ALL: usize = 500_000;
+const MOST_CAPTURES: usize = 140;
+const MOST_BYTES_OF_ALL: usize = 520_000;
 
 /// The list of a capture that is not too long, line by line.
 fn lines(capture: &[u8]) -> Vec<String> {

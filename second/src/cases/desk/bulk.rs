@@ -1,5 +1,6 @@
 //! Scripts in bulk: for each seed a piece with a given number of scripts. Each begins with `lend`,
-//! or with `mixes`, which leaves an empty desk. So each script can be asked alone.
+//! or with `mixes` or `mixes-by-address`, which leave an empty desk. So each script can be asked
+//! alone.
 
 mod conversations;
 mod full;
@@ -12,9 +13,9 @@ use super::frames::{
     REQUEST_DAMAGES, Z,
 };
 use super::script::Script;
-use crate::cases::frames::befall_at_random;
+use crate::cases::frames::{befall_at_random, random_address};
 use crate::cases::{reply, request, Cases};
-use crate::desk::CELL;
+use crate::desk::{Seat, CELL};
 use crate::random::Random;
 
 /// The scripts of one piece, each with all its lines.
@@ -30,7 +31,7 @@ fn script(random: &mut Random) -> Vec<String> {
         16..=31 => conversations::add(&mut cases, random),
         32..=49 => nearly::add(&mut cases, random),
         50..=57 => full::add(&mut cases, random),
-        58..=62 => wild::add(&mut cases, random),
+        58..=61 => wild::add(&mut cases, random),
         _ => mixed::add(&mut cases, random),
     }
     cases.text.lines().map(str::to_string).collect()
@@ -43,26 +44,38 @@ fn lend<'a>(cases: &'a mut Cases, cells: usize, random: &mut Random) -> Script<'
     Script::lend(cases, bytes, marks)
 }
 
-/// A random key. It often has one part in common with other keys.
+/// A random key. It often has one or two parts in common with other keys.
 fn random_key(random: &mut Random) -> Key {
+    let address = random_address(random);
     let requester = random.pick(b"11AAaaz09ZBb");
     let number = match random.below(4) {
         0 => random.below(1_000) as u32,
         _ => random.pick(&[0, 7, 7, 8, 70, 700, 999]),
     };
-    (requester, number)
+    (address, requester, number)
 }
 
-/// This many keys, all different.
+/// This many keys, all different. About a third differ from another one in the address alone.
 fn different_keys(count: usize, random: &mut Random) -> Vec<Key> {
     let mut keys = Vec::new();
     while keys.len() < count {
-        let key = random_key(random);
+        let key = match random.below(3) {
+            0 if !keys.is_empty() => {
+                let other = random.pick(&keys);
+                under_any_address(random, other)
+            }
+            _ => random_key(random),
+        };
         if !keys.contains(&key) {
             keys.push(key);
         }
     }
     keys
+}
+
+/// The same requester and number under any address.
+fn under_any_address(random: &mut Random, (_, requester, number): Key) -> Key {
+    (random_address(random), requester, number)
 }
 
 /// The keys of the seats in use, if frames can have them.
@@ -71,9 +84,14 @@ fn open_keys(script: &Script) -> Vec<Key> {
     let seats = desk.seats.iter().enumerate();
     seats
         .filter(|&(place, _)| (desk.bits >> place) & 1 == 1)
-        .filter_map(|(_, seat)| Some((u8::try_from(seat.requester).ok()?, seat.number)))
-        .filter(|&(_, number)| number < 1_000)
+        .filter_map(|(_, seat)| key_of(seat))
         .collect()
+}
+
+fn key_of(seat: &Seat) -> Option<Key> {
+    let address = u8::try_from(seat.address).ok()?;
+    let requester = u8::try_from(seat.requester).ok()?;
+    (seat.number < 1_000).then_some((address, requester, seat.number))
 }
 
 /// An opening or a reply, with one of these keys or with another key. Sometimes the frame is wrong.
@@ -116,10 +134,18 @@ fn wrong_reply(random: &mut Random, own: Key) -> Vec<u8> {
     frame
 }
 
-/// A reply with a different number, sometimes one that no request can have.
-fn stray(random: &mut Random, (requester, number): Key) -> Vec<u8> {
+/// A reply with any address, or with a different number, sometimes one that no request can have.
+fn stray(random: &mut Random, key: Key) -> Vec<u8> {
+    let other = match random.below(3) {
+        0 => under_any_address(random, key),
+        _ => with_another_number(random, key),
+    };
+    random_reply(random, R, other)
+}
+
+fn with_another_number(random: &mut Random, (address, requester, number): Key) -> Key {
     let number = (number + random.pick(&[1, 10, 1_000, 10_000, 65_536])) % 100_000;
-    random_reply(random, R, (requester, number))
+    (address, requester, number)
 }
 
 /// Asks for the seats in use, or for the next held cell of some seat from some place on.
@@ -174,8 +200,9 @@ mod tests {
     fn every_script_begins_with_an_empty_desk() {
         for script in piece(1, 300) {
             let first = script.first().expect("a line");
+            let begins = ["lend ", "mixes ", "mixes-by-address "];
             assert!(
-                first.starts_with("lend ") || first.starts_with("mixes "),
+                begins.iter().any(|begin| first.starts_with(begin)),
                 "{first}"
             );
             assert!(!script[1..].iter().any(|line| line.starts_with("lend ")));
@@ -196,7 +223,7 @@ mod tests {
         let lines: Vec<&String> = scripts
             .iter()
             .flatten()
-            .filter(|line| !line.starts_with("mixes "))
+            .filter(|line| !line.starts_with("mixes"))
             .collect();
         let text: String = lines.iter().map(|line| format!("{line}\n")).collect();
         let answers = answers::by_case(text.as_bytes()).expect("cases");
@@ -216,5 +243,23 @@ mod tests {
         let keys = different_keys(20, &mut Random::new(1, "test"));
         assert_eq!(keys.len(), 20);
         assert!((1..20).all(|place| !keys[..place].contains(&keys[place])));
+    }
+
+    /// How many of these keys differ from another one in the address alone.
+    fn differing_in_the_address(keys: &[Key]) -> usize {
+        let is_near = |key: &Key, other: &Key| key != other && (key.1, key.2) == (other.1, other.2);
+        keys.iter()
+            .filter(|key| keys.iter().any(|other| is_near(key, other)))
+            .count()
+    }
+
+    #[test]
+    fn keys_often_differ_in_the_address_alone() {
+        let mut random = Random::new(1, "test");
+        let mut near = 0;
+        for _ in 0..100 {
+            near += differing_in_the_address(&different_keys(4, &mut random));
+        }
+        assert!((100..300).contains(&near), "{near}");
     }
 }

@@ -91,15 +91,15 @@ fn add_no_desk_and_more(cases: &mut Cases) {
     // All seats in use, and one bit above them.
     let mut script = Script::lend(cases, 0, 0);
     for seat in 0..16 {
-        let key = (b'A' + seat as u8, seat as u32);
+        let key = (b' ', b'A' + seat as u8, seat as u32);
         script.change(&Change::Seat(seat, seat_of(key, 0, 0)));
     }
     script.change(&Change::Bits(0x1_ffff));
     script.open(&request(NEW_KEY));
-    script.reply(&reply(R, (b'A', 0)));
+    script.reply(&reply(R, (b' ', b'A', 0)));
     script.change(&Change::Bits(0xffff));
     script.open(&request(NEW_KEY));
-    script.reply(&reply(R, (b'A', 0)));
+    script.reply(&reply(R, (b' ', b'A', 0)));
 }
 
 /// A count above the capacity, because the third cell or the third mark is not lent whole. Records
@@ -138,10 +138,10 @@ fn add_shared_keys_far_apart(cases: &mut Cases) {
     let mut script = Script::lend_cells(cases, 1);
     script.change(&Change::Bits(0x8001));
     for number in [8, 7] {
-        script.change(&Change::Seat(15, seat_of((b'1', 7), 0, 0)));
-        script.change(&Change::Seat(0, seat_of((b'1', number), 0, 0)));
+        script.change(&Change::Seat(15, seat_of((b' ', b'1', 7), 0, 0)));
+        script.change(&Change::Seat(0, seat_of((b' ', b'1', number), 0, 0)));
         script.open(&request(NEW_KEY));
-        script.reply(&reply(R, (b'1', 7)));
+        script.reply(&reply(R, (b' ', b'1', 7)));
         script.reset();
         script.change(&Change::Bits(0x8001));
     }

@@ -2,12 +2,13 @@
 //! writers that are compared.
 
 use crate::cases::{self, replaced};
+use crate::frame::ADDRESS;
 use crate::random::Random;
 use crate::reply;
 use std::iter;
 
-/// Requester and number.
-pub type Key = (u8, u32);
+/// Address, requester and number.
+pub type Key = (u8, u8, u32);
 
 /// The statuses of a reply.
 pub const R: u8 = b'R';
@@ -19,9 +20,9 @@ pub fn request(key: Key) -> Vec<u8> {
 }
 
 /// A request for this information.
-pub fn request_for((requester, number): Key, information: u8) -> Vec<u8> {
-    let mut frame = b"\x11R ".to_vec();
-    frame.push(requester);
+pub fn request_for((address, requester, number): Key, information: u8) -> Vec<u8> {
+    let mut frame = b"\x11R".to_vec();
+    frame.extend([address, requester]);
     frame.extend(format!("{number:03}00000").bytes());
     frame.push(information);
     frame.extend(b"000002000S\r");
@@ -33,27 +34,30 @@ pub fn reply(status: u8, key: Key) -> Vec<u8> {
 }
 
 /// A reply with this bib. Different bibs make replies distinguishable.
-pub fn reply_with_bib(status: u8, (requester, number): Key, bib: usize) -> Vec<u8> {
-    let mut frame = b"\x12R SO".to_vec();
-    frame.extend([status, requester]);
+pub fn reply_with_bib(status: u8, (address, requester, number): Key, bib: usize) -> Vec<u8> {
+    let mut frame = b"\x12R".to_vec();
+    frame.extend([address, b'S', b'O', status, requester]);
     frame.extend(format!("{number:05}{bib:05}").bytes());
     frame.extend(b"000002000000P000000000000000000  \r");
     frame
 }
 
 /// A reply with this status to this key. All its other fields are random.
-pub fn random_reply(random: &mut Random, status: u8, (requester, number): Key) -> Vec<u8> {
+pub fn random_reply(random: &mut Random, status: u8, key: Key) -> Vec<u8> {
     let mut record = iter::repeat_with(|| cases::reply::random_record(random))
         .find(|record| record.status == status)
         .expect("each status comes");
+    let (address, requester, number) = key;
+    record.address = address;
     record.requester = requester;
     record.number = number.into();
     cases::reply::frame_of(&record)
 }
 
 /// A request with this key. All its other fields are random. To one in 41 no answer is due.
-pub fn random_request(random: &mut Random, (requester, number): Key) -> Vec<u8> {
+pub fn random_request(random: &mut Random, (address, requester, number): Key) -> Vec<u8> {
     let mut record = cases::request::random_record(random);
+    record.address = address;
     record.requester = requester;
     record.number = number.into();
     cases::request::frame_of(&record)
@@ -70,7 +74,7 @@ pub const REQUEST_DAMAGES: [Patch; 17] = [
     (23, b"\n"),
     (23, b"\0"),
     (1, b"r"),
-    (2, b"0"),
+    (ADDRESS, b"-"),
     (3, b"["),
     (4, b"0 7"),
     (7, b"60000"),
@@ -92,7 +96,7 @@ pub const REPLY_DAMAGES: [Patch; 26] = [
     (reply::at::CR, b"\n"),
     (reply::at::CR, b"\0"),
     (1, b"r"),
-    (2, b"0"),
+    (reply::at::ADDRESS, b"-"),
     (reply::at::PROGRAM, b"\x1f"),
     (reply::at::MODE, b"\x7f"),
     (reply::at::STATUS, b"r"),
@@ -142,11 +146,15 @@ mod tests {
 
     #[test]
     fn frames_are_good_and_have_their_key() {
-        let record = Request::read(&request((b'z', 999))).expect("a request");
-        assert_eq!((record.requester, record.number), (b'z', 999));
-        for status in [R, E, Z] {
-            let frame = reply_with_bib(status, (b'a', 99_999), 59_999);
+        for address in *b" 09" {
+            let record = Request::read(&request((address, b'z', 999))).expect("a request");
+            assert_eq!(record.address, address);
+            assert_eq!((record.requester, record.number), (b'z', 999));
+        }
+        for (status, address) in [(R, b' '), (E, b'0'), (Z, b'9')] {
+            let frame = reply_with_bib(status, (address, b'a', 99_999), 59_999);
             let record = Reply::read(&frame).expect("a reply");
+            assert_eq!(record.address, address);
             assert_eq!((record.requester, record.number), (b'a', 99_999));
             assert_eq!((record.status, record.bib), (status, 59_999));
         }
@@ -165,11 +173,11 @@ mod tests {
 
     #[test]
     fn damages_reach_every_refusal() {
-        let request = request((b'1', 7));
+        let request = request((b' ', b'1', 7));
         let refusals =
             REQUEST_DAMAGES.map(|damage| Request::read(&patched(&request, damage)).err());
         check_refusals(&refusals, &[3, 4, 7, 12, 13, 16, 19, 22]);
-        let reply = reply(R, (b'1', 7));
+        let reply = reply(R, (b' ', b'1', 7));
         let refusals = REPLY_DAMAGES.map(|damage| Reply::read(&patched(&reply, damage)).err());
         check_refusals(
             &refusals,
@@ -179,7 +187,7 @@ mod tests {
 
     #[test]
     fn wrong_lengths() {
-        let [none, lead, shorter, longer] = of_wrong_length(&reply(R, (b'1', 7)));
+        let [none, lead, shorter, longer] = of_wrong_length(&reply(R, (b' ', b'1', 7)));
         assert_eq!(Reply::read(&none), Err(Refusal::Kind));
         assert_eq!([lead.len(), shorter.len(), longer.len()], [1, 50, 52]);
         for frame in [lead, shorter, longer] {

@@ -6,7 +6,7 @@ use crate::cases::Cases;
 use crate::desk::CELL;
 use crate::script::Change;
 
-const KEYS: [Key; 2] = [(b'1', 7), (b'A', 7)];
+const KEYS: [Key; 2] = [(b' ', b'1', 7), (b' ', b'A', 7)];
 
 /// What a mark holds if nothing was written to it.
 const LENT_MARK: u32 = 4_008_636_142;

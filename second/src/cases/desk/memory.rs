@@ -6,7 +6,7 @@ use crate::cases::Cases;
 use crate::desk::{Desk, CELL, MOST_CELLS};
 use crate::script::Change;
 
-const KEYS: [Key; 3] = [(b'1', 7), (b'A', 7), (b'z', 0)];
+const KEYS: [Key; 3] = [(b' ', b'1', 7), (b' ', b'A', 7), (b' ', b'z', 0)];
 
 /// Before anything is lent there is already a desk. It has seats, but no cells.
 pub fn add_nothing_lent(cases: &mut Cases) {
@@ -123,11 +123,11 @@ fn add_filled_desk(cases: &mut Cases) {
         Change::Seat(0, seat_of(KEYS[0], held, 0)),
         Change::Count(257),
     ]);
-    script.open(&request((b'b', 1)));
+    script.open(&request((b' ', b'b', 1)));
     script.reply(&last);
     script.held(0, 256);
     script.put_back(&full);
-    script.open(&request((b'b', 1)));
+    script.open(&request((b' ', b'b', 1)));
     script.reply(&last);
     // One wrong cell is enough to make it no desk, the first or the last.
     for cell in [0, MOST_CELLS - 1] {
@@ -144,7 +144,7 @@ fn add_filled_desk(cases: &mut Cases) {
 
 fn add_refusals_of_full_desk(script: &mut Script) {
     for (status, key) in [
-        (R, (b'1', 8)),
+        (R, (b' ', b'1', 8)),
         (R, KEYS[1]),
         (Z, KEYS[2]),
         (Z, KEYS[0]),

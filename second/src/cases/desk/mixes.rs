@@ -9,22 +9,25 @@ use crate::script::{self, Change};
 const LONGEST: usize = 4;
 
 pub fn add_all(cases: &mut Cases) {
-    add_pairs(cases);
-    add_desk_afterwards(cases);
+    for mixes in ["mixes", "mixes-by-address"] {
+        add_pairs(cases, mixes);
+        add_desk_afterwards(cases);
+    }
 }
 
-fn add_pairs(cases: &mut Cases) {
+/// Every pair of words in cases that begin with this word.
+fn add_pairs(cases: &mut Cases, mixes: &str) {
     let words = words();
     for first in &words {
         for second in &words {
-            cases.add_to_script(&format!("mixes {first} {second}"));
+            cases.add_to_script(&format!("{mixes} {first} {second}"));
         }
     }
 }
 
 /// The desk is empty and has eight cells. Nothing was written to them.
 fn add_desk_afterwards(cases: &mut Cases) {
-    const KEY: Key = (b'z', 9);
+    const KEY: Key = (b' ', b'z', 9);
     const LENT_MARK: u32 = 4_008_636_142;
     let mut script = Script::go_on(cases, script::lend(408, 8));
     script.used();
@@ -69,16 +72,22 @@ mod tests {
 
     #[test]
     fn every_pair_is_mixed() {
-        let mut cases = Cases::default();
-        add_pairs(&mut cases);
-        assert_eq!(cases.text.lines().count(), 2_025);
-        assert!(cases.text.starts_with("mixes - -\nmixes - R\n"));
+        for mixes in ["mixes", "mixes-by-address"] {
+            let mut cases = Cases::default();
+            add_pairs(&mut cases, mixes);
+            assert_eq!(cases.text.lines().count(), 2_025);
+            let first = format!("{mixes} - -\n{mixes} - R\n");
+            assert!(cases.text.starts_with(&first));
+        }
     }
 
     #[test]
     fn every_word_can_be_mixed() {
         for word in words() {
-            let script = format!("mixes {word} -\nmixes - {word}\n");
+            let script = format!(
+                "mixes {word} -\nmixes - {word}\nmixes-by-address {word} -\n\
+                 mixes-by-address - {word}\n"
+            );
             let answers = crate::answers::file(script.as_bytes()).expect("cases");
             assert!(answers.lines().all(|line| line.starts_with("1 ")), "{word}");
         }
@@ -86,21 +95,23 @@ mod tests {
 
     #[test]
     fn the_desk_afterwards_is_empty() {
-        let answers = outcomes(|cases| {
-            cases.add_to_script("bits 7");
-            cases.add_to_script("mixes R E");
-            add_desk_afterwards(cases);
-        });
-        let expected = ["0", "0 0 0", "0 0 0", "set", "1", "7", "none", "0 0 0"];
-        assert_eq!(answers[2..], expected);
+        for mixes in ["mixes R E", "mixes-by-address R E"] {
+            let answers = outcomes(|cases| {
+                cases.add_to_script("bits 7");
+                cases.add_to_script(mixes);
+                add_desk_afterwards(cases);
+            });
+            let expected = ["0", "0 0 0", "0 0 0", "set", "1", "7", "none", "0 0 0"];
+            assert_eq!(answers[2..], expected);
+        }
     }
 
     #[test]
     fn short_words_are_played() {
-        let script = "mixes - -\nmixes R E\nmixes RR ZE\n";
+        let script = "mixes - -\nmixes R E\nmixes-by-address R E\nmixes RR ZE\n";
         let answers = crate::answers::file(script.as_bytes()).expect("cases");
         let played = |line: &str| line.split(' ').next().map(str::to_string);
         let counts: Vec<_> = answers.lines().filter_map(played).collect();
-        assert_eq!(counts, ["1", "2", "6"]);
+        assert_eq!(counts, ["1", "2", "2", "6"]);
     }
 }

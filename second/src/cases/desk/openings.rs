@@ -22,15 +22,15 @@ pub fn add_all(cases: &mut Cases) {
 /// three of them after a reply: an R, an E and a Z.
 fn add_keys(cases: &mut Cases) {
     const KEYS: [Key; 9] = [
-        (b'0', 0),
-        (b'A', 7),
-        (b'a', 7),
-        (b'1', 7),
-        (b'A', 8),
-        (b'A', 70),
-        (b'A', 700),
-        (b'Z', 999),
-        (b'z', 999),
+        (b' ', b'0', 0),
+        (b' ', b'A', 7),
+        (b' ', b'a', 7),
+        (b' ', b'1', 7),
+        (b' ', b'A', 8),
+        (b' ', b'A', 70),
+        (b' ', b'A', 700),
+        (b' ', b'Z', 999),
+        (b' ', b'z', 999),
     ];
     let mut script = Script::lend_cells(cases, 3);
     script.open_all(&KEYS);
@@ -40,7 +40,7 @@ fn add_keys(cases: &mut Cases) {
         script.reply(&reply(status, key));
         script.open(&request(key));
     }
-    script.open(&request((b'A', 0)));
+    script.open(&request((b' ', b'A', 0)));
     script.used();
 }
 
@@ -49,12 +49,12 @@ fn add_keys(cases: &mut Cases) {
 fn add_letters(cases: &mut Cases) {
     let mut script = Script::lend(cases, 0, 0);
     for &letter in INFORMATION {
-        script.open(&request_for((b'1', 7), letter));
+        script.open(&request_for((b' ', b'1', 7), letter));
         script.reset();
     }
-    script.open(&request((b'1', 7)));
-    script.open(&request_for((b'1', 7), b'q'));
-    script.open(&request_for((b'1', 8), b'q'));
+    script.open(&request((b' ', b'1', 7)));
+    script.open(&request_for((b' ', b'1', 7), b'q'));
+    script.open(&request_for((b' ', b'1', 8), b'q'));
 }
 
 /// Requests with fields at their limits. A key in use stays in use if the other fields differ.
@@ -69,16 +69,16 @@ fn add_other_fields(cases: &mut Cases) {
 /// Every refusal of the reader: for a free key, for a key in use, and with all seats in use.
 fn add_reader_refusals(cases: &mut Cases) {
     let mut script = Script::lend(cases, 51, 1);
-    script.open(&request((b'A', 7)));
-    add_damaged(&mut script, (b'A', 8));
-    add_damaged(&mut script, (b'A', 7));
-    script.open(&reply(R, (b'A', 8)));
+    script.open(&request((b' ', b'A', 7)));
+    add_damaged(&mut script, (b' ', b'A', 8));
+    add_damaged(&mut script, (b' ', b'A', 7));
+    script.open(&reply(R, (b' ', b'A', 8)));
     script.open(b"\x13R 1A000150010020004125500301234567898200100S\r");
-    script.open(&request((b'A', 8)));
+    script.open(&request((b' ', b'A', 8)));
     let mut script = Script::lend(cases, 0, 0);
     use_seats(&mut script, 0xffff);
-    add_damaged(&mut script, (b'z', 0));
-    script.open(&request((b'z', 0)));
+    add_damaged(&mut script, (b' ', b'z', 0));
+    script.open(&request((b' ', b'z', 0)));
 }
 
 fn add_damaged(script: &mut Script, key: Key) {
@@ -98,25 +98,25 @@ fn add_seventeen(cases: &mut Cases) {
         script.open(&request(key_at(seat)));
         script.used();
     }
-    script.open(&request((b'z', 7)));
+    script.open(&request((b' ', b'z', 7)));
     for key in [key_at(0), key_at(7), key_at(15)] {
         script.open(&request(key));
         script.open(&request_for(key, b'q'));
     }
-    script.open(&request_for((b'z', 7), b'q'));
+    script.open(&request_for((b' ', b'z', 7), b'q'));
     // An ended seat is not free.
     script.reply(&reply(E, key_at(15)));
     script.reply(&reply(Z, key_at(0)));
     script.open(&request(key_at(15)));
-    script.open(&request((b'z', 7)));
+    script.open(&request((b' ', b'z', 7)));
     script.reset();
     script.used();
-    script.open(&request((b'z', 7)));
+    script.open(&request((b' ', b'z', 7)));
     script.open(&request(key_at(15)));
 }
 
 fn key_at(seat: usize) -> Key {
-    (b'A' + seat as u8, seat as u32)
+    (b' ', b'A' + seat as u8, seat as u32)
 }
 
 /// Puts these seats in use from outside.
@@ -138,9 +138,9 @@ fn add_gaps(cases: &mut Cases) {
         // Fills all gaps and asks for one seat more. If there are more than eight gaps, only nine
         // requests come.
         for number in 0..=gaps.min(8) {
-            script.open(&request((b'z', number as u32)));
+            script.open(&request((b' ', b'z', number as u32)));
         }
-        script.reply(&reply(R, (b'z', 0)));
+        script.reply(&reply(R, (b' ', b'z', 0)));
         script.used();
     }
 }

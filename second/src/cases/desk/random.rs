@@ -11,9 +11,17 @@ use crate::script::Change;
 
 const SCRIPTS: usize = 200;
 
-/// Few keys, so that the same key comes often. All but the last differ from another one in only one
-/// part.
-const KEYS: [Key; 5] = [(b'1', 7), (b'A', 7), (b'a', 7), (b'1', 8), (b'z', 0)];
+/// Few keys, so that the same key comes often. All but the last differ from the first in only one
+/// part: two in the address, two in the requester and one in the number.
+const KEYS: [Key; 7] = [
+    (b' ', b'1', 7),
+    (b'0', b'1', 7),
+    (b'3', b'1', 7),
+    (b' ', b'A', 7),
+    (b' ', b'a', 7),
+    (b' ', b'1', 8),
+    (b'9', b'z', 0),
+];
 
 pub fn add_all(cases: &mut Cases, random: &mut Random) {
     for _ in 0..SCRIPTS {
@@ -43,7 +51,7 @@ fn use_most_seats(script: &mut Script) {
     const FREE: [usize; 3] = [0, 6, 15];
     let mut bits = 0;
     for seat in (0..16).filter(|seat| !FREE.contains(seat)) {
-        let key = (b'B', seat as u32);
+        let key = (b' ', b'B', seat as u32);
         script.change(&Change::Seat(seat, seat_of(key, 0, 0)));
         bits |= 1 << seat;
     }
@@ -88,13 +96,23 @@ fn random_request(random: &mut Random) -> Vec<u8> {
 /// A stray, or a reply with a random change.
 fn random_reply(random: &mut Random) -> Vec<u8> {
     if random.once_in(3) {
-        let (requester, number) = random.pick(&KEYS);
-        let number = number + random.pick(&[1, 2, 1_000, 65_536]);
-        return reply_with_bib(R, (requester, number), 1);
+        return reply_with_bib(R, stray_key(random), 1);
     }
     let mut frame = good_reply(random);
     befall_at_random(&mut frame, &reply::NUMBERS, random);
     frame
+}
+
+/// One of the keys with another address or another number. Sometimes another request has that key.
+fn stray_key(random: &mut Random) -> Key {
+    let (address, requester, number) = random.pick(&KEYS);
+    match random.below(3) {
+        0 => (random.pick(b"0159"), requester, number),
+        _ => {
+            let number = number + random.pick(&[1, 2, 1_000, 65_536]);
+            (address, requester, number)
+        }
+    }
 }
 
 fn add_look(script: &mut Script, random: &mut Random) {
@@ -134,17 +152,18 @@ pub fn random_change(desk: &Desk, random: &mut Random) -> Change {
     }
 }
 
-/// Changes one byte of a cell: the status, the requester, the last digit of the number, or any
-/// byte. Usually the cell is not free.
+/// Changes one byte of a cell: the status, the address, the requester, the last digit of the
+/// number, or any byte. Usually the cell is not free.
 fn random_cell(desk: &Desk, random: &mut Random) -> Change {
     let cells = desk.cells.len() / CELL;
     let taken = usize::try_from(desk.count).map_or(cells, |count| count.clamp(1, cells));
     let among = if random.once_in(4) { cells } else { taken };
     let first = random.place(among) * CELL;
-    let (offset, code) = match random.below(6) {
+    let (offset, code) = match random.below(7) {
         0..=2 => (at::STATUS, random.pick(&[R, E, Z])),
-        3 => (at::REQUESTER, random.pick(b"1AaBz[")),
-        4 => (at::NUMBER + 4, random.pick(b"078")),
+        3 => (at::ADDRESS, random.pick(b" 039-/")),
+        4 => (at::REQUESTER, random.pick(b"1AaBz[")),
+        5 => (at::NUMBER + 4, random.pick(b"078")),
         _ => (random.place(CELL), random.byte()),
     };
     Change::Cell(first + offset, vec![code])
@@ -154,10 +173,11 @@ fn random_cell(desk: &Desk, random: &mut Random) -> Change {
 fn random_seat(desk: &Desk, random: &mut Random) -> Change {
     let place = random.pick(&[0, 0, 1, 1, 2, 3, 15]);
     let mut seat: Seat = desk.seats[place];
-    match random.below(4) {
-        0 => seat.requester = random.pick(&[0, 49, 65, 66, 91, 97, 304]),
-        1 => seat.number = random.pick(&[0, 7, 8, 999, 1_000, 65_543]),
-        2 => seat.held = random.pick(&[0, 1, 2, 3, 257]),
+    match random.below(5) {
+        0 => seat.address = random.pick(&[0, 31, 32, 45, 48, 51, 57, 304]),
+        1 => seat.requester = random.pick(&[0, 49, 65, 66, 91, 97, 304]),
+        2 => seat.number = random.pick(&[0, 7, 8, 999, 1_000, 65_543]),
+        3 => seat.held = random.pick(&[0, 1, 2, 3, 257]),
         _ => seat.ended = random.pick(&[0, 1, 2]),
     }
     Change::Seat(place, seat)

@@ -7,9 +7,9 @@ use super::script::Script;
 use crate::cases::Cases;
 use crate::desk::SEATS;
 
-const ONE: Key = (b'1', 7);
-const OTHER: Key = (b'A', 7);
-const THIRD: Key = (b'z', 0);
+const ONE: Key = (b' ', b'1', 7);
+const OTHER: Key = (b' ', b'A', 7);
+const THIRD: Key = (b' ', b'z', 0);
 
 pub fn add_all(cases: &mut Cases) {
     add_example(cases);
@@ -63,25 +63,25 @@ fn add_same_reply(cases: &mut Cases) {
 fn add_strays(cases: &mut Cases) {
     let mut script = Script::lend_cells(cases, 4);
     script.reply(&reply(R, ONE));
-    script.open_all(&[ONE, OTHER, THIRD, (b'a', 999)]);
+    script.open_all(&[ONE, OTHER, THIRD, (b' ', b'a', 999)]);
     for number in [
         0, 6, 8, 70, 77, 700, 999, 1_000, 1_007, 7_007, 10_007, 65_543, 99_999,
     ] {
-        script.reply(&reply(R, (b'1', number)));
+        script.reply(&reply(R, (b' ', b'1', number)));
     }
     for stray in [
-        (b'a', 7),
-        (b'B', 7),
-        (b'0', 7),
-        (b'Z', 0),
-        (b'z', 1_000),
-        (b'z', 65_536),
-        (b'a', 1_999),
-        (b'A', 999),
+        (b' ', b'a', 7),
+        (b' ', b'B', 7),
+        (b' ', b'0', 7),
+        (b' ', b'Z', 0),
+        (b' ', b'z', 1_000),
+        (b' ', b'z', 65_536),
+        (b' ', b'a', 1_999),
+        (b' ', b'A', 999),
     ] {
         script.reply(&reply(Z, stray));
     }
-    for key in [ONE, OTHER, THIRD, (b'a', 999)] {
+    for key in [ONE, OTHER, THIRD, (b' ', b'a', 999)] {
         script.reply(&reply(R, key));
     }
 }
@@ -96,8 +96,8 @@ fn add_full_desk(cases: &mut Cases) {
             script.reply(&reply_with_bib(R, ONE, bib));
         }
         let frames = [
-            reply(R, (b'z', 1)),
-            reply(Z, (b'1', 1_007)),
+            reply(R, (b' ', b'z', 1)),
+            reply(Z, (b' ', b'1', 1_007)),
             reply(R, OTHER),
             reply(E, OTHER),
             reply(Z, OTHER),
@@ -107,13 +107,13 @@ fn add_full_desk(cases: &mut Cases) {
             reply(R, THIRD),
             reply(Z, THIRD),
             patched(&reply(R, ONE), (5, b"Q")),
-            patched(&reply(Z, (b'z', 1)), (50, b"\n")),
+            patched(&reply(Z, (b' ', b'z', 1)), (50, b"\n")),
         ];
         for frame in &frames {
             script.reply(frame);
         }
         // Opening needs no cell, and a reset frees all cells.
-        script.open(&request((b'z', 1)));
+        script.open(&request((b' ', b'z', 1)));
         script.reset();
         script.open_all(&[THIRD]);
         script.reply(&reply(Z, THIRD));
@@ -166,7 +166,7 @@ fn add_all_kinds(cases: &mut Cases) {
 /// three there is no free cell.
 fn add_all_seats(cases: &mut Cases) {
     let keys: Vec<Key> = (0..SEATS)
-        .map(|seat| (b'0' + seat as u8 % 4, seat as u32 / 4))
+        .map(|seat| (b' ', b'0' + seat as u8 % 4, seat as u32 / 4))
         .collect();
     let mut script = Script::lend_cells(cases, 2 * SEATS - 3);
     script.open_all(&keys);

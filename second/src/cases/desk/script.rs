@@ -102,8 +102,9 @@ impl<'a> Script<'a> {
 }
 
 /// The record of a seat with this key and these values.
-pub fn seat_of((requester, number): Key, held: u32, ended: u32) -> Seat {
+pub fn seat_of((address, requester, number): Key, held: u32, ended: u32) -> Seat {
     Seat {
+        address: address.into(),
         requester: requester.into(),
         number,
         held,
@@ -174,13 +175,13 @@ pub mod tests {
     fn what_was_changed_is_put_back() {
         let mut cases = Cases::default();
         let mut script = Script::lend_cells(&mut cases, 2);
-        script.open_all(&[(b'1', 7)]);
-        script.reply(&reply(R, (b'1', 7)));
+        script.open_all(&[(b' ', b'1', 7)]);
+        script.reply(&reply(R, (b' ', b'1', 7)));
         let kept = script.desk().clone();
         script.change_all(&[
             Change::Bits(9),
             Change::Count(7),
-            Change::Seat(15, seat_of((b'2', 8), 3, 4)),
+            Change::Seat(15, seat_of((b' ', b'2', 8), 3, 4)),
             Change::Mark(0, 5),
             Change::Cell(6, vec![1, 2]),
         ]);
@@ -193,7 +194,7 @@ pub mod tests {
             [
                 "cell 6 3130",
                 "mark 0 0",
-                "seat 15 0 0 0 0",
+                "seat 15 0 0 0 0 0",
                 "count 1",
                 "bits 1"
             ]

@@ -2,9 +2,10 @@
 
 use super::{frame_of, random_record, ABSENT, CLOCK, LENGTH, NET, NUMBERS, RAW, STATUSES};
 use crate::cases::frames::{
-    at_lengths, befall_at_random, faults_of, neighbours_and_tails, number_of_faults, put,
-    with_blank_numbers, with_faults, with_number_edges, with_surround_faults, WrongField,
-    NOT_PRINTABLE, REQUESTER_EDGES, TIMES,
+    at_lengths, befall_at_random, faults_around, faults_of, neighbours_and_tails, number_of_faults,
+    put, to_damage_by_address, with_address_edges, with_addresses_and_faults, with_blank_numbers,
+    with_faults, with_number_edges, with_surround_faults, WrongField, NOT_PRINTABLE,
+    REQUESTER_EDGES, TIMES,
 };
 use crate::cases::{replaced, Cases};
 use crate::random::Random;
@@ -40,6 +41,7 @@ const WRONG_FIELDS: [WrongField; 14] = [
 pub fn add_all(cases: &mut Cases, seed: u64) {
     add_damages(cases);
     add_surroundings(cases);
+    add_addresses(cases);
     add_fields(cases);
     add_runs(cases);
     add_letters(cases);
@@ -53,6 +55,14 @@ pub fn add_all(cases: &mut Cases, seed: u64) {
 
 fn add_read(cases: &mut Cases, frame: &[u8]) {
     cases.add(format!("read-reply {}", bytes_text(frame)));
+}
+
+fn add_damage(cases: &mut Cases, frame: &[u8]) {
+    cases.add(format!("damage-reply {}", bytes_text(frame)));
+}
+
+fn add_value(cases: &mut Cases, frame: &[u8]) {
+    cases.add(format!("read-reply-value {}", bytes_text(frame)));
 }
 
 fn add_reads(cases: &mut Cases, frames: &[Vec<u8>]) {
@@ -73,7 +83,7 @@ fn add_damages(cases: &mut Cases) {
     ];
     let frames = [CLOCK, NET, RAW, ABSENT].map(|frame| frame.to_vec());
     for frame in frames.iter().chain(&others) {
-        cases.add(format!("damage-reply {}", bytes_text(frame)));
+        add_damage(cases, frame);
     }
 }
 
@@ -109,6 +119,22 @@ fn add_surroundings(cases: &mut Cases) {
     for (frame, (low, first), (high, second)) in two_faults {
         let frame = replaced(frame, low, first);
         add_read(cases, &replaced(&frame, high, second));
+    }
+}
+
+fn add_addresses(cases: &mut Cases) {
+    let addressed = with_address_edges(NET);
+    add_reads(cases, &addressed);
+    let around = faults_around::<Reply>(b"\x13");
+    add_reads(
+        cases,
+        &with_addresses_and_faults(NET, WRONG_FIELDS[0], &around),
+    );
+    for frame in &addressed {
+        add_value(cases, frame);
+    }
+    for frame in to_damage_by_address(CLOCK, &WRONG_FIELDS) {
+        add_damage(cases, &frame);
     }
 }
 
@@ -297,7 +323,7 @@ fn add_values(cases: &mut Cases, random: &mut Random) {
         frames.push(random_frame(random));
     }
     for frame in frames.iter().filter(|frame| frame.len() == LENGTH) {
-        cases.add(format!("read-reply-value {}", bytes_text(frame)));
+        add_value(cases, frame);
     }
 }
 

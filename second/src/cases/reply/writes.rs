@@ -5,7 +5,7 @@ use super::{
     STATUSES,
 };
 use crate::cases::frames::{
-    any_number, neighbours_and_tails, number_of_faults, LARGEST, REQUESTER_EDGES,
+    any_number, neighbours_and_tails, number_of_faults, ADDRESS_EDGES, LARGEST, REQUESTER_EDGES,
 };
 use crate::cases::Cases;
 use crate::frame::Kind;
@@ -39,6 +39,7 @@ const FAR_BEYOND: [u64; 2] = [65_536, LARGEST];
 
 pub fn add_all(cases: &mut Cases, seed: u64) {
     add_rooms(cases);
+    add_addresses(cases);
     add_letters(cases);
     add_numbers(cases);
     add_timing_kinds(cases);
@@ -101,6 +102,29 @@ fn add_rooms(cases: &mut Cases) {
             add_write(cases, room, &record);
         }
         add_value(cases, &record);
+    }
+}
+
+/// Every byte as the address, with enough room. The bytes at the edges come again in other records,
+/// with a wrong part behind them, with one byte too little and to a value.
+fn add_addresses(cases: &mut Cases) {
+    let base = record_of(NET);
+    for address in 0..=u8::MAX {
+        let record = Reply {
+            address,
+            ..base.clone()
+        };
+        add_write(cases, LENGTH, &record);
+    }
+    for address in ADDRESS_EDGES {
+        let mut record = Reply {
+            address,
+            ..record_of(RAW)
+        };
+        add_value(cases, &record);
+        add_write(cases, LENGTH - 1, &record);
+        record.program = 0x7f;
+        add_both(cases, &record);
     }
 }
 
@@ -336,7 +360,8 @@ fn add_left_overs(cases: &mut Cases) {
 type Spoil = (usize, fn(&mut Reply));
 
 /// By rising offset.
-const SPOILS: [Spoil; 15] = [
+const SPOILS: [Spoil; 16] = [
+    (at::ADDRESS, |record| record.address = b'!'),
     (at::PROGRAM, |record| record.program = 0x7f),
     (at::MODE, |record| record.mode = 0),
     (at::STATUS, |record| record.status = b'X'),
@@ -410,7 +435,7 @@ fn spoil_at_random(record: &mut Reply, random: &mut Random) {
         at::REQUESTER,
         at::INFORMATION,
     ];
-    match random.below(8) {
+    match random.below(9) {
         0 => set_letter(record, random.pick(&letters), random.byte()),
         1 | 2 => {
             let (offset, _, _) = random.pick(&NUMBERS);
@@ -422,7 +447,8 @@ fn spoil_at_random(record: &mut Reply, random: &mut Random) {
             let part = random.pick(&[at::TIME, at::DATE, at::SPARE]);
             set_raw(record, part, random.place(10), random.byte());
         }
-        6 => record.timing = random_timing(random),
+        6 => record.address = random.pick(&ADDRESS_EDGES),
+        7 => record.timing = random_timing(random),
         _ => record.raw_time = random_raw_bytes(random),
     }
 }

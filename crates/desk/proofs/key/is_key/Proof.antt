@@ -1,12 +1,12 @@
 -- `desk::key::is_key` meets its contract. Assumes nothing.
 use borrow.Author.Needs.{needs}
-use Rattle.frames.specs.Rules.{isRequester, between}
+use Rattle.frames.specs.Rules.{isAddress, isRequester, between}
 use Rattle.desk.specs.Key.{isKey}
 use Rattle.desk.proofs.key.is_key.Statement.{statement}
 use Rattle.desk.proofs.key.is_key.Tie as tie
 
 returns : tie.Need-returns
-unfolding isKey isRequester between
+unfolding isKey isAddress isRequester between
 returns c = search needs
 
 pub is-key-spec : {M : Type 1} → statement M

@@ -42,10 +42,13 @@ number-or-none-requires-9 c κs = search needs
 byte-at-requires-3 : tie.Need-byte-at-requires-3
 byte-at-requires-3 c κs = search needs
 
+byte-at-requires-4 : tie.Need-byte-at-requires-4
+byte-at-requires-4 c κs = search needs
+
 returns : tie.Need-returns
 returns c =
     rw (
-      c .byte-at3 .ensures,
+      c .byte-at4 .ensures,
       c .before .number-or-none9 .ensures,
       c .before .before .number-or-none8 .ensures,
       c .before .before .before .clock-or-none .ensures,
@@ -56,8 +59,9 @@ returns c =
       c .before .before .before .before .before .before .before .before .number-or-none3 .ensures,
       c .before .before .before .before .before .before .before .before .before .number-or-none2 .ensures,
       c .before .before .before .before .before .before .before .before .before .before .number-or-none .ensures,
-      c .before .before .before .before .before .before .before .before .before .before .before .byte-at2 .ensures,
-      c .before .before .before .before .before .before .before .before .before .before .before .before .byte-at .ensures,
+      c .before .before .before .before .before .before .before .before .before .before .before .byte-at3 .ensures,
+      c .before .before .before .before .before .before .before .before .before .before .before .before .byte-at2 .ensures,
+      c .before .before .before .before .before .before .before .before .before .before .before .before .before .byte-at .ensures,
     )
 
 pub dynamic-at-spec : {M : Type 1} → statement M
@@ -66,6 +70,7 @@ dynamic-at-spec =
     (tie.spec
     byte-at-requires
     byte-at-requires-2
+    byte-at-requires-3
     number-or-none-requires
     number-or-none-requires-2
     number-or-none-requires-3
@@ -76,5 +81,5 @@ dynamic-at-spec =
     clock-or-none-requires
     number-or-none-requires-8
     number-or-none-requires-9
-    byte-at-requires-3
+    byte-at-requires-4
     returns)

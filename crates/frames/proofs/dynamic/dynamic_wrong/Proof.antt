@@ -70,31 +70,39 @@ is-requester-requires c κs = search needs
 wrong-unless-requires-13 : tie.Need-wrong-unless-requires-13
 wrong-unless-requires-13 c κs = search needs
 
+is-address-requires : tie.Need-is-address-requires
+is-address-requires c κs = search needs
+
+wrong-unless-requires-14 : tie.Need-wrong-unless-requires-14
+wrong-unless-requires-14 c κs = search needs
+
 returns : tie.Need-returns
 unfolding wrongIn dynamicFields recordWrong upTo
 returns c =
     rw (
-      c .wrong-unless13 .ensures,
-      c .before .is-requester .ensures,
-      c .before .before .wrong-unless12 .ensures,
-      c .before .before .before .is-order .ensures,
-      c .before .before .before .before .wrong-unless11 .ensures,
-      c .before .before .before .before .before .before .wrong-unless10 .ensures,
-      c .before .before .before .before .before .before .before .is-dynamic-channel2 .ensures,
-      c .before .before .before .before .before .before .before .before .wrong-unless9 .ensures,
-      c .before .before .before .before .before .before .before .before .before .before .wrong-unless8 .ensures,
-      c .before .before .before .before .before .before .before .before .before .before .before .within2 .ensures,
-      c .before .before .before .before .before .before .before .before .before .before .before .before .wrong-unless7 .ensures,
-      c .before .before .before .before .before .before .before .before .before .before .before .before .before .is-dynamic-channel .ensures,
-      c .before .before .before .before .before .before .before .before .before .before .before .before .before .before .wrong-unless6 .ensures,
-      c .before .before .before .before .before .before .before .before .before .before .before .before .before .before .before .before .wrong-unless5 .ensures,
-      c .before .before .before .before .before .before .before .before .before .before .before .before .before .before .before .before .before .before .wrong-unless4 .ensures,
-      c .before .before .before .before .before .before .before .before .before .before .before .before .before .before .before .before .before .before .before .before .wrong-unless3 .ensures,
-      c .before .before .before .before .before .before .before .before .before .before .before .before .before .before .before .before .before .before .before .before .before .before .wrong-unless2 .ensures,
-      c .before .before .before .before .before .before .before .before .before .before .before .before .before .before .before .before .before .before .before .before .before .before .before .within .ensures,
-      c .before .before .before .before .before .before .before .before .before .before .before .before .before .before .before .before .before .before .before .before .before .before .before .before .least-period .ensures,
-      c .before .before .before .before .before .before .before .before .before .before .before .before .before .before .before .before .before .before .before .before .before .before .before .before .before .wrong-unless .ensures,
-      c .before .before .before .before .before .before .before .before .before .before .before .before .before .before .before .before .before .before .before .before .before .before .before .before .before .before .is-output .ensures,
+      c .wrong-unless14 .ensures,
+      c .before .is-address .ensures,
+      c .before .before .wrong-unless13 .ensures,
+      c .before .before .before .is-requester .ensures,
+      c .before .before .before .before .wrong-unless12 .ensures,
+      c .before .before .before .before .before .is-order .ensures,
+      c .before .before .before .before .before .before .wrong-unless11 .ensures,
+      c .before .before .before .before .before .before .before .before .wrong-unless10 .ensures,
+      c .before .before .before .before .before .before .before .before .before .is-dynamic-channel2 .ensures,
+      c .before .before .before .before .before .before .before .before .before .before .wrong-unless9 .ensures,
+      c .before .before .before .before .before .before .before .before .before .before .before .before .wrong-unless8 .ensures,
+      c .before .before .before .before .before .before .before .before .before .before .before .before .before .within2 .ensures,
+      c .before .before .before .before .before .before .before .before .before .before .before .before .before .before .wrong-unless7 .ensures,
+      c .before .before .before .before .before .before .before .before .before .before .before .before .before .before .before .is-dynamic-channel .ensures,
+      c .before .before .before .before .before .before .before .before .before .before .before .before .before .before .before .before .wrong-unless6 .ensures,
+      c .before .before .before .before .before .before .before .before .before .before .before .before .before .before .before .before .before .before .wrong-unless5 .ensures,
+      c .before .before .before .before .before .before .before .before .before .before .before .before .before .before .before .before .before .before .before .before .wrong-unless4 .ensures,
+      c .before .before .before .before .before .before .before .before .before .before .before .before .before .before .before .before .before .before .before .before .before .before .wrong-unless3 .ensures,
+      c .before .before .before .before .before .before .before .before .before .before .before .before .before .before .before .before .before .before .before .before .before .before .before .before .wrong-unless2 .ensures,
+      c .before .before .before .before .before .before .before .before .before .before .before .before .before .before .before .before .before .before .before .before .before .before .before .before .before .within .ensures,
+      c .before .before .before .before .before .before .before .before .before .before .before .before .before .before .before .before .before .before .before .before .before .before .before .before .before .before .least-period .ensures,
+      c .before .before .before .before .before .before .before .before .before .before .before .before .before .before .before .before .before .before .before .before .before .before .before .before .before .before .before .wrong-unless .ensures,
+      c .before .before .before .before .before .before .before .before .before .before .before .before .before .before .before .before .before .before .before .before .before .before .before .before .before .before .before .before .is-output .ensures,
     )
 
 pub dynamic-wrong-spec : {M : Type 1} → statement M
@@ -122,4 +130,6 @@ dynamic-wrong-spec =
     wrong-unless-requires-12
     is-requester-requires
     wrong-unless-requires-13
+    is-address-requires
+    wrong-unless-requires-14
     returns)

@@ -17,11 +17,14 @@ timing-wrong-at-requires c κs = search needs
 head-wrong-requires : tie.Need-head-wrong-requires
 head-wrong-requires c κs = search needs
 
+cast-address : tie.Need-cast-address
+cast-address c = search needs
+
 cast-requester : tie.Need-cast-requester
 cast-requester c = search needs
 
 returns : tie.Need-returns
-returns c = checked-good _ _ (c .before .before .head-wrong .ensures ∙ rw (c .before .before .before .timing-wrong-at .ensures, c .before .before .before .before .kind-of .ensures, c .before .before .before .before .before .head-at .ensures)) _ (c .before .before .before .before .before .head-at .ensures) (c .before .if1 .taken)
+returns c = checked-good _ _ (c .before .before .before .head-wrong .ensures ∙ rw (c .before .before .before .before .timing-wrong-at .ensures, c .before .before .before .before .before .kind-of .ensures, c .before .before .before .before .before .before .head-at .ensures)) _ (c .before .before .before .before .before .before .head-at .ensures) (c .before .before .if1 .taken)
 
 returns-2 : tie.Need-returns-2
 returns-2 c = checked-bad _ _ (c .before .head-wrong .ensures ∙ rw (c .before .before .timing-wrong-at .ensures, c .before .before .before .kind-of .ensures, c .before .before .before .before .head-at .ensures)) (c .if1 .left)
@@ -34,6 +37,7 @@ fields-checked-spec =
     kind-of-requires
     timing-wrong-at-requires
     head-wrong-requires
+    cast-address
     cast-requester
     returns
     returns-2)

@@ -36,20 +36,24 @@ number-or-none-requires-6 c κs = search needs
 byte-at-requires-5 : tie.Need-byte-at-requires-5
 byte-at-requires-5 c κs = search needs
 
+byte-at-requires-6 : tie.Need-byte-at-requires-6
+byte-at-requires-6 c κs = search needs
+
 returns : tie.Need-returns
 returns c =
     rw (
-      c .byte-at5 .ensures,
+      c .byte-at6 .ensures,
       c .before .number-or-none6 .ensures,
       c .before .before .number-or-none5 .ensures,
       c .before .before .before .number-or-none4 .ensures,
       c .before .before .before .before .number-or-none3 .ensures,
       c .before .before .before .before .before .number-or-none2 .ensures,
       c .before .before .before .before .before .before .number-or-none .ensures,
-      c .before .before .before .before .before .before .before .byte-at4 .ensures,
-      c .before .before .before .before .before .before .before .before .byte-at3 .ensures,
-      c .before .before .before .before .before .before .before .before .before .byte-at2 .ensures,
-      c .before .before .before .before .before .before .before .before .before .before .byte-at .ensures,
+      c .before .before .before .before .before .before .before .byte-at5 .ensures,
+      c .before .before .before .before .before .before .before .before .byte-at4 .ensures,
+      c .before .before .before .before .before .before .before .before .before .byte-at3 .ensures,
+      c .before .before .before .before .before .before .before .before .before .before .byte-at2 .ensures,
+      c .before .before .before .before .before .before .before .before .before .before .before .byte-at .ensures,
     )
 
 pub head-at-spec : {M : Type 1} → statement M
@@ -60,11 +64,12 @@ head-at-spec =
     byte-at-requires-2
     byte-at-requires-3
     byte-at-requires-4
+    byte-at-requires-5
     number-or-none-requires
     number-or-none-requires-2
     number-or-none-requires-3
     number-or-none-requires-4
     number-or-none-requires-5
     number-or-none-requires-6
-    byte-at-requires-5
+    byte-at-requires-6
     returns)

@@ -15,10 +15,16 @@ timing-wrong-requires c κs = search needs
 head-wrong-requires : tie.Need-head-wrong-requires
 head-wrong-requires c κs = search needs
 
+is-address-requires : tie.Need-is-address-requires
+is-address-requires c κs = search needs
+
+wrong-unless-requires : tie.Need-wrong-unless-requires
+wrong-unless-requires c κs = search needs
+
 returns : tie.Need-returns
-returns c = c .head-wrong .ensures ∙ rw (c .before .timing-wrong .ensures, c .before .before .before .before .before .kind-of .ensures) (reply-wrong-is (c .before .before .before .before .before .before .before .args .r))
+returns c = c .wrong-unless .ensures ∙ rw (c .before .is-address .ensures, c .before .before .head-wrong .ensures, c .before .before .before .timing-wrong .ensures, c .before .before .before .before .before .before .before .kind-of .ensures) (reply-wrong-is (c .before .before .before .before .before .before .before .before .before .args .r))
 
 pub reply-wrong-spec : {M : Type 1} → statement M
 reply-wrong-spec =
     tie.close
-    (tie.spec kind-of-requires timing-wrong-requires head-wrong-requires returns)
+    (tie.spec kind-of-requires timing-wrong-requires head-wrong-requires is-address-requires wrong-unless-requires returns)

@@ -27,17 +27,21 @@ number-or-none-requires-5 c κs = search needs
 byte-at-requires-3 : tie.Need-byte-at-requires-3
 byte-at-requires-3 c κs = search needs
 
+byte-at-requires-4 : tie.Need-byte-at-requires-4
+byte-at-requires-4 c κs = search needs
+
 returns : tie.Need-returns
 returns c =
     rw (
-      c .byte-at3 .ensures,
+      c .byte-at4 .ensures,
       c .before .number-or-none5 .ensures,
       c .before .before .number-or-none4 .ensures,
       c .before .before .before .number-or-none3 .ensures,
-      c .before .before .before .before .byte-at2 .ensures,
+      c .before .before .before .before .byte-at3 .ensures,
       c .before .before .before .before .before .number-or-none2 .ensures,
       c .before .before .before .before .before .before .number-or-none .ensures,
-      c .before .before .before .before .before .before .before .byte-at .ensures,
+      c .before .before .before .before .before .before .before .byte-at2 .ensures,
+      c .before .before .before .before .before .before .before .before .byte-at .ensures,
     )
 
 pub request-at-spec : {M : Type 1} → statement M
@@ -45,11 +49,12 @@ request-at-spec =
     tie.close
     (tie.spec
     byte-at-requires
+    byte-at-requires-2
     number-or-none-requires
     number-or-none-requires-2
-    byte-at-requires-2
+    byte-at-requires-3
     number-or-none-requires-3
     number-or-none-requires-4
     number-or-none-requires-5
-    byte-at-requires-3
+    byte-at-requires-4
     returns)

@@ -43,22 +43,30 @@ is-requester-requires c κs = search needs
 wrong-unless-requires-8 : tie.Need-wrong-unless-requires-8
 wrong-unless-requires-8 c κs = search needs
 
+is-address-requires : tie.Need-is-address-requires
+is-address-requires c κs = search needs
+
+wrong-unless-requires-9 : tie.Need-wrong-unless-requires-9
+wrong-unless-requires-9 c κs = search needs
+
 returns : tie.Need-returns
 unfolding wrongIn requestFields recordWrong upTo
 returns c =
     rw (
-      c .wrong-unless8 .ensures,
-      c .before .is-requester .ensures,
-      c .before .before .wrong-unless7 .ensures,
-      c .before .before .before .before .wrong-unless6 .ensures,
-      c .before .before .before .before .before .before .wrong-unless5 .ensures,
-      c .before .before .before .before .before .before .before .is-information .ensures,
-      c .before .before .before .before .before .before .before .before .wrong-unless4 .ensures,
-      c .before .before .before .before .before .before .before .before .before .is-request-channel .ensures,
-      c .before .before .before .before .before .before .before .before .before .before .wrong-unless3 .ensures,
-      c .before .before .before .before .before .before .before .before .before .before .before .before .wrong-unless2 .ensures,
-      c .before .before .before .before .before .before .before .before .before .before .before .before .before .before .wrong-unless .ensures,
-      c .before .before .before .before .before .before .before .before .before .before .before .before .before .before .before .is-output .ensures,
+      c .wrong-unless9 .ensures,
+      c .before .is-address .ensures,
+      c .before .before .wrong-unless8 .ensures,
+      c .before .before .before .is-requester .ensures,
+      c .before .before .before .before .wrong-unless7 .ensures,
+      c .before .before .before .before .before .before .wrong-unless6 .ensures,
+      c .before .before .before .before .before .before .before .before .wrong-unless5 .ensures,
+      c .before .before .before .before .before .before .before .before .before .is-information .ensures,
+      c .before .before .before .before .before .before .before .before .before .before .wrong-unless4 .ensures,
+      c .before .before .before .before .before .before .before .before .before .before .before .is-request-channel .ensures,
+      c .before .before .before .before .before .before .before .before .before .before .before .before .wrong-unless3 .ensures,
+      c .before .before .before .before .before .before .before .before .before .before .before .before .before .before .wrong-unless2 .ensures,
+      c .before .before .before .before .before .before .before .before .before .before .before .before .before .before .before .before .wrong-unless .ensures,
+      c .before .before .before .before .before .before .before .before .before .before .before .before .before .before .before .before .before .is-output .ensures,
     )
 
 pub request-wrong-spec : {M : Type 1} → statement M
@@ -77,4 +85,6 @@ request-wrong-spec =
     wrong-unless-requires-7
     is-requester-requires
     wrong-unless-requires-8
+    is-address-requires
+    wrong-unless-requires-9
     returns)

@@ -52,7 +52,7 @@ returns-2 : tie.Need-returns-2
 returns-2 c =
     let start = c .before .before .before .before .before .before .before .before .before .before .before .before .before .before .before .before .before .before in
     let a = start .args in
-    put-together (a .seat) (a .frame .now) (replicate 53 0) _ _ _ _ (start .pre) (length-replicate {A = ℕ} 53 0) (a .out .now) (a .at) _ _ _ _ (omega (arith, start))
+    put-together (a .seat) (a .frame .now) (replicate 55 0) _ _ _ _ (start .pre) (length-replicate {A = ℕ} 55 0) (a .out .now) (a .at) _ _ _ _ (omega (arith, start))
     (c .before .before .before .before .before .before .before .before .before .before .before .before .before .put-columns .ensures) (c .before .before .before .before .before .before .before .before .before .before .put-one .ensures) (c .before .before .before .before .before .before .before .put-decimal .ensures) (c .before .before .put-text .ensures)
 
 pub put-row-spec : {M : Type 1} → statement M

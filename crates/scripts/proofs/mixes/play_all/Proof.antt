@@ -5,10 +5,10 @@ use Rattle.scripts.proofs.mixes.play_all.Statement.{statement}
 use Rattle.scripts.proofs.mixes.play_all.Tie as tie
 
 abbrev Inv-loop : tie.InvT-loop
-Inv-loop s b n p₀ m₀ p m = m ≤ 256
+Inv-loop s apart b n p₀ m₀ p m = m ≤ 256
 
 abbrev μ-loop : tie.MeasureT-loop
-μ-loop s b n p₀ m₀ p m = 256 - m
+μ-loop s apart b n p₀ m₀ p m = 256 - m
 
 loop-holds : tie.Need-loop-holds Inv-loop μ-loop
 loop-holds c = search needs

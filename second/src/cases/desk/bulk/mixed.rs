@@ -2,18 +2,21 @@
 //! left.
 
 use super::{add_call, add_look};
+use crate::cases::desk::frames::Key;
 use crate::cases::desk::script::Script;
 use crate::cases::Cases;
 use crate::random::Random;
 use crate::script;
 
 pub fn add(cases: &mut Cases, random: &mut Random) {
+    const KEYS: [Key; 3] = [(b' ', b'1', 7), (b' ', b'A', 7), (b'0', b'1', 7)];
+    let mixes = random.pick(&["mixes", "mixes-by-address"]);
     let (first, second) = (word(random), word(random));
-    cases.add_to_script(&format!("mixes {first} {second}"));
+    cases.add_to_script(&format!("{mixes} {first} {second}"));
     let mut script = Script::go_on(cases, script::lend(408, 8));
     for _ in 0..random.below(6) {
         add_look(&mut script, random);
-        add_call(&mut script, &[(b'1', 7), (b'A', 7)], random);
+        add_call(&mut script, &KEYS, random);
     }
 }
 

@@ -115,10 +115,11 @@ fn nudge_number(number: &mut u32, random: &mut Random) {
 }
 
 fn nudge_seat(seat: &mut Seat, random: &mut Random) {
-    let part = match random.below(6) {
-        0 => &mut seat.requester,
-        1 => &mut seat.number,
-        2 | 3 => &mut seat.held,
+    let part = match random.below(7) {
+        0 => &mut seat.address,
+        1 => &mut seat.requester,
+        2 => &mut seat.number,
+        3 | 4 => &mut seat.held,
         _ => &mut seat.ended,
     };
     nudge_number(part, random);

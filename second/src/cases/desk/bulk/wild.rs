@@ -3,7 +3,7 @@
 
 use super::{add_call, add_look, lend, open_keys, random_key};
 use crate::cases::desk::frames::random_reply;
-use crate::cases::desk::script::Script;
+use crate::cases::desk::script::{seat_of, Script};
 use crate::cases::frames::any_number;
 use crate::cases::Cases;
 use crate::desk::{Seat, CELL, SEATS};
@@ -70,23 +70,19 @@ fn any_cell(bytes: usize, random: &mut Random) -> Change {
 }
 
 /// A seat with a random key. Half the time it has some records held and some value of `ended`, and
-/// half the time one of its four numbers is arbitrary.
+/// more than half the time one of its five numbers is arbitrary.
 fn any_seat(random: &mut Random) -> Seat {
-    let (requester, number) = random_key(random);
-    let mut seat = Seat {
-        requester: requester.into(),
-        number,
-        ..Seat::default()
-    };
+    let mut seat = seat_of(random_key(random), 0, 0);
     if random.once_in(2) {
         seat.held = random.below(4) as u32;
         seat.ended = random.below(3) as u32;
     }
     match random.below(8) {
-        0 => seat.requester = any_number(random) as u32,
-        1 => seat.number = any_number(random) as u32,
-        2 => seat.held = any_number(random) as u32,
-        3 => seat.ended = any_number(random) as u32,
+        0 => seat.address = any_number(random) as u32,
+        1 => seat.requester = any_number(random) as u32,
+        2 => seat.number = any_number(random) as u32,
+        3 => seat.held = any_number(random) as u32,
+        4 => seat.ended = any_number(random) as u32,
         _ => {}
     }
     seat

@@ -9,7 +9,12 @@ use crate::script::Change;
 /// The keys of the desk that is spoiled, by seat. Seat 0 holds R, R and E in cells 0, 2 and 3. Seat
 /// 1 holds an R in cell 1, seat 2 holds nothing, and seat 3 holds a Z in cell 4. Two more cells are
 /// free.
-pub const KEYS: [Key; 4] = [(b'1', 7), (b'A', 12), (b'z', 0), (b'a', 999)];
+pub const KEYS: [Key; 4] = [
+    (b' ', b'1', 7),
+    (b' ', b'A', 12),
+    (b' ', b'z', 0),
+    (b' ', b'a', 999),
+];
 pub const RECORDS: [(u8, usize); 5] = [(R, 0), (R, 1), (R, 0), (E, 0), (Z, 3)];
 pub const CELLS: usize = 7;
 pub const BITS: u64 = 0xf;
@@ -19,7 +24,7 @@ pub const COUNT: u32 = 5;
 pub const UNUSED: usize = 4;
 
 /// The keys that the spoiled and the mended desk are asked about. The mended desk takes both.
-pub const NEW_KEY: Key = (b'b', 5);
+pub const NEW_KEY: Key = (b' ', b'b', 5);
 pub const OPEN_KEY: Key = KEYS[1];
 
 /// The largest number that a seat or a mark can hold.
@@ -266,12 +271,12 @@ pub fn harmless() -> Vec<Vec<Change>> {
     changes.push(vec![put(4, (at::RUN, b"000"))]);
     changes.push(vec![put(1, (at::INFORMATION, b"K235959999929022024"))]);
     // Other seats and other ends that are good.
-    changes.push(vec![Change::Seat(2, seat_of((b'A', 999), 0, 0))]);
-    changes.push(vec![Change::Seat(2, seat_of((b'0', 12), 0, 0))]);
+    changes.push(vec![Change::Seat(2, seat_of((b' ', b'A', 999), 0, 0))]);
+    changes.push(vec![Change::Seat(2, seat_of((b' ', b'0', 12), 0, 0))]);
     changes.push(vec![status(4, E)]);
     changes.push(statuses(b"RRR"));
     changes.push(vec![
-        Change::Seat(15, seat_of((b'9', 0), 0, 0)),
+        Change::Seat(15, seat_of((b' ', b'9', 0), 0, 0)),
         Change::Bits(BITS | 1 << 15),
     ]);
     changes.push(vec![

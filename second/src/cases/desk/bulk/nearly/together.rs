@@ -2,8 +2,9 @@
 //! again. If not, it usually breaks only one clause: a Z that is not the first record, or a record
 //! after the end.
 
-use crate::cases::desk::bulk::random_key;
-use crate::cases::desk::frames::{random_reply, E, R, Z};
+use crate::cases::desk::bulk::{key_of, random_key, under_any_address};
+use crate::cases::desk::frames::{random_reply, Key, E, R, Z};
+use crate::cases::desk::script::seat_of;
 use crate::desk::{Desk, Seat, CELL, SEATS};
 use crate::random::Random;
 use crate::reply::at;
@@ -52,11 +53,14 @@ fn seat_of_record(desk: &Desk, cell: usize) -> Option<usize> {
     (seat < SEATS).then_some(seat)
 }
 
-/// Puts a seat's requester and number into a cell.
-fn put_key(cell: usize, seat: &Seat) -> Change {
+/// Puts a seat's key into a cell: first the address, then requester and number.
+fn put_key(cell: usize, seat: &Seat) -> [Change; 2] {
     let mut text = vec![seat.requester as u8];
     text.extend(format!("{:05}", seat.number % 100_000).bytes());
-    Change::Cell(cell * CELL + at::REQUESTER, text)
+    [
+        Change::Cell(cell * CELL + at::ADDRESS, vec![seat.address as u8]),
+        Change::Cell(cell * CELL + at::REQUESTER, text),
+    ]
 }
 
 /// A seat gets another key, and so do all its records.
@@ -64,16 +68,20 @@ fn another_key(desk: &Desk, random: &mut Random) -> Vec<Change> {
     let Some(place) = some_seat(desk, 1, random) else {
         return Vec::new();
     };
-    let (requester, number) = random_key(random);
-    let seat = Seat {
-        requester: requester.into(),
-        number,
-        ..desk.seats[place]
-    };
+    let Seat { held, ended, .. } = desk.seats[place];
+    let seat = seat_of(another_key_than(&desk.seats[place], random), held, ended);
     let own = (0..taken(desk)).filter(|&cell| seat_of_record(desk, cell) == Some(place));
-    let mut changes: Vec<Change> = own.map(|cell| put_key(cell, &seat)).collect();
+    let mut changes: Vec<Change> = own.flat_map(|cell| put_key(cell, &seat)).collect();
     changes.push(Change::Seat(place, seat));
     changes
+}
+
+/// A random key. Half the time only its address is random.
+fn another_key_than(seat: &Seat, random: &mut Random) -> Key {
+    match key_of(seat) {
+        Some(key) if random.once_in(2) => under_any_address(random, key),
+        _ => random_key(random),
+    }
 }
 
 /// The next cell gets a record of a seat in use. If no cell is free or no seat is in use, only the
@@ -89,7 +97,8 @@ fn a_record_more(desk: &Desk, random: &mut Random) -> Vec<Change> {
         (0, 0) => random.pick(&[R, E, Z]),
         _ => random.pick(&[R, R, R, E, E, Z]),
     };
-    let key = (seat.requester as u8, seat.number % 100_000);
+    let number = seat.number % 100_000;
+    let key = (seat.address as u8, seat.requester as u8, number);
     changes.push(Change::Cell(cell * CELL, random_reply(random, status, key)));
     changes.push(Change::Mark(cell, place as u32));
     seat.held = seat.held.wrapping_add(1);
@@ -117,14 +126,12 @@ fn a_seat_more(desk: &Desk, random: &mut Random) -> Vec<Change> {
     let Some(place) = some_seat(desk, 0, random) else {
         return vec![Change::Bits(desk.bits | 1 << SEATS)];
     };
-    let (requester, number) = random_key(random);
-    let seat = Seat {
-        requester: requester.into(),
-        number,
-        ..Seat::default()
+    let key = match some_seat(desk, 1, random) {
+        Some(used) => another_key_than(&desk.seats[used], random),
+        None => random_key(random),
     };
     let bits = desk.bits | 1 << place;
-    vec![Change::Seat(place, seat), Change::Bits(bits)]
+    vec![Change::Seat(place, seat_of(key, 0, 0)), Change::Bits(bits)]
 }
 
 /// A seat is no longer in use. If it holds records, their marks still name it.
@@ -186,10 +193,8 @@ fn a_record_of_another_seat(desk: &Desk, random: &mut Random) -> Vec<Change> {
     let (Some(cell), Some(to)) = (some_record(desk, random), some_seat(desk, 1, random)) else {
         return Vec::new();
     };
-    let mut changes = vec![
-        Change::Mark(cell, to as u32),
-        put_key(cell, &desk.seats[to]),
-    ];
+    let mut changes = vec![Change::Mark(cell, to as u32)];
+    changes.extend(put_key(cell, &desk.seats[to]));
     if let Some(from) = seat_of_record(desk, cell).filter(|&from| from != to) {
         for (place, more) in [(from, u32::MAX), (to, 1)] {
             let mut seat = desk.seats[place];
