@@ -23,6 +23,11 @@
    REQUESTS AND REPLIES. The desk takes a reply only if its request was opened. So give every request that you send to
    rei2_open too. The stopwatch sends a line feed after the CR of each reply. It is not part of the frame.
 
+   ADDRESSES. Several stopwatches can share a line. Byte 2 of each frame is the address of one of them: a space or a
+   digit. Records and seats hold it by its code: 32 for a space, 48 to 57 for the digits 0 to 9. A space is not the same
+   address as the digit 0. A seat that is not in use holds the number 0 instead. A host with one stopwatch, which has a
+   space there, always sees 32.
+
    NAMES. After "Refused with" the names of refusals are without REI2_.
 
    EXAMPLES. The comment of each call ends with an example, a line that you can paste into a host. The examples use the
@@ -43,10 +48,10 @@
    Records to be written, their parts in the order of the structs below. The reply answers the request. To give a frame
    that was written to the desk: frame = out; size = wrote.size;
 
-   static rei2_static_request request = {'A', 12, 41, '1', 255, 1, 0, 'S'};
-   static rei2_reply_record reply = {{'S', 'O', 'E', 'A', 12, 41, 0, 1, 15, 255, '1'},
+   static rei2_static_request request = {' ', 'A', 12, 41, '1', 255, 1, 0, 'S'};
+   static rei2_reply_record reply = {{' ', 'S', 'O', 'E', 'A', 12, 41, 0, 1, 15, 255, '1'},
                                      {REI2_NET, 0, 0, 0, 0, 725400}, {0}, {0}, {' ', ' '}};
-   static rei2_dynamic_request dynamic = {'1', 'A', 41, 255, 1, 42, 255, 1, 0, 36000000, 0, 100, 'S'}; */
+   static rei2_dynamic_request dynamic = {' ', '1', 'A', 41, 255, 1, 42, 255, 1, 0, 36000000, 0, 100, 'S'}; */
 #ifndef REI2_H
 #define REI2_H
 
@@ -66,7 +71,7 @@ enum rei2_limit {
     REI2_REPLY_LEAD = 18,      /* the first byte of a static reply, DC2 */
     REI2_DYNAMIC_LEAD = 19,    /* the first byte of a dynamic request, DC3 */
     REI2_MOST_INPUT = 32768,   /* the most bytes of a capture that is listed */
-    REI2_LONGEST_LIST = 14170, /* bytes that every list fits in */
+    REI2_LONGEST_LIST = 14687, /* bytes that every list fits in */
     REI2_NAME_SIZE = 14        /* bytes that the name of every refusal fits in, with its zero byte */
 };
 
@@ -76,16 +81,16 @@ enum rei2_refusal {
     REI2_KIND = 1,           /* the frame is empty, or its first byte is not the one that the call takes */
     REI2_LENGTH = 2,         /* the frame does not have the length of its kind */
     REI2_END = 3,            /* the last byte is not CR */
-    REI2_ADDRESS = 4,        /* byte 1 is not R, or byte 2 is not a space */
+    REI2_ADDRESS = 4,        /* byte 1 is not R, or byte 2 is neither a space nor 0 to 9 */
     REI2_FIELD = 5,          /* a field is wrong; offset: where the first wrong field begins */
     REI2_RECORD = 6,         /* a part of the record is wrong; offset: where the first wrong part would be written */
     REI2_ROOM = 7,           /* the output is too short */
     REI2_TIME = 8,           /* a number of the running time is out of range */
     REI2_DESK = 9,           /* state, seats, cells and marks do not make a desk */
     REI2_NO_ANSWER_DUE = 10, /* a request with the information q, which asks for no answer */
-    REI2_IN_USE = 11,        /* a seat has this requester and number already, ended or not */
+    REI2_IN_USE = 11,        /* a seat has this address, requester and number already, ended or not */
     REI2_NO_SEAT = 12,       /* all seats are in use */
-    REI2_STRAY = 13,         /* no seat has the reply's requester and number */
+    REI2_STRAY = 13,         /* no seat has the reply's address, requester and number */
     REI2_ENDED = 14,         /* that seat has had its E or Z */
     REI2_OUT_OF_PLACE = 15,  /* a Z for a seat that holds records */
     REI2_FULL = 16           /* no cell is free */
@@ -116,9 +121,11 @@ typedef struct rei2_desk {
     uint32_t count;
 } rei2_desk;
 
-/* A seat. requester and number are the key of its request. held is how many records it holds. ended is 0 until it takes
-   an E or a Z, and 1 after that. A seat that is not in use is all 0. */
+/* A seat. address, requester and number are the key of its request; address and requester are held by their code. held
+   is how many records it holds. ended is 0 until it takes an E or a Z, and 1 after that. A seat that is not in use is
+   all 0, so its address is 0. */
 typedef struct rei2_seat {
+    uint32_t address;
     uint32_t requester;
     uint32_t number;
     uint32_t held;
@@ -150,8 +157,10 @@ typedef struct rei2_captured_answer {
 } rei2_captured_answer;
 
 /* A static request. Each part has the offset of its field, which FIELD and RECORD report, and the values that are good.
-   What the letters mean is in the stopwatch's protocol, section 4.2.1. */
+   A wrong address is never FIELD: a frame is then refused with ADDRESS, a record with RECORD and the offset 2. What the
+   letters mean is in the stopwatch's protocol, section 4.2.1. */
 typedef struct rei2_static_request {
+    uint8_t address;     /*  2: space, 0 to 9 */
     uint8_t requester;   /*  3: 0 to 9, A to Z, a to z */
     uint32_t number;     /*  4: 0 to 999 */
     uint32_t bib;        /*  7: 0 to 59999 */
@@ -184,6 +193,7 @@ typedef struct rei2_timing_numbers {
 /* The parts of a static reply that come before its time, with offsets and good values as in a static request. What the
    letters mean is in the stopwatch's protocol, section 4.1.3. */
 typedef struct rei2_reply_head {
+    uint8_t address;     /*  2: space, 0 to 9 */
     uint8_t program;     /*  3: 20h to 7Eh, not interpreted */
     uint8_t mode;        /*  4: 20h to 7Eh, not interpreted */
     uint8_t status;      /*  5: R one of several, E the last, Z not available */
@@ -216,6 +226,7 @@ typedef struct rei2_reply_answer {
 /* A dynamic request, with offsets and good values as in a static request. sign, time and days are the parts of Taux.
    Minus zero keeps its sign. What the letters mean is in the stopwatch's protocol, section 4.2.2. */
 typedef struct rei2_dynamic_request {
+    uint8_t address;       /*  2: space, 0 to 9 */
     uint8_t requester;     /*  3: 0 to 9, A to Z, a to z */
     uint8_t order;         /*  4: A B a b T t */
     uint32_t bib;          /*  5: 0 to 60000 */
@@ -311,11 +322,12 @@ REI2_SIZE(rei2_desk, 16);
 REI2_OFFSET(rei2_desk, bits, 0);
 REI2_OFFSET(rei2_desk, count, 8);
 
-REI2_SIZE(rei2_seat, 16);
-REI2_OFFSET(rei2_seat, requester, 0);
-REI2_OFFSET(rei2_seat, number, 4);
-REI2_OFFSET(rei2_seat, held, 8);
-REI2_OFFSET(rei2_seat, ended, 12);
+REI2_SIZE(rei2_seat, 20);
+REI2_OFFSET(rei2_seat, address, 0);
+REI2_OFFSET(rei2_seat, requester, 4);
+REI2_OFFSET(rei2_seat, number, 8);
+REI2_OFFSET(rei2_seat, held, 12);
+REI2_OFFSET(rei2_seat, ended, 16);
 
 REI2_SIZE(rei2_desk_answer, 32);
 REI2_OFFSET(rei2_desk_answer, desk, 0);
@@ -335,7 +347,8 @@ REI2_OFFSET(rei2_captured_answer, refusal, 16);
 REI2_OFFSET(rei2_captured_answer, counts, 24);
 
 REI2_SIZE(rei2_static_request, 32);
-REI2_OFFSET(rei2_static_request, requester, 0);
+REI2_OFFSET(rei2_static_request, address, 0);
+REI2_OFFSET(rei2_static_request, requester, 1);
 REI2_OFFSET(rei2_static_request, number, 4);
 REI2_OFFSET(rei2_static_request, bib, 8);
 REI2_OFFSET(rei2_static_request, information, 12);
@@ -357,34 +370,36 @@ REI2_OFFSET(rei2_timing_numbers, month, 12);
 REI2_OFFSET(rei2_timing_numbers, year, 16);
 REI2_OFFSET(rei2_timing_numbers, net, 24);
 
-REI2_SIZE(rei2_reply_head, 32);
-REI2_OFFSET(rei2_reply_head, program, 0);
-REI2_OFFSET(rei2_reply_head, mode, 1);
-REI2_OFFSET(rei2_reply_head, status, 2);
-REI2_OFFSET(rei2_reply_head, requester, 3);
-REI2_OFFSET(rei2_reply_head, number, 4);
-REI2_OFFSET(rei2_reply_head, bib, 8);
-REI2_OFFSET(rei2_reply_head, group, 12);
-REI2_OFFSET(rei2_reply_head, run, 16);
-REI2_OFFSET(rei2_reply_head, physical, 20);
-REI2_OFFSET(rei2_reply_head, channel, 24);
-REI2_OFFSET(rei2_reply_head, information, 28);
+REI2_SIZE(rei2_reply_head, 36);
+REI2_OFFSET(rei2_reply_head, address, 0);
+REI2_OFFSET(rei2_reply_head, program, 1);
+REI2_OFFSET(rei2_reply_head, mode, 2);
+REI2_OFFSET(rei2_reply_head, status, 3);
+REI2_OFFSET(rei2_reply_head, requester, 4);
+REI2_OFFSET(rei2_reply_head, number, 8);
+REI2_OFFSET(rei2_reply_head, bib, 12);
+REI2_OFFSET(rei2_reply_head, group, 16);
+REI2_OFFSET(rei2_reply_head, run, 20);
+REI2_OFFSET(rei2_reply_head, physical, 24);
+REI2_OFFSET(rei2_reply_head, channel, 28);
+REI2_OFFSET(rei2_reply_head, information, 32);
 
-REI2_SIZE(rei2_reply_record, 88);
+REI2_SIZE(rei2_reply_record, 96);
 REI2_OFFSET(rei2_reply_record, head, 0);
-REI2_OFFSET(rei2_reply_record, timing, 32);
-REI2_OFFSET(rei2_reply_record, raw_time, 64);
-REI2_OFFSET(rei2_reply_record, raw_date, 74);
-REI2_OFFSET(rei2_reply_record, spare, 82);
+REI2_OFFSET(rei2_reply_record, timing, 40);
+REI2_OFFSET(rei2_reply_record, raw_time, 72);
+REI2_OFFSET(rei2_reply_record, raw_date, 82);
+REI2_OFFSET(rei2_reply_record, spare, 90);
 
-REI2_SIZE(rei2_reply_answer, 96);
+REI2_SIZE(rei2_reply_answer, 104);
 REI2_OFFSET(rei2_reply_answer, refusal, 0);
 REI2_OFFSET(rei2_reply_answer, offset, 4);
 REI2_OFFSET(rei2_reply_answer, reply, 8);
 
 REI2_SIZE(rei2_dynamic_request, 48);
-REI2_OFFSET(rei2_dynamic_request, requester, 0);
-REI2_OFFSET(rei2_dynamic_request, order, 1);
+REI2_OFFSET(rei2_dynamic_request, address, 0);
+REI2_OFFSET(rei2_dynamic_request, requester, 1);
+REI2_OFFSET(rei2_dynamic_request, order, 2);
 REI2_OFFSET(rei2_dynamic_request, bib, 4);
 REI2_OFFSET(rei2_dynamic_request, channel, 8);
 REI2_OFFSET(rei2_dynamic_request, run, 12);
@@ -629,8 +644,9 @@ rei2_written_answer rei2_write_dynamic(rei2_dynamic_request record, uint8_t *out
 rei2_frame_answer rei2_next_frame(const uint8_t *capture, size_t capture_len, size_t at);
 
 /* Writes the list of a capture to out: a heading, the records of each seat in order, and an end line with the counts.
-   For a capture of more than REI2_MOST_INPUT bytes it writes the text "input too long" and LF, and nothing else. An
-   output of REI2_LONGEST_LIST bytes is always long enough.
+   The column addr has the address of a record, with - for a space. For a capture of more than REI2_MOST_INPUT bytes it
+   writes the text "input too long" and LF, and nothing else. An output of REI2_LONGEST_LIST bytes is always long
+   enough.
    Refused with: ROOM.
    Done: the list is the first bytes of out, and no other byte of out changes. Cells and marks are used as those of an
    empty desk: they are overwritten from the first one on, one for each reply collected. Do not lend those of a desk. If

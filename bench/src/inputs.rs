@@ -8,6 +8,7 @@ pub const REQUEST_SIZE: usize = 24;
 pub const REPLY_SIZE: usize = 51;
 pub const DYNAMIC_SIZE: usize = 46;
 
+const ADDRESSES: &[u8] = b" 0123456789";
 const REQUESTERS: &[u8] = b"0123456789ABCDEFGHIJKLMNOPQRSTUVWXYZabcdefghijklmnopqrstuvwxyz";
 const OUTPUTS: &[u8] = b"SABT";
 const REQUEST_LETTERS: &[u8] = b"0123456789AQPaSsTKLtR*GHhIiJjpkugWwXlbcd";
@@ -16,11 +17,12 @@ const NET_LETTERS: &[u8] = b"123";
 const RAW_LETTERS: &[u8] = b"456789AQPTRGHhIiJjpkugWwX";
 const LAST_TICK: u32 = 863_999_999;
 
-/// A requester and a number.
-pub type Key = (u8, u32);
+/// An address, a requester and a number.
+pub type Key = (u8, u8, u32);
 
 pub fn request(random: &mut Random) -> StaticRequest {
     StaticRequest {
+        address: random.one_of(ADDRESSES),
         requester: random.one_of(REQUESTERS),
         number: random.between(0, 999),
         bib: random.between(0, 59_999),
@@ -35,6 +37,7 @@ pub fn request(random: &mut Random) -> StaticRequest {
 /// A reply with status R and a timing of this kind.
 pub fn reply(random: &mut Random, kind: u32) -> ReplyRecord {
     let head = ReplyHead {
+        address: random.one_of(ADDRESSES),
         program: random.raw::<1>()[0],
         mode: random.raw::<1>()[0],
         status: b'R',
@@ -76,6 +79,7 @@ fn net_value(random: &mut Random) -> i64 {
 
 pub fn dynamic(random: &mut Random) -> DynamicRequest {
     DynamicRequest {
+        address: random.one_of(ADDRESSES),
         requester: random.one_of(REQUESTERS),
         order: random.one_of(b"ABabTt"),
         bib: random.between(0, 60_000),
@@ -121,18 +125,19 @@ pub fn dynamic_frame(record: &DynamicRequest) -> Vec<u8> {
     frame
 }
 
-/// The key of a seat. Each seat has a different key.
+/// The key of a seat. Each seat has a different key: seats 0 and 1 differ in the address alone, and so do 2 and 3, and so on.
 pub fn key_of_seat(seat: usize) -> Key {
-    (REQUESTERS[(7 * seat + 10) % REQUESTERS.len()], 61 * seat as u32 + 7)
+    let pair = seat / 2;
+    (ADDRESSES[seat % 2], REQUESTERS[(7 * pair + 10) % REQUESTERS.len()], 61 * pair as u32 + 7)
 }
 
-pub fn request_with(random: &mut Random, (requester, number): Key) -> Vec<u8> {
-    request_frame(&StaticRequest { requester, number, ..request(random) })
+pub fn request_with(random: &mut Random, (address, requester, number): Key) -> Vec<u8> {
+    request_frame(&StaticRequest { address, requester, number, ..request(random) })
 }
 
 /// The same record with this key.
-pub fn with_key(record: ReplyRecord, (requester, number): Key) -> ReplyRecord {
-    ReplyRecord { head: ReplyHead { requester, number, ..record.head }, ..record }
+pub fn with_key(record: ReplyRecord, (address, requester, number): Key) -> ReplyRecord {
+    ReplyRecord { head: ReplyHead { address, requester, number, ..record.head }, ..record }
 }
 
 /// A reply with any kind of timing, this key and status R.
@@ -156,8 +161,8 @@ impl Lent {
         let mut lent = Lent::empty();
         lent.desk = Desk { bits: (1 << used) - 1, count: held as u32 };
         for (place, seat) in lent.seats[..used].iter_mut().enumerate() {
-            let (requester, number) = key_of_seat(place);
-            *seat = Seat { requester: requester.into(), number, held: 0, ended: 0 };
+            let (address, requester, number) = key_of_seat(place);
+            *seat = Seat { address: address.into(), requester: requester.into(), number, held: 0, ended: 0 };
         }
         for cell in 0..held {
             let seat = cell % used;

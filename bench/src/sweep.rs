@@ -6,7 +6,7 @@ use crate::inputs::*;
 use crate::random::Random;
 
 /// Numbers at or near the limits of some part.
-const LIMITS: [u32; 34] = [
+const LIMITS: [u32; 39] = [
     0,
     1,
     2,
@@ -20,6 +20,11 @@ const LIMITS: [u32; 34] = [
     30,
     31,
     32,
+    33,
+    47,
+    48,
+    57,
+    58,
     99,
     100,
     199,
@@ -102,9 +107,9 @@ fn spoiled_records(random: &mut Random) -> usize {
         let (value, byte) = (random.one_of(&LIMITS), random.between(0, 255) as u8);
         let kind = random.between(RAW, NET);
         let (mut a, mut b, mut c) = (request(random), reply(random, kind), dynamic(random));
-        spoil_request(&mut a, random.below(9), value, byte);
-        spoil_reply(&mut b, random.below(24), value, byte);
-        spoil_dynamic(&mut c, random.below(14), value, byte);
+        spoil_request(&mut a, random.below(10), value, byte);
+        spoil_reply(&mut b, random.below(25), value, byte);
+        spoil_dynamic(&mut c, random.below(15), value, byte);
         let spare = random.below(3);
         write(a, REQUEST_SIZE - 1 + spare, Side::write_request);
         write(b, REPLY_SIZE - 1 + spare, Side::write_reply);
@@ -123,6 +128,7 @@ fn spoil_request(record: &mut StaticRequest, part: usize, value: u32, byte: u8) 
         5 => record.run = value,
         6 => record.group = value,
         7 => record.output = byte,
+        8 => record.address = byte,
         _ => (),
     }
 }
@@ -153,6 +159,7 @@ fn spoil_reply(record: &mut ReplyRecord, part: usize, value: u32, byte: u8) {
         20 => record.spare[usize::from(byte) % 2] = byte,
         21 => head.status = b'Z',
         22 => (head.status, head.run) = (b'E', value),
+        23 => head.address = byte,
         _ => (),
     }
 }
@@ -172,6 +179,7 @@ fn spoil_dynamic(record: &mut DynamicRequest, part: usize, value: u32, byte: u8)
         10 => record.days = value,
         11 => record.period = value,
         12 => record.output = byte,
+        13 => record.address = byte,
         _ => (),
     }
 }
@@ -233,7 +241,7 @@ fn spoil_desk(lent: &mut Lent, random: &mut Random) {
     let seat = random.below(SEATS);
     let value = random.one_of(&LIMITS);
     let cell = random.below(held + 1);
-    match random.below(14) {
+    match random.below(15) {
         0 => lent.desk.bits ^= 1 << random.below(64),
         1 => lent.desk.count = value,
         2 => lent.seats[seat].requester = value,
@@ -247,6 +255,7 @@ fn spoil_desk(lent: &mut Lent, random: &mut Random) {
         10 => lent.cells.truncate(held * CELL_SIZE + random.below(CELL_SIZE + 1)),
         11 => lent.marks.truncate(held + random.below(2)),
         12 => end_seat(lent, random),
+        13 => lent.seats[seat].address = value,
         _ => (),
     }
 }
@@ -271,7 +280,7 @@ fn captures(random: &mut Random) -> usize {
             capture = vec![b' '; 32_769];
         }
         let (cells, marks) = (random.below(CELLS * CELL_SIZE + 200), random.below(CELLS + 20));
-        let room = random.one_of(&[15, 62, 5_000, 14_000, 14_170]);
+        let room = random.one_of(&[15, 67, 5_000, 14_000, 14_687]);
         same(&(&capture, cells, marks, room), |side| {
             let (mut cells, mut marks, mut out) = (vec![0xee; cells], vec![7; marks], vec![0xee; room]);
             (side.list(&capture, &mut cells, &mut marks, &mut out), cells, marks, out)

@@ -10,7 +10,7 @@ class Listed(c.Structure):  # rei2_listed_answer
 call = c.CDLL(str(pathlib.Path(__file__).resolve().parents[2] / "target" / "librei2.so")).rei2_list
 call.argtypes, call.restype = [c.c_void_p, c.c_size_t] * 4, Listed  # four slices: pointer and count
 capture = open(sys.argv[1], "rb").read()
-cells, marks, out = (c.c_uint8 * 13056)(), (c.c_uint32 * 256)(), (c.c_uint8 * 14170)()  # as rei2_limits says
+cells, marks, out = (c.c_uint8 * 13056)(), (c.c_uint32 * 256)(), (c.c_uint8 * 14687)()  # as rei2_limits says
 answer = call(capture, len(capture), cells, len(cells), marks, len(marks), out, len(out))
 if answer.refusal:
     sys.exit(f"{sys.argv[1]}: refused with {answer.refusal}")

@@ -107,6 +107,20 @@ static void put_number(size_t number, int width) {
     put_byte('0' + (uint32_t)(number % 10));
 }
 
+/* The word at and an address, a space as a minus sign, as a list shows it. */
+static void put_address(uint32_t address) {
+    put(" at ");
+    put_byte(address == ' ' ? '-' : address);
+}
+
+/* The key of a request or of a reply. */
+static void put_key(uint32_t address, uint32_t requester, uint32_t number) {
+    put_byte(requester);
+    put(" ");
+    put_number(number, 3);
+    put_address(address);
+}
+
 static void end_line(void) {
     put_byte('\n');
     if (!unwritten && !write_all(1, line, used)) {
@@ -157,6 +171,18 @@ static void dynamic(const uint8_t *frame, size_t size) {
     counts.dynamic++;
     put(" from ");
     put_byte(answer.request.requester);
+    put_address(answer.request.address);
+}
+
+/* A reply goes to the desk. If it is a stray, its key says which request is missing. */
+static void reply(const uint8_t *frame, size_t size) {
+    rei2_desk_answer answer = rei2_reply(seats, REI2_SEATS, desk, cells, sizeof cells, marks, REI2_CELLS, frame, size);
+    answered(answer, " taken by seat ", &counts.collected);
+    if (answer.refusal == REI2_STRAY) {
+        rei2_reply_head head = rei2_read_reply(frame, size).reply.head;
+        put(": ");
+        put_key(head.address, head.requester, head.number);
+    }
 }
 
 /* A whole frame goes to the call for its first byte. */
@@ -165,8 +191,7 @@ static void whole(const uint8_t *frame, size_t size) {
         answered(rei2_open(seats, REI2_SEATS, desk, cells, sizeof cells, marks, REI2_CELLS, frame, size),
                  " opened at seat ", &counts.opened);
     } else if (frame[0] == REI2_REPLY_LEAD) {
-        answered(rei2_reply(seats, REI2_SEATS, desk, cells, sizeof cells, marks, REI2_CELLS, frame, size),
-                 " taken by seat ", &counts.collected);
+        reply(frame, size);
     } else {
         dynamic(frame, size);
     }
@@ -300,9 +325,7 @@ static void print_seat(uint32_t i) {
     put("seat ");
     put_number(i, 1);
     put(": ");
-    put_byte(seats[i].requester);
-    put(" ");
-    put_number(seats[i].number, 3);
+    put_key(seats[i].address, seats[i].requester, seats[i].number);
     put(" holds ");
     put_number(seats[i].held, 1);
     put(seats[i].ended ? ", ended" : ", not ended");

@@ -52,8 +52,8 @@ static void want_example_cells(void) {
 }
 
 static void want_example(void) {
-    wanted.seats[0] = (rei2_seat){'1', 7, 2, 1};
-    wanted.seats[1] = (rei2_seat){'A', 12, 1, 1};
+    wanted.seats[0] = (rei2_seat){' ', '1', 7, 2, 1};
+    wanted.seats[1] = (rei2_seat){' ', 'A', 12, 1, 1};
     want_example_cells();
 }
 
@@ -67,12 +67,12 @@ struct step {
 };
 
 static const struct step steps[] = {
-    {0, 24, REI2_DONE, 0, {{'1', 7, 0, 0}, {0, 0, 0, 0}}},
-    {24, 48, REI2_DONE, 1, {{'1', 7, 0, 0}, {'A', 12, 0, 0}}},
-    {48, 99, REI2_DONE, 0, {{'1', 7, 1, 0}, {'A', 12, 0, 0}}},
-    {99, 150, REI2_DONE, 1, {{'1', 7, 1, 0}, {'A', 12, 1, 1}}},
-    {150, 201, REI2_DONE, 0, {{'1', 7, 2, 1}, {'A', 12, 1, 1}}},
-    {201, 252, REI2_ENDED, 0, {{'1', 7, 2, 1}, {'A', 12, 1, 1}}},
+    {0, 24, REI2_DONE, 0, {{' ', '1', 7, 0, 0}, {0, 0, 0, 0, 0}}},
+    {24, 48, REI2_DONE, 1, {{' ', '1', 7, 0, 0}, {' ', 'A', 12, 0, 0}}},
+    {48, 99, REI2_DONE, 0, {{' ', '1', 7, 1, 0}, {' ', 'A', 12, 0, 0}}},
+    {99, 150, REI2_DONE, 1, {{' ', '1', 7, 1, 0}, {' ', 'A', 12, 1, 1}}},
+    {150, 201, REI2_DONE, 0, {{' ', '1', 7, 2, 1}, {' ', 'A', 12, 1, 1}}},
+    {201, 252, REI2_ENDED, 0, {{' ', '1', 7, 2, 1}, {' ', 'A', 12, 1, 1}}},
 };
 enum { STEPS = sizeof steps / sizeof steps[0] };
 
@@ -159,7 +159,64 @@ static void every_count(void) {
     rei2_captured_answer answer = captured(empty_desk(), capture, (size_t)(at - capture));
     SAYS(answer, REI2_DONE, 0);
     CHECK(counts_are(answer.counts, 1, 0, 1, 5));
-    wanted.seats[0] = (rei2_seat){'1', 7, 0, 0};
+    wanted.seats[0] = (rei2_seat){' ', '1', 7, 0, 0};
+    is_as_wanted();
+}
+
+/* ---- two stopwatches, asked the same by one requester */
+
+/* Both requests, a reply from each, a reply from a third address, and a dynamic request. */
+static const struct part {
+    char address;
+    uint8_t lead;
+    char status;
+} parts[] = {
+    {' ', REI2_REQUEST_LEAD, 0}, {'3', REI2_REQUEST_LEAD, 0}, {'3', REI2_REPLY_LEAD, 'R'},
+    {' ', REI2_REPLY_LEAD, 'E'}, {'0', REI2_REPLY_LEAD, 'R'}, {'3', REI2_DYNAMIC_LEAD, 0},
+};
+enum { PARTS = sizeof parts / sizeof parts[0] };
+
+static size_t make_part(uint8_t *to, const struct part *part) {
+    size_t size = REI2_DYNAMIC_SIZE;
+    if (part->lead == REI2_REQUEST_LEAD) {
+        make_request(to, '1', "007");
+        size = REI2_REQUEST_SIZE;
+    } else if (part->lead == REI2_REPLY_LEAD) {
+        make_reply(to, part->status, '1', "00007");
+        size = REI2_REPLY_SIZE;
+    } else {
+        make_dynamic(to);
+    }
+    to[2] = (uint8_t)part->address;
+    return size;
+}
+
+static uint8_t two[PARTS * REI2_REPLY_SIZE];
+static size_t two_size;
+
+static void make_two(void) {
+    two_size = 0;
+    for (size_t i = 0; i < PARTS; i++) {
+        two_size += make_part(two + two_size, &parts[i]);
+    }
+}
+
+/* The two replies that are taken are next to each other, after the requests. */
+static void want_two_cells(void) {
+    memcpy(wanted.cells, two + 2 * REI2_REQUEST_SIZE, 2 * REI2_CELL_SIZE);
+    wanted.marks[0] = 1;
+    wanted.marks[1] = 0;
+}
+
+static void two_stopwatches(void) {
+    make_two();
+    rei2_captured_answer answer = captured(empty_desk(), two, two_size);
+    SAYS(answer, REI2_DONE, 0);
+    CHECK(answer.desk.bits == 3 && answer.desk.count == 2);
+    CHECK(counts_are(answer.counts, 2, 2, 1, 1));
+    wanted.seats[0] = (rei2_seat){' ', '1', 7, 1, 1};
+    wanted.seats[1] = (rei2_seat){'3', '1', 7, 1, 0};
+    want_two_cells();
     is_as_wanted();
 }
 
@@ -195,11 +252,11 @@ static void example_list_is_stored(void) {
 }
 
 /* The first line of every list. */
-enum { HEADING = 62 };
+enum { HEADING = 67 };
 
 /* With one cell only the first reply is taken, and the others are refused. */
 static void example_in_one_cell(void) {
-    static const char one[] = "0\t1\t007\t00015\t000\t002\t000\t000\tP\t0000000000\t00000000\tR\nend\t2\t1\t0\t3\n";
+    static const char one[] = "0\t1\t-\t007\t00015\t000\t002\t000\t000\tP\t0000000000\t00000000\tR\nend\t2\t1\t0\t3\n";
     fill_lent();
     memcpy(wanted.cells, example_capture + 48, REI2_CELL_SIZE);
     wanted.marks[0] = 0;
@@ -210,6 +267,20 @@ static void example_in_one_cell(void) {
     SAYS(answer, REI2_DONE, 0);
     CHECK(answer.size == HEADING + sizeof one - 1);
     is_as_wanted();
+}
+
+/* A space is shown as a minus sign, another address as it is. */
+static void two_stopwatches_listed(void) {
+    static const char rows[] = "0\t1\t-\t007\t00015\t000\t002\t000\t000\tP\t0000000000\t00000000\tE\n"
+                               "1\t1\t3\t007\t00015\t000\t002\t000\t000\tP\t0000000000\t00000000\tR\n"
+                               "end\t2\t2\t1\t1\n";
+    static uint8_t text[HEADING + sizeof rows - 1];
+    memcpy(text, example_list, HEADING);
+    memcpy(text + HEADING, rows, sizeof rows - 1);
+    fill_lent();
+    make_two();
+    want_two_cells();
+    is_listed(list(two, two_size, REI2_LONGEST_LIST), text, sizeof text);
 }
 
 /* A capture of the most bytes is listed. With one byte more the list is the line "input too long". */
@@ -277,7 +348,9 @@ void test_capture(void) {
     example_at_once();
     example_in_parts();
     every_count();
+    two_stopwatches();
     example_list_is_stored();
     example_in_one_cell();
+    two_stopwatches_listed();
     long_input();
 }

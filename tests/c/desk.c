@@ -12,12 +12,12 @@ static struct table now;
 static void an_opening_takes_the_lowest_seat(void) {
     table_emptied(&now);
     now.desk.bits = 5;
-    now.memory.seats[0] = (rei2_seat){'1', 1, 0, 0};
-    now.memory.seats[2] = (rei2_seat){'1', 2, 0, 0};
+    now.memory.seats[0] = (rei2_seat){' ', '1', 1, 0, 0};
+    now.memory.seats[2] = (rei2_seat){' ', '1', 2, 0, 0};
     rei2_desk_answer answer = table_opens(&now, 'Z', "042");
     SAYS(answer, REI2_DONE, 0);
     CHECK(answer.seat == 1 && answer.desk.bits == 7 && answer.desk.count == 0);
-    now.was.seats[1] = (rei2_seat){'Z', 42, 0, 0};
+    now.was.seats[1] = (rei2_seat){' ', 'Z', 42, 0, 0};
     KEPT(&now);
 }
 
@@ -35,6 +35,7 @@ static void openings_are_refused_in_order(void) {
     REFUSED(&now, table_open(&now, (const uint8_t *)"\021R", 2), REI2_LENGTH, 0);
     REFUSED(&now, opens_with(23, '\n'), REI2_END, 0);
     REFUSED(&now, opens_with(1, 'r'), REI2_ADDRESS, 0);
+    REFUSED(&now, opens_with(2, '-'), REI2_ADDRESS, 0);
     REFUSED(&now, opens_with(22, 'C'), REI2_FIELD, 22);
     REFUSED(&now, opens_with(12, 'q'), REI2_NO_ANSWER_DUE, 0);
     REFUSED(&now, opens_with(12, 'P'), REI2_IN_USE, 0);
@@ -49,7 +50,7 @@ static void sixteen_seats_and_no_more(void) {
         SAYS(answer, REI2_DONE, 0);
         CHECK(answer.seat == i);
         CHECK(rei2_seats_in_use(answer.desk) == i + 1);
-        now.was.seats[i] = (rei2_seat){(uint8_t)letters[i], 500, 0, 0};
+        now.was.seats[i] = (rei2_seat){' ', (uint8_t)letters[i], 500, 0, 0};
         KEPT(&now);
     }
     CHECK(now.desk.bits == 0xffff);
@@ -64,7 +65,7 @@ static void a_reply_goes_to_the_next_cell(void) {
     rei2_desk_answer answer = table_takes(&now, 'E', 'A', "00012");
     SAYS(answer, REI2_DONE, 0);
     CHECK(answer.seat == 1 && answer.desk.bits == 15 && answer.desk.count == 5);
-    now.was.seats[1] = (rei2_seat){'A', 12, 2, 1};
+    now.was.seats[1] = (rei2_seat){' ', 'A', 12, 2, 1};
     memcpy(now.was.cells + 4 * REI2_CELL_SIZE, now.memory.input, REI2_CELL_SIZE);
     now.was.marks[4] = 1;
     KEPT(&now);
@@ -85,6 +86,7 @@ static void replies_are_refused_in_order(void) {
     REFUSED(&now, replies_with(50, '\n'), REI2_END, 0);
     REFUSED(&now, replies_with(2, 'A'), REI2_ADDRESS, 0);
     REFUSED(&now, replies_with(29, 'L'), REI2_FIELD, 29);
+    REFUSED(&now, replies_with(2, '0'), REI2_STRAY, 0);
     REFUSED(&now, replies_with(6, 'B'), REI2_STRAY, 0);
     REFUSED(&now, replies_with(7, '1'), REI2_STRAY, 0);
     REFUSED(&now, table_takes(&now, 'R', '1', "00007"), REI2_ENDED, 0);
@@ -140,6 +142,77 @@ static void no_more_than_256_cells(void) {
     seats[0].held = MORE;
     desk.count = MORE;
     SAYS(one_more(desk), REI2_DESK, 0);
+}
+
+/* ---- several stopwatches */
+
+/* One requester and one number at three addresses: three seats, and each address can be used once. */
+static void open_at_three_addresses(void) {
+    static const char addresses[] = " 09";
+    table_emptied(&now);
+    for (uint32_t i = 0; i < 3; i++) {
+        rei2_desk_answer answer = table_opens_at(&now, addresses[i], '1', "007");
+        SAYS(answer, REI2_DONE, 0);
+        CHECK(answer.seat == i);
+        now.was.seats[i] = (rei2_seat){(uint8_t)addresses[i], '1', 7, 0, 0};
+        KEPT(&now);
+        REFUSED(&now, table_opens_at(&now, addresses[i], '1', "007"), REI2_IN_USE, 0);
+    }
+}
+
+/* A reply goes to the seat with its address, into the first free cell. */
+static void goes_to(uint32_t seat, char address, char status) {
+    uint32_t cell = now.desk.count;
+    rei2_desk_answer answer = table_takes_at(&now, address, status, '1', "00007");
+    SAYS(answer, REI2_DONE, 0);
+    CHECK(answer.seat == seat && answer.desk.count == cell + 1);
+    now.was.seats[seat].held++;
+    now.was.seats[seat].ended = status != 'R';
+    memcpy(now.was.cells + cell * REI2_CELL_SIZE, now.memory.input, REI2_CELL_SIZE);
+    now.was.marks[cell] = seat;
+    KEPT(&now);
+}
+
+/* What one stopwatch sends does not end the request to another, nor put a Z out of place there. */
+static void replies_go_by_their_address(void) {
+    open_at_three_addresses();
+    goes_to(2, '9', 'R');
+    goes_to(0, ' ', 'R');
+    REFUSED(&now, table_takes_at(&now, '3', 'R', '1', "00007"), REI2_STRAY, 0);
+    REFUSED(&now, table_takes_at(&now, '-', 'R', '1', "00007"), REI2_ADDRESS, 0);
+    goes_to(2, '9', 'E');
+    REFUSED(&now, table_takes_at(&now, '9', 'R', '1', "00007"), REI2_ENDED, 0);
+    REFUSED(&now, table_takes_at(&now, ' ', 'Z', '1', "00007"), REI2_OUT_OF_PLACE, 0);
+    goes_to(1, '0', 'Z');
+    goes_to(0, ' ', 'E');
+}
+
+/* A stopwatch that was not asked: a reply is a stray although another one was asked the same. */
+static void an_address_that_was_not_asked(void) {
+    table_emptied(&now);
+    SAYS(table_opens_at(&now, '0', '1', "007"), REI2_DONE, 0);
+    REFUSED(&now, table_takes_at(&now, ' ', 'R', '1', "00007"), REI2_STRAY, 0);
+    REFUSED(&now, table_takes_at(&now, '1', 'R', '1', "00007"), REI2_STRAY, 0);
+    goes_to(0, '0', 'R');
+}
+
+/* A row is eighty numbers in a line, five for each seat. A reset makes all of them 0. */
+enum { NUMBERS = 5 };
+
+static void a_row_has_no_padding(void) {
+    uint32_t row[REI2_SEATS][NUMBERS];
+    CHECK(sizeof row == sizeof(rei2_seat[REI2_SEATS]));
+    table_emptied(&now);
+    SAYS(table_opens_at(&now, '4', 'b', "321"), REI2_DONE, 0);
+    SAYS(table_opens_at(&now, ' ', 'b', "321"), REI2_DONE, 0);
+    SAYS(table_takes_at(&now, ' ', 'E', 'b', "00321"), REI2_DONE, 0);
+    memcpy(row, now.memory.seats, sizeof row);
+    SAME(row[0], ((const uint32_t[NUMBERS]){52, 'b', 321, 0, 0}), sizeof row[0]);
+    SAME(row[1], ((const uint32_t[NUMBERS]){32, 'b', 321, 1, 1}), sizeof row[1]);
+    SAME(row[2], ((const uint32_t[NUMBERS]){0}), sizeof row[2]);
+    SAYS(table_reset(&now), REI2_DONE, 0);
+    memset(now.was.seats, 0, sizeof row);
+    KEPT(&now);
 }
 
 /* ---- numbers of a desk */
@@ -226,6 +299,9 @@ void test_desk(void) {
     replies_are_refused_in_order();
     a_full_desk_refuses_last();
     no_more_than_256_cells();
+    replies_go_by_their_address();
+    an_address_that_was_not_asked();
+    a_row_has_no_padding();
     seats_in_use_are_all_ones();
     capacity_is_the_least();
     records_are_read_back();

@@ -9,8 +9,8 @@ const uint8_t example_capture[] =
     "\022R SOEA000120004100000101525510001125400+0000000  \r";
 
 const uint8_t example_list[] =
-    "seat\tfrom\tnumber\tbib\tgroup\trun\tphys\tlog\tinfo\ttime\tdate\tstatus\n"
-    "0\t1\t007\t00015\t000\t002\t000\t000\tP\t0000000000\t00000000\tR\n"
-    "0\t1\t007\t00022\t000\t002\t000\t000\tP\t0000000000\t00000000\tE\n"
-    "1\tA\t012\t00041\t000\t001\t015\t255\t1\t0001125400\t+0000000\tE\n"
+    "seat\tfrom\taddr\tnumber\tbib\tgroup\trun\tphys\tlog\tinfo\ttime\tdate\tstatus\n"
+    "0\t1\t-\t007\t00015\t000\t002\t000\t000\tP\t0000000000\t00000000\tR\n"
+    "0\t1\t-\t007\t00022\t000\t002\t000\t000\tP\t0000000000\t00000000\tE\n"
+    "1\tA\t-\t012\t00041\t000\t001\t015\t255\t1\t0001125400\t+0000000\tE\n"
     "end\t2\t3\t0\t1\n";

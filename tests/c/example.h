@@ -5,7 +5,7 @@
 
 #include "rei2.h"
 
-enum { EXAMPLE_CAPTURE = 252, EXAMPLE_LIST = 236 };
+enum { EXAMPLE_CAPTURE = 252, EXAMPLE_LIST = 247 };
 
 extern const uint8_t example_capture[EXAMPLE_CAPTURE + 1];
 extern const uint8_t example_list[EXAMPLE_LIST + 1];

@@ -7,15 +7,17 @@
 
 /* ---- what the readers have in common */
 
-/* What a reading answers, and whether its record is all zero, as it is if the frame was refused. */
+/* What a reading answers, the address in its record, and whether the record is all zero, as it is if the frame was
+   refused. */
 struct reading {
     struct said said;
+    uint8_t address;
     int empty;
 };
 
 static int zero_request(rei2_static_request r) {
-    return r.requester == 0 && r.number == 0 && r.bib == 0 && r.information == 0 && r.channel == 0 && r.run == 0 &&
-           r.group == 0 && r.output == 0;
+    int bytes = r.address == 0 && r.requester == 0 && r.information == 0 && r.output == 0;
+    return bytes && r.number == 0 && r.bib == 0 && r.channel == 0 && r.run == 0 && r.group == 0;
 }
 
 static int zero_timing(rei2_timing_numbers t) {
@@ -23,7 +25,8 @@ static int zero_timing(rei2_timing_numbers t) {
 }
 
 static int zero_head(rei2_reply_head h) {
-    int bytes = h.program == 0 && h.mode == 0 && h.status == 0 && h.requester == 0 && h.information == 0;
+    int letters = h.status == 0 && h.requester == 0 && h.information == 0;
+    int bytes = h.address == 0 && h.program == 0 && h.mode == 0 && letters;
     int numbers = h.number == 0 && h.bib == 0 && h.group == 0 && h.run == 0 && h.physical == 0 && h.channel == 0;
     return bytes && numbers;
 }
@@ -35,25 +38,45 @@ static int zero_reply(rei2_reply_record r) {
 }
 
 static int zero_dynamic(rei2_dynamic_request r) {
+    int bytes = r.address == 0 && r.requester == 0 && r.order == 0 && r.output == 0;
     int place = r.bib == 0 && r.channel == 0 && r.run == 0;
     int stop = r.stop_bib == 0 && r.stop_channel == 0 && r.stop_run == 0;
     int taux = r.sign == 0 && r.time == 0 && r.days == 0;
-    return r.requester == 0 && r.order == 0 && place && stop && taux && r.period == 0 && r.output == 0;
+    return bytes && place && stop && taux && r.period == 0;
 }
 
 static struct reading read_request(const uint8_t *frame, size_t size) {
     rei2_request_answer a = rei2_read_request(frame, size);
-    return (struct reading){SAID(a), zero_request(a.request)};
+    return (struct reading){SAID(a), a.request.address, zero_request(a.request)};
 }
 
 static struct reading read_reply(const uint8_t *frame, size_t size) {
     rei2_reply_answer a = rei2_read_reply(frame, size);
-    return (struct reading){SAID(a), zero_reply(a.reply)};
+    return (struct reading){SAID(a), a.reply.head.address, zero_reply(a.reply)};
 }
 
 static struct reading read_dynamic(const uint8_t *frame, size_t size) {
     rei2_dynamic_answer a = rei2_read_dynamic(frame, size);
-    return (struct reading){SAID(a), zero_dynamic(a.request)};
+    return (struct reading){SAID(a), a.request.address, zero_dynamic(a.request)};
+}
+
+/* Each reads a good frame and writes its record with another address. */
+static rei2_written_answer readdress_request(const uint8_t *frame, uint8_t address, uint8_t *to, size_t room) {
+    rei2_static_request r = rei2_read_request(frame, REI2_REQUEST_SIZE).request;
+    r.address = address;
+    return rei2_write_request(r, to, room);
+}
+
+static rei2_written_answer readdress_reply(const uint8_t *frame, uint8_t address, uint8_t *to, size_t room) {
+    rei2_reply_record r = rei2_read_reply(frame, REI2_REPLY_SIZE).reply;
+    r.head.address = address;
+    return rei2_write_reply(r, to, room);
+}
+
+static rei2_written_answer readdress_dynamic(const uint8_t *frame, uint8_t address, uint8_t *to, size_t room) {
+    rei2_dynamic_request r = rei2_read_dynamic(frame, REI2_DYNAMIC_SIZE).request;
+    r.address = address;
+    return rei2_write_dynamic(r, to, room);
 }
 
 /* Where the fields begin, and a 0 after the last. */
@@ -61,19 +84,20 @@ static const uint8_t request_fields[] = {3, 4, 7, 12, 13, 16, 19, 22, 0};
 static const uint8_t reply_fields[] = {3, 4, 5, 6, 7, 12, 17, 20, 23, 26, 29, 30, 40, 48, 0};
 static const uint8_t dynamic_fields[] = {3, 4, 5, 10, 13, 16, 21, 24, 27, 28, 38, 39, 44, 0};
 
-/* A kind: its reader, its size, its fields, and a good frame. */
+/* A kind: its reader, its writer with another address, its size, its fields, and a good frame. */
 struct kind {
     const char *name;
     struct reading (*read)(const uint8_t *, size_t);
+    rei2_written_answer (*readdress)(const uint8_t *, uint8_t, uint8_t *, size_t);
     size_t size;
     const uint8_t *fields;
     uint8_t frame[REI2_REPLY_SIZE];
 };
 
 static struct kind kinds[] = {
-    {"request", read_request, REI2_REQUEST_SIZE, request_fields, {0}},
-    {"reply", read_reply, REI2_REPLY_SIZE, reply_fields, {0}},
-    {"dynamic", read_dynamic, REI2_DYNAMIC_SIZE, dynamic_fields, {0}},
+    {"request", read_request, readdress_request, REI2_REQUEST_SIZE, request_fields, {0}},
+    {"reply", read_reply, readdress_reply, REI2_REPLY_SIZE, reply_fields, {0}},
+    {"dynamic", read_dynamic, readdress_dynamic, REI2_DYNAMIC_SIZE, dynamic_fields, {0}},
 };
 enum { KINDS = sizeof kinds / sizeof kinds[0] };
 
@@ -147,6 +171,8 @@ static void in_order(const struct kind *kind) {
     frame[kind->size - 2] = 0x80;
     frame[3] = 0x80;
     is_refused(kind->read(frame, kind->size), REI2_FIELD, 3);
+    frame[2] = '-';
+    is_refused(kind->read(frame, kind->size), REI2_ADDRESS, 0);
     frame[1] = 'S';
     is_refused(kind->read(frame, kind->size), REI2_ADDRESS, 0);
     frame[kind->size - 1] = '\n';
@@ -192,16 +218,56 @@ static void wrote_not(rei2_written_answer answer, uint32_t refusal, uint32_t off
     clear_out();
 }
 
+/* ---- addresses */
+
+/* A space or a digit: the frame is read, and its record is written as the same frame. */
+static void takes_address(const struct kind *kind, const uint8_t *frame) {
+    struct reading r = kind->read(frame, kind->size);
+    SAYS(r.said, REI2_DONE, 0);
+    CHECK(r.address == frame[2]);
+    wrote(kind->readdress(kind->frame, frame[2], out, OUT), frame, kind->size);
+    wrote_not(kind->readdress(kind->frame, frame[2], out, kind->size - 1), REI2_ROOM, 0);
+}
+
+/* Any other byte: neither read nor written. */
+static void takes_no_address(const struct kind *kind, const uint8_t *frame) {
+    is_refused(kind->read(frame, kind->size), REI2_ADDRESS, 0);
+    wrote_not(kind->readdress(kind->frame, frame[2], out, OUT), REI2_RECORD, 2);
+    wrote_not(kind->readdress(kind->frame, frame[2], NULL, 0), REI2_RECORD, 2);
+}
+
+/* Every byte as the address. Those beside the good ones are 31, 33, 47 and 58; a list shows 45 for a space. */
+static void addresses(const struct kind *kind) {
+    uint8_t frame[REI2_REPLY_SIZE];
+    memcpy(frame, kind->frame, sizeof frame);
+    for (int byte = 0; byte < 256; byte++) {
+        frame[2] = (uint8_t)byte;
+        if (byte == 32 || (byte >= 48 && byte <= 57)) {
+            takes_address(kind, frame);
+        } else {
+            takes_no_address(kind, frame);
+        }
+    }
+}
+
+static void all_addresses(void) {
+    for (size_t i = 0; i < KINDS; i++) {
+        trying(kinds[i].name);
+        addresses(&kinds[i]);
+    }
+    trying(NULL);
+}
+
 /* ---- the static request */
 
 static void request_record(void) {
     rei2_static_request r = rei2_read_request(kinds[0].frame, REI2_REQUEST_SIZE).request;
-    CHECK(r.requester == '1' && r.number == 7 && r.bib == 0 && r.information == 'P');
+    CHECK(r.address == ' ' && r.requester == '1' && r.number == 7 && r.bib == 0 && r.information == 'P');
     CHECK(r.channel == 0 && r.run == 2 && r.group == 0 && r.output == 'S');
 }
 
 static void request_written(void) {
-    const uint8_t *frame = (const uint8_t *)"\021R z99959999*255250199T\r";
+    const uint8_t *frame = (const uint8_t *)"\021R9z99959999*255250199T\r";
     rei2_static_request r = rei2_read_request(frame, REI2_REQUEST_SIZE).request;
     wrote(rei2_write_request(r, out, OUT), frame, REI2_REQUEST_SIZE);
     wrote(rei2_write_request(r, out, REI2_REQUEST_SIZE), frame, REI2_REQUEST_SIZE);
@@ -228,7 +294,9 @@ static void request_parts(void) {
     wrote_not(rei2_write_request(r, out, OUT), REI2_RECORD, 4);
     r.requester = '[';
     wrote_not(rei2_write_request(r, out, OUT), REI2_RECORD, 3);
-    wrote_not(rei2_write_request(r, NULL, 0), REI2_RECORD, 3);
+    r.address = 0;
+    wrote_not(rei2_write_request(r, out, OUT), REI2_RECORD, 2);
+    wrote_not(rei2_write_request(r, NULL, 0), REI2_RECORD, 2);
 }
 
 /* ---- the static reply */
@@ -238,7 +306,7 @@ static const uint8_t clock_frame[] =
 static const uint8_t net_frame[] =
     "\022R " "S" "O" "E" "A" "00012" "00041" "000" "001" "015" "255" "1" "2359590000" "-0000001" "  " "\r";
 static const uint8_t raw_frame[] =
-    "\022R " " " "~" "Z" "A" "99999" "59999" "199" "000" "999" "250" "0" "any bytes " "at all !" "~ " "\r";
+    "\022R7" " " "~" "Z" "A" "99999" "59999" "199" "000" "999" "250" "0" "any bytes " "at all !" "~ " "\r";
 
 static rei2_reply_record reply_in(const uint8_t *frame) {
     rei2_reply_answer answer = rei2_read_reply(frame, REI2_REPLY_SIZE);
@@ -259,16 +327,17 @@ static int timing_is(rei2_timing_numbers t, rei2_timing_numbers w) {
 static void reply_records(void) {
     rei2_reply_record r = reply_in(clock_frame);
     rei2_reply_head h = r.head;
-    CHECK(h.program == 'S' && h.mode == 'O' && h.status == 'E' && h.requester == 'A' && h.number == 12 && h.bib == 41);
-    CHECK(h.group == 0 && h.run == 1 && h.physical == 15 && h.channel == 255 && h.information == '0');
+    CHECK(h.address == ' ' && h.program == 'S' && h.mode == 'O' && h.status == 'E' && h.requester == 'A');
+    CHECK(h.number == 12 && h.bib == 41 && h.group == 0 && h.run == 1);
+    CHECK(h.physical == 15 && h.channel == 255 && h.information == '0');
     CHECK(timing_is(r.timing, (rei2_timing_numbers){REI2_CLOCK, 863999999, 29, 2, 2024, 0}));
     CHECK(no_raw(r) && r.spare[0] == 'a' && r.spare[1] == 'b');
     r = reply_in(net_frame);
     CHECK(timing_is(r.timing, (rei2_timing_numbers){REI2_NET, 0, 0, 0, 0, -10000}) && no_raw(r));
     r = reply_in(raw_frame);
     h = r.head;
-    CHECK(h.program == ' ' && h.mode == '~' && h.number == 99999 && h.bib == 59999 && h.group == 199 && h.run == 0);
-    CHECK(h.physical == 999 && h.channel == 250);
+    CHECK(h.address == '7' && h.program == ' ' && h.mode == '~' && h.number == 99999 && h.bib == 59999);
+    CHECK(h.group == 199 && h.run == 0 && h.physical == 999 && h.channel == 250);
     CHECK(timing_is(r.timing, (rei2_timing_numbers){REI2_RAW, 0, 0, 0, 0, 0}));
     SAME(r.raw_time, raw_frame + 30, 10);
     SAME(r.raw_date, raw_frame + 40, 8);
@@ -314,6 +383,8 @@ static void spoil_head(rei2_reply_record r) {
     reply_refused(r, 4);
     r.head.program = 31;
     reply_refused(r, 3);
+    r.head.address = '/';
+    reply_refused(r, 2);
 }
 
 static void reply_parts(void) {
@@ -460,7 +531,8 @@ static void reply_left_over(void) {
 
 static void dynamic_record(void) {
     rei2_dynamic_request r = rei2_read_dynamic(kinds[2].frame, REI2_DYNAMIC_SIZE).request;
-    CHECK(r.requester == '1' && r.order == 'A' && r.bib == 41 && r.channel == 255 && r.run == 1);
+    CHECK(r.address == ' ' && r.requester == '1' && r.order == 'A');
+    CHECK(r.bib == 41 && r.channel == 255 && r.run == 1);
     CHECK(r.stop_bib == 60000 && r.stop_channel == 250 && r.stop_run == 5);
     CHECK(r.sign == 1 && r.time == 37230405 && r.days == 9 && r.period == 99999 && r.output == 'S');
 }
@@ -511,12 +583,15 @@ static void dynamic_parts(void) {
     dynamic_refused(r, 4);
     r.requester = 0;
     dynamic_refused(r, 3);
+    r.address = ':';
+    dynamic_refused(r, 2);
 }
 
 void test_frames(void) {
     make_kinds();
     reading();
     clear_out();
+    all_addresses();
     request_record();
     request_written();
     request_parts();

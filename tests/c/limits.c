@@ -1,8 +1,18 @@
-/* What a host must lend: the library returns the numbers of the header. */
+/* What a host must lend: the library returns the numbers of the header. Where an address is in what is lent. */
 #include "check.h"
 #include "tests.h"
 
+/* The address is the first part of a seat and of each record. A seat has no padding after it. */
+static void address_comes_first(void) {
+    CHECK(sizeof(rei2_seat) == 20 && sizeof((rei2_seat){0}.address) == 4);
+    CHECK(offsetof(rei2_seat, address) == 0 && offsetof(rei2_seat, requester) == 4 && offsetof(rei2_seat, ended) == 16);
+    CHECK(offsetof(rei2_static_request, address) == 0 && offsetof(rei2_static_request, requester) == 1);
+    CHECK(offsetof(rei2_reply_record, head.address) == 0 && offsetof(rei2_reply_record, head.program) == 1);
+    CHECK(offsetof(rei2_dynamic_request, address) == 0 && offsetof(rei2_dynamic_request, requester) == 1);
+}
+
 void test_limits(void) {
+    address_comes_first();
     rei2_limits_answer limits = rei2_limits();
     CHECK(limits.seats == REI2_SEATS);
     CHECK(limits.cells == REI2_CELLS * REI2_CELL_SIZE);

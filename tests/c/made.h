@@ -4,6 +4,8 @@
 
 #include "rei2.h"
 
+/* In each the address, byte 2, is a space. */
+
 /* A good static request, REI2_REQUEST_SIZE bytes, with this key: the number as three digits. */
 void make_request(uint8_t *to, char requester, const char *number);
 

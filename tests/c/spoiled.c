@@ -13,6 +13,13 @@ static uint8_t *cell(struct table *t, int i) { return &t->memory.cells[i * REI2_
 static void bit_16(struct table *t) { t->desk.bits |= (uint64_t)1 << 16; }
 static void bit_63(struct table *t) { t->desk.bits |= (uint64_t)1 << 63; }
 
+static void address_none(struct table *t) { seat(t, 2)->address = 0; }
+static void address_31(struct table *t) { seat(t, 2)->address = 31; }
+static void address_33(struct table *t) { seat(t, 2)->address = 33; }
+static void address_minus(struct table *t) { seat(t, 2)->address = '-'; }
+static void address_47(struct table *t) { seat(t, 2)->address = 47; }
+static void address_58(struct table *t) { seat(t, 2)->address = 58; }
+static void address_wide(struct table *t) { seat(t, 2)->address = ' ' + 256; }
 static void requester_none(struct table *t) { seat(t, 2)->requester = 0; }
 static void requester_between(struct table *t) { seat(t, 2)->requester = '['; }
 static void requester_wide(struct table *t) { seat(t, 2)->requester = 'z' + 256; }
@@ -28,6 +35,7 @@ static void key_shared_by_empty(struct table *t) {
     *seat(t, 4) = *seat(t, 2);
 }
 
+static void unused_address(struct table *t) { seat(t, 4)->address = ' '; }
 static void unused_requester(struct table *t) { seat(t, 4)->requester = '5'; }
 static void unused_number(struct table *t) { seat(t, 4)->number = 1; }
 static void unused_held(struct table *t) { seat(t, 15)->held = 1; }
@@ -45,7 +53,9 @@ static void mark_wide(struct table *t) { t->memory.marks[1] = 1 + 65536; }
 
 static void cell_without_lead(struct table *t) { cell(t, 1)[0] = REI2_REQUEST_LEAD; }
 static void cell_without_end(struct table *t) { cell(t, 1)[50] = '\n'; }
+static void cell_without_address(struct table *t) { cell(t, 1)[2] = '-'; }
 static void cell_address(struct table *t) { cell(t, 1)[2] = '0'; }
+static void seat_address(struct table *t) { seat(t, 1)->address = '0'; }
 static void cell_field(struct table *t) { cell(t, 1)[17] = '2'; }
 static void cell_requester(struct table *t) { cell(t, 1)[6] = 'B'; }
 static void cell_number(struct table *t) { cell(t, 1)[7] = '1'; }
@@ -77,6 +87,13 @@ struct spoil {
 static const struct spoil spoils[] = {
     {"bit 16 is set", bit_16},
     {"bit 63 is set", bit_63},
+    {"an address of 0", address_none},
+    {"an address below the space", address_31},
+    {"an address above the space", address_33},
+    {"the address that a list shows for a space", address_minus},
+    {"an address below the digits", address_47},
+    {"an address above the digits", address_58},
+    {"an address above 255", address_wide},
     {"a requester of 0", requester_none},
     {"a requester between Z and a", requester_between},
     {"a requester above 255", requester_wide},
@@ -84,6 +101,7 @@ static const struct spoil spoils[] = {
     {"the bit of a seat without a key", bit_of_unused},
     {"two seats with one key", key_shared},
     {"two empty seats with one key", key_shared_by_empty},
+    {"an unused seat with a space for its address", unused_address},
     {"an unused seat with a requester", unused_requester},
     {"an unused seat with a number", unused_number},
     {"an unused seat with records", unused_held},
@@ -98,7 +116,9 @@ static const struct spoil spoils[] = {
     {"a mark that is a seat's but for its high bits", mark_wide},
     {"a cell with another lead byte", cell_without_lead},
     {"a cell without its CR", cell_without_end},
+    {"a cell whose address is none", cell_without_address},
     {"a cell with another address", cell_address},
+    {"a seat with another address than its cell", seat_address},
     {"a cell with a wrong field", cell_field},
     {"a cell with another requester", cell_requester},
     {"a cell with another number", cell_number},
@@ -168,6 +188,13 @@ static void laid_is_a_desk(void) {
     CHECK(answer.counts.opened == 1 && answer.counts.collected == 1 && answer.counts.refused == 0);
 }
 
+/* Keys that differ in the address alone make a desk. */
+static void one_key_at_two_addresses(void) {
+    table_laid(&now);
+    *seat(&now, 2) = (rei2_seat){'0', 'A', 12, 0, 0};
+    SAYS(table_reply(&now, frames + REI2_REQUEST_SIZE, REI2_REPLY_SIZE), REI2_DONE, 0);
+}
+
 static void each_clause(void) {
     for (size_t i = 0; i < sizeof spoils / sizeof spoils[0]; i++) {
         trying(spoils[i].what);
@@ -204,6 +231,7 @@ static void other_rows(void) {
 void test_spoiled(void) {
     make_frames();
     laid_is_a_desk();
+    one_key_at_two_addresses();
     each_clause();
     garbage();
     other_rows();

@@ -71,15 +71,25 @@ static rei2_desk_answer kept(struct table *table, rei2_desk_answer answer) {
 }
 
 rei2_desk_answer table_opens(struct table *table, char requester, const char *number) {
+    return table_opens_at(table, ' ', requester, number);
+}
+
+rei2_desk_answer table_opens_at(struct table *table, char address, char requester, const char *number) {
     uint8_t frame[REI2_REQUEST_SIZE];
     make_request(frame, requester, number);
+    frame[2] = (uint8_t)address;
     rei2_desk_answer answer = table_open(table, frame, sizeof frame);
     return kept(table, answer);
 }
 
 rei2_desk_answer table_takes(struct table *table, char status, char requester, const char *number) {
+    return table_takes_at(table, ' ', status, requester, number);
+}
+
+rei2_desk_answer table_takes_at(struct table *table, char address, char status, char requester, const char *number) {
     uint8_t frame[REI2_REPLY_SIZE];
     make_reply(frame, status, requester, number);
+    frame[2] = (uint8_t)address;
     rei2_desk_answer answer = table_reply(table, frame, sizeof frame);
     return kept(table, answer);
 }

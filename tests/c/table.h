@@ -35,7 +35,8 @@ void table_of_garbage(struct table *table);
 /* An empty desk with garbage in cells and marks. */
 void table_emptied(struct table *table);
 
-/* A desk with four seats: 1 007 holds R and E, A 012 holds R, z 000 nothing, a 999 a Z. Two cells are free. */
+/* A desk with four seats, each with a space for its address: 1 007 holds R and E, A 012 holds R, z 000 nothing, a 999 a
+   Z. Two cells are free. */
 void table_laid(struct table *table);
 
 /* The calls. First a frame or a capture is copied to memory.input, and then all of memory is copied to was. */
@@ -44,9 +45,12 @@ rei2_desk_answer table_open(struct table *table, const uint8_t *frame, size_t si
 rei2_desk_answer table_reply(struct table *table, const uint8_t *frame, size_t size);
 rei2_captured_answer table_capture(struct table *table, const uint8_t *capture, size_t size);
 
-/* Opens a good request or takes a good reply. If that was done, the table has the state that was returned. */
+/* Opens a good request or takes a good reply, with a space or another address. If that was done, the table has the
+   state that was returned. */
 rei2_desk_answer table_opens(struct table *table, char requester, const char *number);
+rei2_desk_answer table_opens_at(struct table *table, char address, char requester, const char *number);
 rei2_desk_answer table_takes(struct table *table, char status, char requester, const char *number);
+rei2_desk_answer table_takes_at(struct table *table, char address, char status, char requester, const char *number);
 
 /* The memory is the same as was. A test that expects a change makes it in was first. */
 #define KEPT(table) SAME(&(table)->memory, &(table)->was, sizeof(struct memory))

@@ -8,7 +8,7 @@ use std::os::fd::FromRawFd;
 use std::path::PathBuf;
 use std::process::{Command, Output, Stdio};
 
-pub const HEADING: &str = "seat\tfrom\tnumber\tbib\tgroup\trun\tphys\tlog\tinfo\ttime\tdate\tstatus\n";
+pub const HEADING: &str = "seat\tfrom\taddr\tnumber\tbib\tgroup\trun\tphys\tlog\tinfo\ttime\tdate\tstatus\n";
 
 /// The root of the repository.
 pub fn root() -> PathBuf {
@@ -29,7 +29,11 @@ pub fn sample() -> Vec<u8> {
 }
 
 pub fn sample_list() -> String {
-    String::from_utf8(bytes_of("crates/rei2list/stdout")).expect("text")
+    text_of("crates/rei2list/stdout")
+}
+
+pub fn text_of(path: &str) -> String {
+    String::from_utf8(bytes_of(path)).expect("text")
 }
 
 /// A new folder for the files of a test.
@@ -87,7 +91,7 @@ pub fn shell(line: &str) -> Command {
 
 /// A line of docs/capture.md for the shell, with other words in place of those that depend on the office.
 pub fn of_the_page(line: &str, others: &[(&str, &str)]) -> String {
-    let page = String::from_utf8(bytes_of("docs/capture.md")).expect("text");
+    let page = text_of("docs/capture.md");
     assert!(page.lines().any(|one| one == format!("    {line}")), "docs/capture.md does not have: {line}");
     others.iter().fold(line.to_string(), |line, (old, new)| line.replace(old, new))
 }

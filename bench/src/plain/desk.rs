@@ -4,18 +4,24 @@ use super::finder::{next_frame, WHOLE};
 use super::refusal::{Refusal, DESK, ENDED, FULL, IN_USE, NO_ANSWER_DUE, NO_SEAT, OUT_OF_PLACE, STRAY};
 use super::test::is_desk;
 use super::{dynamic, reply, request};
-use crate::abi::{Counts, Desk, Seat, CELLS, CELL_SIZE, SEATS};
+use crate::abi::{Counts, Desk, ReplyHead, Seat, CELLS, CELL_SIZE, SEATS};
 
 /// The key by which a reply finds its seat.
 #[derive(Clone, Copy, PartialEq)]
 pub struct Key {
+    pub address: u32,
     pub requester: u32,
     pub number: u32,
 }
 
 #[inline]
 pub fn key_of(seat: &Seat) -> Key {
-    Key { requester: seat.requester, number: seat.number }
+    Key { address: seat.address, requester: seat.requester, number: seat.number }
+}
+
+#[inline]
+pub fn key_in(head: &ReplyHead) -> Key {
+    Key { address: head.address.into(), requester: head.requester.into(), number: head.number }
 }
 
 #[inline]
@@ -62,7 +68,7 @@ fn open_on_desk(seats: &mut [Seat; SEATS], desk: Desk, frame: &[u8]) -> Done {
     if request.information == b'q' {
         return Err(NO_ANSWER_DUE);
     }
-    let key = Key { requester: request.requester.into(), number: request.number };
+    let key = Key { address: request.address.into(), requester: request.requester.into(), number: request.number };
     if seat_with(seats, desk.bits, key).is_some() {
         return Err(IN_USE);
     }
@@ -70,13 +76,13 @@ fn open_on_desk(seats: &mut [Seat; SEATS], desk: Desk, frame: &[u8]) -> Done {
     if seat >= SEATS {
         return Err(NO_SEAT);
     }
-    seats[seat] = Seat { requester: key.requester, number: key.number, held: 0, ended: 0 };
+    seats[seat] = Seat { address: key.address, requester: key.requester, number: key.number, held: 0, ended: 0 };
     Ok((Desk { bits: desk.bits | 1 << seat, ..desk }, seat))
 }
 
 fn reply_on_desk(seats: &mut [Seat; SEATS], desk: Desk, cells: &mut [u8], marks: &mut [u32], frame: &[u8]) -> Done {
     let head = reply::read(frame)?.head;
-    let key = Key { requester: head.requester.into(), number: head.number };
+    let key = key_in(&head);
     let place = seat_with(seats, desk.bits, key).ok_or(STRAY)?;
     let seat = &mut seats[place];
     if seat.ended != 0 {

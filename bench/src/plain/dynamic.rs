@@ -1,6 +1,6 @@
 //! The dynamic request.
 
-use super::fields::{byte_at, clock_at, framed, is_output, is_requester, number_at, put_number, CR};
+use super::fields::{byte_at, clock_at, framed, is_address, is_output, is_requester, number_at, put_number, CR};
 use super::refusal::{part, Refusal, ROOM};
 use super::times::{is_clock, put_clock};
 use crate::abi::DynamicRequest;
@@ -14,6 +14,7 @@ pub fn read(bytes: &[u8]) -> Result<DynamicRequest, Refusal> {
     let requester = byte_at(frame, 3, is_requester)?;
     let order = byte_at(frame, 4, is_order)?;
     Ok(DynamicRequest {
+        address: frame[2],
         requester,
         order,
         bib: number_at::<5>(frame, 5, is_bib)?,
@@ -33,7 +34,7 @@ pub fn read(bytes: &[u8]) -> Result<DynamicRequest, Refusal> {
 pub fn write(record: &DynamicRequest, out: &mut [u8]) -> Result<usize, Refusal> {
     must_be_good(record)?;
     let frame: &mut [u8; SIZE] = out.first_chunk_mut().ok_or(ROOM)?;
-    frame[..3].copy_from_slice(&[LEAD, b'R', b' ']);
+    frame[..3].copy_from_slice(&[LEAD, b'R', record.address]);
     frame[3] = record.requester;
     frame[4] = record.order;
     put_number(&mut frame[5..10], record.bib);
@@ -52,6 +53,7 @@ pub fn write(record: &DynamicRequest, out: &mut [u8]) -> Result<usize, Refusal> 
 }
 
 fn must_be_good(record: &DynamicRequest) -> Result<(), Refusal> {
+    part(is_address(record.address), 2)?;
     part(is_requester(record.requester), 3)?;
     part(is_order(record.order), 4)?;
     part(is_bib(record.bib), 5)?;

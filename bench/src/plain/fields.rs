@@ -15,7 +15,7 @@ pub fn framed<const SIZE: usize>(bytes: &[u8], lead: u8) -> Result<&[u8; SIZE], 
     if frame[SIZE - 1] != CR {
         return Err(END);
     }
-    if frame[1..3] != *b"R " {
+    if frame[1] != b'R' || !is_address(frame[2]) {
         return Err(ADDRESS);
     }
     Ok(frame)
@@ -75,6 +75,10 @@ pub fn put_number(digits: &mut [u8], mut value: u32) {
         *digit = b'0' + (value % 10) as u8;
         value /= 10;
     }
+}
+
+pub fn is_address(code: u8) -> bool {
+    matches!(code, b' ' | b'0'..=b'9')
 }
 
 pub fn is_requester(code: u8) -> bool {

@@ -7,10 +7,13 @@ use std::ops::Range;
 
 const MOST_INPUT: usize = 32_768;
 const TOO_LONG: &[u8] = b"input too long\n";
-const HEADING: &[u8] = b"seat\tfrom\tnumber\tbib\tgroup\trun\tphys\tlog\tinfo\ttime\tdate\tstatus\n";
+const HEADING: &[u8] = b"seat\tfrom\taddr\tnumber\tbib\tgroup\trun\tphys\tlog\tinfo\ttime\tdate\tstatus\n";
 
-/// The bytes of a frame that the columns show.
-const COLUMNS: [Range<usize>; 11] = [6..7, 9..12, 12..17, 17..20, 20..23, 23..26, 26..29, 29..30, 30..40, 40..48, 5..6];
+/// How many bytes the columns of requester and address have.
+const FIRST_COLUMNS: usize = 4;
+
+/// The bytes of a frame that the other columns show.
+const COLUMNS: [Range<usize>; 10] = [9..12, 12..17, 17..20, 20..23, 23..26, 26..29, 29..30, 30..40, 40..48, 5..6];
 
 /// An output to which bytes are written one after the other.
 struct Text<'a> {
@@ -36,12 +39,20 @@ impl Text<'_> {
 
     fn put_row(&mut self, seat: usize, frame: &[u8]) {
         self.put_decimal(seat);
+        self.put(&first_columns(frame));
         for column in COLUMNS {
             self.put(b"\t");
             self.put(&frame[column]);
         }
         self.put(b"\n");
     }
+}
+
+/// The columns of requester and address, a space shown as `-`.
+#[inline]
+fn first_columns(frame: &[u8]) -> [u8; FIRST_COLUMNS] {
+    let address = if frame[2] == b' ' { b'-' } else { frame[2] };
+    [b'\t', frame[6], b'\t', address]
 }
 
 /// How many digits a number has.
@@ -76,8 +87,8 @@ fn numbers(counts: &Counts) -> [usize; 4] {
 }
 
 fn size_of_list(marks: &[u32], counts: &Counts) -> usize {
-    let shown: usize = COLUMNS.iter().map(|column| 1 + column.len()).sum();
-    let rows: usize = marks.iter().map(|&mark| width_of(mark as usize) + shown + 1).sum();
+    let columns: usize = COLUMNS.iter().map(|column| 1 + column.len()).sum();
+    let rows: usize = marks.iter().map(|&mark| width_of(mark as usize) + FIRST_COLUMNS + columns + 1).sum();
     let end: usize = numbers(counts).iter().map(|&value| 1 + width_of(value)).sum();
     HEADING.len() + rows + "end".len() + end + 1
 }

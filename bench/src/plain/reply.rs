@@ -1,7 +1,7 @@
 //! The static reply.
 
 use super::fields::{
-    all_raw, byte_at, clock_at, framed, is_raw, is_requester, number, number_at, put_number, raw_at, CR,
+    all_raw, byte_at, clock_at, framed, is_address, is_raw, is_requester, number, number_at, put_number, raw_at, CR,
 };
 use super::refusal::{field, part, Refusal, ROOM};
 use super::times::{is_clock, is_day, net_parts, net_value, put_clock};
@@ -31,7 +31,21 @@ pub fn read(bytes: &[u8]) -> Result<ReplyRecord, Refusal> {
         _ => (TimingNumbers { kind: RAW, ..TimingNumbers::default() }, raw_at(frame, 30)?, raw_at(frame, 40)?),
     };
     let spare = raw_at(frame, 48)?;
-    let head = ReplyHead { program, mode, status, requester, number, bib, group, run, physical, channel, information };
+    let address = frame[2];
+    let head = ReplyHead {
+        address,
+        program,
+        mode,
+        status,
+        requester,
+        number,
+        bib,
+        group,
+        run,
+        physical,
+        channel,
+        information,
+    };
     Ok(ReplyRecord { head, timing, raw_time, raw_date, spare })
 }
 
@@ -65,7 +79,7 @@ pub fn write(record: &ReplyRecord, out: &mut [u8]) -> Result<usize, Refusal> {
     head_must_be_good(head)?;
     timing_must_be_good(record)?;
     let frame: &mut [u8; SIZE] = out.first_chunk_mut().ok_or(ROOM)?;
-    frame[..3].copy_from_slice(&[LEAD, b'R', b' ']);
+    frame[..3].copy_from_slice(&[LEAD, b'R', head.address]);
     frame[3] = head.program;
     frame[4] = head.mode;
     frame[5] = head.status;
@@ -107,6 +121,7 @@ fn put_timing(record: &ReplyRecord, frame: &mut [u8; SIZE]) {
 }
 
 fn head_must_be_good(head: &ReplyHead) -> Result<(), Refusal> {
+    part(is_address(head.address), 2)?;
     part(is_raw(head.program), 3)?;
     part(is_raw(head.mode), 4)?;
     part(is_status(head.status), 5)?;

@@ -1,6 +1,6 @@
 //! The static request.
 
-use super::fields::{byte_at, framed, is_output, is_requester, number_at, put_number, CR};
+use super::fields::{byte_at, framed, is_address, is_output, is_requester, number_at, put_number, CR};
 use super::refusal::{part, Refusal, ROOM};
 use crate::abi::StaticRequest;
 
@@ -11,6 +11,7 @@ const SIZE: usize = 24;
 pub fn read(bytes: &[u8]) -> Result<StaticRequest, Refusal> {
     let frame = framed::<SIZE>(bytes, LEAD)?;
     Ok(StaticRequest {
+        address: frame[2],
         requester: byte_at(frame, 3, is_requester)?,
         number: number_at::<3>(frame, 4, |_| true)?,
         bib: number_at::<5>(frame, 7, is_bib)?,
@@ -25,7 +26,7 @@ pub fn read(bytes: &[u8]) -> Result<StaticRequest, Refusal> {
 pub fn write(record: &StaticRequest, out: &mut [u8]) -> Result<usize, Refusal> {
     must_be_good(record)?;
     let frame: &mut [u8; SIZE] = out.first_chunk_mut().ok_or(ROOM)?;
-    frame[..3].copy_from_slice(&[LEAD, b'R', b' ']);
+    frame[..3].copy_from_slice(&[LEAD, b'R', record.address]);
     frame[3] = record.requester;
     put_number(&mut frame[4..7], record.number);
     put_number(&mut frame[7..12], record.bib);
@@ -39,6 +40,7 @@ pub fn write(record: &StaticRequest, out: &mut [u8]) -> Result<usize, Refusal> {
 }
 
 fn must_be_good(record: &StaticRequest) -> Result<(), Refusal> {
+    part(is_address(record.address), 2)?;
     part(is_requester(record.requester), 3)?;
     part(record.number <= 999, 4)?;
     part(is_bib(record.bib), 7)?;

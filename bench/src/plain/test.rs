@@ -1,7 +1,7 @@
 //! The desk test: its eleven clauses, with one pass over the held cells.
 
-use super::desk::{capacity, is_used, key_of, Key};
-use super::fields::is_requester;
+use super::desk::{capacity, is_used, key_in, key_of, Key};
+use super::fields::{is_address, is_requester};
 use super::reply;
 use crate::abi::{Desk, ReplyRecord, Seat, CELL_SIZE, SEATS};
 
@@ -32,7 +32,9 @@ fn seats_are_good(seats: &[Seat; SEATS], bits: u64) -> bool {
 }
 
 fn is_request_key(key: Key) -> bool {
-    u8::try_from(key.requester).is_ok_and(is_requester) && key.number <= 999
+    u8::try_from(key.address).is_ok_and(is_address)
+        && u8::try_from(key.requester).is_ok_and(is_requester)
+        && key.number <= 999
 }
 
 fn keys_differ(seats: &[Seat; SEATS], bits: u64) -> bool {
@@ -52,9 +54,8 @@ fn cells_are_good(seats: &[Seat; SEATS], desk: Desk, cells: &[u8], marks: &[u32]
         }
         let Ok(ReplyRecord { head, .. }) = reply::read(cell) else { return false };
         let view = &mut views[place];
-        let key = Key { requester: head.requester.into(), number: head.number };
         let in_place = !view.ended && (head.status != b'Z' || view.held == 0);
-        if key != key_of(&seats[place]) || !in_place {
+        if key_in(&head) != key_of(&seats[place]) || !in_place {
             return false;
         }
         view.held += 1;

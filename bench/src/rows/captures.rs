@@ -6,7 +6,7 @@ use crate::inputs::{full_capture, mixed_capture, Lent};
 use crate::random::Random;
 use crate::witness::Witness;
 
-const LONGEST_LIST: usize = 14_170;
+const LONGEST_LIST: usize = 14_687;
 
 /// Finds all frames of a capture, one after the other.
 struct Walking {

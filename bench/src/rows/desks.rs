@@ -88,7 +88,7 @@ impl Calls for ReadingBack {
 fn opening(held: usize) -> Row {
     let mut random = Random::new(4);
     let lent = Lent::with(&mut random, USED, held);
-    let frames = (0..FRAMES).map(|k| request_with(&mut random, (b'z', 900 + k as u32))).collect();
+    let frames = (0..FRAMES).map(|k| request_with(&mut random, (b' ', b'z', 900 + k as u32))).collect();
     let mut about = About::new("rei2_open", format!("opened, {held} cells held, {USED} seats in use"), 0, FRAMES);
     about.cleared = "the seat";
     Row::new(about, Opening { lent, frames })

@@ -243,15 +243,16 @@ rules-worked = record {
 pub address-worked : AddressWorked
 unfolding numberAt numberFrom oneOf between upTo isAddress isRequester isOutput allFrom fieldsOf recordWrong headTold read wrongIn ticksOf clockNumber isNet isRaw timingKind isSign timed isStatus Q.isInformation Q.isRequestChannel Q.requestFields P.isLetter P.isReplyChannel P.leastRun P.fromBib P.replyFields D.isOrder D.isDynamicChannel D.leastPeriod D.dynamicFields
 address-worked = record {
-  in-request = record { good = refl; others = refl };
-  in-reply = record { good = refl; others = refl };
-  in-dynamic = record { good = refl; others = refl };
+  in-request = refl;
+  in-reply = refl;
+  in-dynamic = refl;
   before-field = refl;
-  address-first = refl;
-  of-request = record { good = refl; others = refl };
-  of-reply = record { good = refl; others = refl };
-  of-dynamic = record { good = refl; others = refl };
+  before-reply-field = refl;
+  before-dynamic-field = refl;
+  of-request = refl;
+  of-reply = refl;
+  of-dynamic = refl;
   before-requester = refl;
   before-program = refl;
-  before-order = refl;
+  before-dynamic-requester = refl;
 }

@@ -152,6 +152,10 @@ module _ {R : Type 0} (k : Kind R) (at : List ℕ → R) (sees : (s : List ℕ) 
       → t ≡ tried (eqb (wrongIn k r) 0) (FIELD (wrongIn k r)) (gives r) → t ≡ read k s
   read-record s r e h t q f g = read-fields k s (wrongIn k (at s)) (at s) (λ _. sees s) h t q f (rw e at g)
 
+-- a frame that passed the tests of the head has its kind's size
+pub passed-long : (lead size : ℕ) (s : List ℕ) (h : ReadVerdict) → h ≡ Read → verdictTold h ≡ headTold lead size s → length s ≡ size
+passed-long lead size s h q e = let good : gives tt ≡ headTold lead size s = rw q at e in passed lead size s (sym good) .long
+
 pub read-head : {R : Type 0} (k : Kind R) (s : List ℕ) (h : ReadVerdict) (f : ReadRefusal) → h ≡ turned f → verdictTold h ≡ headTold (k .lead) (k .size) s → refuses (readRefused f) ≡ read k s
 unfolding read
 read-head k s h f is e = rw (← e, is)

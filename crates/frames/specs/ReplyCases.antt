@@ -1,4 +1,4 @@
--- Worked cases of the static reply: one of each kind of time and date written out in full, each byte of it damaged, both sides of each rule, and each part of its record out of range.
+-- Worked cases of the static reply: one of each kind of time and date written out in full, each byte after the address damaged, both sides of each rule, and each part of its record out of range.
 use Prim.Native.Nat.{ℕ}
 use Prim.Native.String.{String}
 use mathlib.Core.List.{List, [], _∷_, _++_}

@@ -1,4 +1,4 @@
--- Worked cases of the static request: one spelled out in full, each byte of it damaged, both sides of each rule, each part of its record out of range.
+-- Worked cases of the static request: one spelled out in full, each byte after the address damaged, both sides of each rule, each part of its record out of range.
 use Prim.Native.Nat.{ℕ}
 use Prim.Native.String.{String}
 use mathlib.Core.List.{List, [], _∷_, _++_}

@@ -28,11 +28,11 @@ use digits::put_bytes;
 use digits::put_number;
 ghost use mathlib.Core.Path.{_≡_};
 ghost use lib.Seq.{sets};
-ghost use lib.ListN.{replicate};
+ghost use lib.ListN.{length, replicate};
 ghost use Rattle.frames.specs.Kind.{wrongIn, Wrote};
 ghost use Rattle.frames.specs.inside.Reply as I;
 ghost use Rattle.frames.specs.Status.{isStatus};
-ghost use Rattle.frames.specs.Reply.{isLetter, isReplyChannel, leastRun, reply, zeroReply, ReadAs, checkTold, CheckedAs};
+ghost use Rattle.frames.specs.Reply.{isLetter, isReplyChannel, leastRun, reply, zeroHead, zeroReply, ReadAs, checkTold, CheckedAs};
 
 pub const REPLY_LEAD: u8 = 18;
 
@@ -203,20 +203,7 @@ fn zero_reply() -> StaticReply
     ensures { λ r. ⌜ r ≡ zeroReply ⌝ }
 {
     StaticReply {
-        head: ReplyHead {
-            address: 0,
-            program: 0,
-            mode: 0,
-            status: 0,
-            requester: 0,
-            number: 0,
-            bib: 0,
-            group: 0,
-            run: 0,
-            physical: 0,
-            channel: 0,
-            information: 0,
-        },
+        head: zero_head(),
         timing: Timing::Raw,
         raw_time: [0; 10],
         raw_date: [0; 8],
@@ -224,7 +211,27 @@ fn zero_reply() -> StaticReply
     }
 }
 
+fn zero_head() -> ReplyHead
+    ensures { λ r. ⌜ r ≡ zeroHead ⌝ }
+{
+    ReplyHead {
+        address: 0,
+        program: 0,
+        mode: 0,
+        status: 0,
+        requester: 0,
+        number: 0,
+        bib: 0,
+        group: 0,
+        run: 0,
+        physical: 0,
+        channel: 0,
+        information: 0,
+    }
+}
+
 fn fields_read(s: &[u8]) -> ReplyRead
+    requires { ⌜ length (now s) ≡ 51 ⌝ }
     ensures { λ r. ⌜ r ≡ I.fieldsRead (now (s .entry)) ⌝ }
 {
     let h = head_at(s);
@@ -234,6 +241,7 @@ fn fields_read(s: &[u8]) -> ReplyRead
 }
 
 fn fields_checked(s: &[u8]) -> ReplyCheck
+    requires { ⌜ length (now s) ≡ 51 ⌝ }
     ensures { λ r. ⌜ checkTold r ≡ I.fieldsChecked (now (s .entry)) ⌝ }
 {
     let h = head_at(s);
@@ -266,8 +274,13 @@ fn judged(r: StaticReply, wrong: u8) -> ReplyRead
 
 // The parts before time and date as they are in a frame, wrong or not.
 fn head_at(s: &[u8]) -> ReplyHead
+    requires { ⌜ length (now s) ≡ 51 ⌝ }
     ensures { λ r. ⌜ r ≡ I.headAt (now (s .entry)) ⌝ }
 {
+    // This never returns. It tells the compiler the length, so that no byte needs a test of its own.
+    if s.len() != REPLY_SIZE {
+        return zero_head();
+    }
     ReplyHead {
         address: byte_at(s, field::ADDRESS),
         program: byte_at(s, field::PROGRAM),

@@ -8,7 +8,7 @@ use std::process::Stdio;
 use std::thread;
 use std::time::Duration;
 
-use rei2list_tests::{command, file, rei2list, rei2list_of, sample, sample_list, seen, shell, Seen, HEADING};
+use rei2list_tests::{command, file, rei2list, rei2list_of, sample, sample_list, seen, shell, text_of, Seen, HEADING};
 
 fn list(text: &str) -> Seen {
     Seen { out: text.into(), err: String::new(), done: true }
@@ -29,6 +29,13 @@ fn socket() -> (Stdio, UnixStream, UnixStream) {
 #[test]
 fn the_sample_is_listed() {
     assert_eq!(rei2list(file("samples/example.capture")), list(&sample_list()));
+}
+
+/// Two stopwatches are asked the same by one requester: each has a seat of its own.
+#[test]
+fn two_stopwatches_are_listed_apart() {
+    let apart = text_of("samples/two-stopwatches.list");
+    assert_eq!(rei2list(file("samples/two-stopwatches.capture")), list(&apart));
 }
 
 #[test]

@@ -7,7 +7,7 @@ use std::process::Stdio;
 use std::thread;
 use std::time::{Duration, Instant};
 
-use rei2list_tests::{bytes_of, line, of_the_page, rei2list_of, room, root, sample, sample_list, seen, shell, HEADING};
+use rei2list_tests::{line, of_the_page, rei2list_of, room, root, sample, sample_list, seen, shell, text_of, HEADING};
 
 const SET_UP: &str = "stty -F /dev/ttyUSB0 SPEED raw -echo clocal";
 const COPY_REQUESTS: &str = r#"LC_ALL=C awk 'BEGIN { RS = ORS = "\r" } match($0, /\021[^\021\022\023]*$/) { print substr($0, RSTART) }' race.capture > requests.capture"#;
@@ -83,7 +83,7 @@ fn a_line_is_watched_while_it_is_recorded() {
     master.write_all(&sample()[48..]).expect("the bytes are sent");
 
     // A line for each frame, before the line ends, with the reason for the one that is refused.
-    let expected = String::from_utf8(bytes_of("examples/watch/expected")).expect("text");
+    let expected = text_of("examples/watch/expected");
     let frames: String = expected.lines().take(6).map(|line| format!("{line}\n")).collect();
     assert!(frames.ends_with("201 reply refused, ENDED\n"));
     let so_far = || fs::read_to_string(room.join("printed")).expect("text");
@@ -127,7 +127,7 @@ fn long_capture(replies: usize) -> Vec<u8> {
 
 fn bibs(list: &str, seat: &str) -> Vec<usize> {
     let rows = list.lines().map(|line| line.split('\t').collect::<Vec<_>>());
-    rows.filter(|row| row[0] == seat).map(|row| row[3].parse().expect("a bib")).collect()
+    rows.filter(|row| row[0] == seat).map(|row| row[4].parse().expect("a bib")).collect()
 }
 
 #[test]

@@ -4,7 +4,7 @@ use std::fs::{self, File};
 use std::os::unix::fs::symlink;
 use std::process::{Command, Stdio};
 
-use rei2list_tests::{bytes_of, command, file, room, root, sample_list, seen, shell, Seen};
+use rei2list_tests::{bytes_of, command, file, room, root, sample_list, seen, shell, text_of, Seen};
 
 fn said(out: &str, err: &str, done: bool) -> Seen {
     Seen { out: out.into(), err: err.into(), done }
@@ -48,16 +48,17 @@ fn a_file_or_standard_input_is_listed() {
     }
 }
 
-/// Words apart: the page shows tabs as blanks.
+/// Words apart: the pages show tabs as blanks.
 #[test]
-fn the_first_page_shows_the_list_of_the_sample() {
-    let page = String::from_utf8(bytes_of("README.md")).expect("text");
+fn the_pages_show_the_lists_of_the_samples() {
     let rows = |text: &str| {
         text.lines().map(|line| line.split_whitespace().map(String::from).collect()).collect::<Vec<Vec<_>>>()
     };
-    let shown: Vec<_> =
-        rows(&page).into_iter().skip_while(|row| row.first().map(String::as_str) != Some("seat")).collect();
-    assert_eq!(shown[..5], rows(&sample_list()));
+    for (page, list) in [("README.md", sample_list()), ("docs/rei2list.md", text_of("samples/two-stopwatches.list"))] {
+        let wanted = rows(&list);
+        let shown = rows(&text_of(page));
+        assert!(shown.windows(wanted.len()).any(|lines| lines == wanted), "{page} does not have:\n{list}");
+    }
 }
 
 #[test]

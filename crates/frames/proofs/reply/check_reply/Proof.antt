@@ -3,6 +3,7 @@ use Rattle.frames.proofs.ReplyLaws.{check-as, check-refused}
 use mathlib.Core.Path.{_∙_}
 use mathlib.Core.Path.{_∙_}
 use borrow.Author.Needs.{needs}
+use Rattle.frames.proofs.KindLaws.{passed-long}
 use Rattle.frames.proofs.reply.check_reply.Statement.{statement}
 use Rattle.frames.proofs.reply.check_reply.Tie as tie
 
@@ -13,7 +14,7 @@ enum-told : tie.Need-enum-told
 enum-told c = search needs
 
 fields-checked-requires : tie.Need-fields-checked-requires
-fields-checked-requires c κs = search needs
+fields-checked-requires c κs = passed-long 18 51 _ _ (c .enum-told .given .1) (c .before .before .head-of .ensures)
 
 enum-known-refusal : tie.Need-enum-known-refusal
 enum-known-refusal c = search needs

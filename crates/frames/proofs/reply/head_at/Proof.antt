@@ -3,6 +3,12 @@ use borrow.Author.Needs.{needs}
 use Rattle.frames.proofs.reply.head_at.Statement.{statement}
 use Rattle.frames.proofs.reply.head_at.Tie as tie
 
+zero-head-requires : tie.Need-zero-head-requires
+zero-head-requires c κs = search needs
+
+returns : tie.Need-returns
+returns c = absurd (c .before .if1 .taken (c .before .before .before .pre))
+
 byte-at-requires : tie.Need-byte-at-requires
 byte-at-requires c κs = search needs
 
@@ -39,8 +45,8 @@ byte-at-requires-5 c κs = search needs
 byte-at-requires-6 : tie.Need-byte-at-requires-6
 byte-at-requires-6 c κs = search needs
 
-returns : tie.Need-returns
-returns c =
+returns-2 : tie.Need-returns-2
+returns-2 c =
     rw (
       c .byte-at6 .ensures,
       c .before .number-or-none6 .ensures,
@@ -60,6 +66,8 @@ pub head-at-spec : {M : Type 1} → statement M
 head-at-spec =
     tie.close
     (tie.spec
+    zero-head-requires
+    returns
     byte-at-requires
     byte-at-requires-2
     byte-at-requires-3
@@ -72,4 +80,4 @@ head-at-spec =
     number-or-none-requires-5
     number-or-none-requires-6
     byte-at-requires-6
-    returns)
+    returns-2)

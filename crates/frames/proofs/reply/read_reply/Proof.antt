@@ -1,5 +1,6 @@
 -- `frames::reply::read_reply` meets its contract: the head, then the fields. Assumes nothing.
 use borrow.Author.Needs.{needs}
+use Rattle.frames.proofs.KindLaws.{passed-long}
 use Rattle.frames.proofs.reply.read_reply.Statement.{statement}
 use Rattle.frames.proofs.reply.read_reply.Tie as tie
 use Rattle.frames.proofs.ReplyLaws.{refused-as, read-as}
@@ -11,7 +12,7 @@ enum-told : tie.Need-enum-told
 enum-told c = search needs
 
 fields-read-requires : tie.Need-fields-read-requires
-fields-read-requires c κs = search needs
+fields-read-requires c κs = passed-long 18 51 _ _ (c .enum-told .given .1) (c .before .before .head-of .ensures)
 
 enum-known-refusal : tie.Need-enum-known-refusal
 enum-known-refusal c = search needs
