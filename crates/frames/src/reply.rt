@@ -277,7 +277,7 @@ fn head_at(s: &[u8]) -> ReplyHead
     requires { ⌜ length (now s) ≡ 51 ⌝ }
     ensures { λ r. ⌜ r ≡ I.headAt (now (s .entry)) ⌝ }
 {
-    // This never returns. It tells the compiler the length, so that no byte needs a test of its own.
+    // The length is always this one. The test tells the compiler so, and then no byte needs a test of its own.
     if s.len() != REPLY_SIZE {
         return zero_head();
     }
