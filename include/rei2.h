@@ -121,7 +121,7 @@ typedef struct rei2_desk {
     uint32_t count;
 } rei2_desk;
 
-/* A seat. address, requester and number are the key of its request; address and requester are held by their code. held
+/* A seat. address, requester and number are the key of its request; address and requester are held by their codes. held
    is how many records it holds. ended is 0 until it takes an E or a Z, and 1 after that. A seat that is not in use is
    all 0, so its address is 0. */
 typedef struct rei2_seat {

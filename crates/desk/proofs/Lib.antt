@@ -18,5 +18,6 @@ pub mod KeepsLaws
 pub mod LeavesLaws
 pub mod CellLaws
 pub mod CaptureDemands
+pub mod KeyDemands
 pub mod Unique
 pub mod SureLaws

@@ -18,7 +18,7 @@ pub record RefusedKeeps : Type 0 where
   pub reply : (m : Memory) (f : List ℕ) (why : Refusal) → replies m f .answer ≡ refuses why → replies m f .after ≡ m
   pub capture : (m : Memory) (s : List ℕ) (why : Refusal) → captures m s .answer ≡ refuses why → captures m s .after ≡ m
 
--- seat i is as before: its four numbers, whether it is in use, and the records it holds
+-- seat i is as before: its five numbers, whether it is in use, and the records it holds
 pub record SameSeat (m after : Memory) (i : ℕ) : Type 0 where
   pub seat : seatAt (after .row) i ≡ seatAt (m .row) i
   pub used : usedBit (after .bits) i ≡ usedBit (m .bits) i

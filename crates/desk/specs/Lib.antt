@@ -11,6 +11,7 @@ pub mod Keeps
 pub mod Rule
 pub mod Mix
 pub mod CaptureDemands
+pub mod KeyDemands
 pub mod ReadBack
 pub mod Unique
 pub mod Cases

@@ -7,7 +7,7 @@ ghost use Prim.Native.Nat.{_<_};
 ghost use Rattle.desk.specs.Key.{keyIn, seatKey, sameKey, isKey};
 ghost use Rattle.desk.specs.Seats.{usedBit, keyed, seatWith};
 
-// Address and requester are held by their code.
+// Address and requester are held by their codes.
 pub struct Key {
     pub address: u32,
     pub requester: u32,

@@ -10,7 +10,7 @@ ghost use Rattle.desk.specs.Limits.{seatCount};
 ghost use Rattle.desk.specs.Memory.{capacityOf};
 ghost use Rattle.desk.specs.Calls.{seatsInUse, emptyDesk};
 
-// Five numbers without padding. Address and requester are held by their code; `ended` is 0 or 1.
+// Five numbers without padding. Address and requester are held by their codes; `ended` is 0 or 1.
 #[repr(C)]
 pub struct Seat {
     pub address: u32,

@@ -60,6 +60,7 @@ worked = record {
   room-23 = refl;
   room-24 = refl;
   end-before-address = refl;
+  end-before-byte-2 = refl;
   address-before-field = refl;
   first-field = refl;
   record-before-room = refl;
@@ -241,11 +242,14 @@ rules-worked = record {
 }
 
 pub address-worked : AddressWorked
-unfolding numberAt numberFrom oneOf between upTo isAddress isRequester isOutput allFrom fieldsOf recordWrong headTold read wrongIn ticksOf clockNumber isNet isRaw timingKind isSign timed isStatus Q.isInformation Q.isRequestChannel Q.requestFields P.isLetter P.isReplyChannel P.leastRun P.fromBib P.replyFields D.isOrder D.isDynamicChannel D.leastPeriod D.dynamicFields
+unfolding numberAt numberFrom oneOf between upTo isAddress isRequester isOutput allFrom fieldsOf recordWrong headTold read wrongIn writeTried ticksOf clockNumber isNet isRaw timingKind isSign timed isStatus Q.isInformation Q.isRequestChannel Q.requestFields P.isLetter P.isReplyChannel P.leastRun P.fromBib P.replyFields D.isOrder D.isDynamicChannel D.leastPeriod D.dynamicFields
 address-worked = record {
   in-request = refl;
   in-reply = refl;
   in-dynamic = refl;
+  held-by-request = refl;
+  held-by-reply = refl;
+  held-by-dynamic = refl;
   before-field = refl;
   before-reply-field = refl;
   before-dynamic-field = refl;
@@ -255,4 +259,8 @@ address-worked = record {
   before-requester = refl;
   before-program = refl;
   before-dynamic-requester = refl;
+  request-refused = refl;
+  reply-refused = refl;
+  dynamic-refused = refl;
+  refused-without-room = refl;
 }

@@ -119,6 +119,7 @@ pub record Worked : Type 0 where
   pub time-of-none : runningTime (record { bib = 0; tnow = 0; tev = 1; sign = 0; days = 0; time = 0 }) ≡ refuses (plain 8)
   -- of two faults, the one that is tested first is reported (the frames of case 9 show KIND before LENGTH, and LENGTH before END)
   pub end-before-address : read request (17 ∷ (codes "S A012000411255001000S" ++ (10 ∷ []))) ≡ refuses (plain 3)
+  pub end-before-byte-2 : read request (17 ∷ (codes "R-A012000411255001000S" ++ (10 ∷ []))) ≡ refuses (plain 3)
   pub address-before-field : read request (17 ∷ (codes "S [012000411255001000S" ++ (13 ∷ []))) ≡ refuses (plain 4)
   pub first-field : read request (17 ∷ (codes "R [012000411255251000x" ++ (13 ∷ []))) ≡ refuses (placed 5 3)
   pub record-before-room : writeTried (wrongIn request (asked 251)) 24 0 ≡ refuses (placed 6 16)

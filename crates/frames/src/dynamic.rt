@@ -65,7 +65,7 @@ pub mod field {
     pub const END: usize = 45;
 }
 
-// Address and letters by their code. Sign, time in ticks and days are those of Taux; the sign is kept if time and days are zero.
+// Address and letters by their codes. Sign, time in ticks and days are those of Taux; the sign is kept if time and days are zero.
 #[repr(C)]
 pub struct DynamicRequest {
     pub address: u8,

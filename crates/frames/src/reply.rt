@@ -92,7 +92,7 @@ const LETTERS_LOW: u64 = 0x3ff_0000_0000_0000;
 
 const LETTERS_HIGH: u64 = 0xa9_0f82_019f_0f82;
 
-// The parts before time and date. Address, letters, program and mode are held by their code.
+// The parts before time and date. Address, letters, program and mode are held by their codes.
 #[repr(C)]
 pub struct ReplyHead {
     pub address: u8,
@@ -124,7 +124,7 @@ pub struct ReplyRead {
     pub reply: StaticReply,
 }
 
-// Where a good reply belongs, and its status. Address and requester are held by their code, as in a key.
+// Where a good reply belongs, and its status. Address and requester are held by their codes, as in a key.
 pub struct ReplyLabel {
     pub status: u8,
     pub address: u32,
@@ -326,7 +326,7 @@ fn reply_wrong(r: StaticReply) -> u8
     wrong_unless(is_address(head.address), field::ADDRESS, wrong)
 }
 
-// The offset of the first wrong part from the program on and before time and date; otherwise what `rest` says. A frame's address was tested before.
+// The offset of the first wrong part from the program to the information; otherwise what `rest` says. The address of a frame was tested before.
 fn head_wrong(h: ReplyHead, rest: u8) -> u8
     ensures { λ w. ⌜ w ≡ I.headWrong h rest ⌝ }
 {

@@ -57,7 +57,7 @@ const INFORMATION_LOW: u64 = 0x3ff_0400_0000_0000;
 
 const INFORMATION_HIGH: u64 = 0xbb_1f9e_019f_1f82;
 
-// Address and letters are held by their code. A number can hold more than its field can show.
+// Address and letters are held by their codes. A number can hold more than its field can show.
 #[repr(C)]
 pub struct StaticRequest {
     pub address: u8,

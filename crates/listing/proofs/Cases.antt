@@ -108,5 +108,5 @@ unfolding widthWithin width columns longestRow longestEnd
 longest-is = refl
 
 pub list-worked : ListWorked
-unfolding listOf
-list-worked = record { small-list = rw (pieces-small, after-small, counts-small) text-small; not-too-long = refl; too-long = refl; longest = longest-is }
+unfolding listOf addressShown
+list-worked = record { small-list = rw (pieces-small, after-small, counts-small) text-small; addresses = refl; not-too-long = refl; too-long = refl; longest = longest-is }

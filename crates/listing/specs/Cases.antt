@@ -1,11 +1,12 @@
 -- A small capture and its list, written out.
 use Prim.Native.Nat.{ℕ}
 use Prim.Native.String.{String}
-use mathlib.Core.List.{List, [], _∷_, _++_}
+use mathlib.Core.List.{List, [], _∷_, _++_, map}
 use mathlib.Core.Bool.{true}
 use mathlib.Core.Path.{_≡_}
 use lib.ListN.{replicate}
 use Rattle.digits.specs.Text.{codes}
+use Rattle.listing.specs.Text.{addressShown}
 use Rattle.listing.specs.Listing.{short, listOf}
 use Rattle.listing.specs.Sizes.{longestList}
 
@@ -32,6 +33,8 @@ pub record ListWorked : Type 0 where
       ++ codes "0\tA\t-\t007\t00015\t003\t014\t015\t006\tP\t2122232425\t26272829\tE\n"
       ++ codes "1\t1\t3\t012\t00009\t004\t001\t002\t003\tP\t1112131415\t16171819\tR\n"
       ++ codes "end\t2\t3\t1\t2\n"
+  -- how each address is shown
+  pub addresses : map addressShown (codes " 0123456789") ≡ codes "-0123456789"
   -- 32,768 bytes are listed; one more is too long
   pub not-too-long : short [] [] (replicate 32768 0) ≡ true
   pub too-long : listOf [] [] (replicate 32769 0) ≡ codes "input too long\n"

@@ -122,7 +122,17 @@ captures-taken = record {
 
 frames-read : FramesRead
 unfolding numberAt numberFrom oneOf ticksOf leap monthLength realDay isNet between upTo isAddress isRaw isRequester isOutput allFrom fieldsOf headTold read timingKind isSign timed Q.isInformation Q.isRequestChannel Q.requestFields isStatus P.isLetter P.isReplyChannel P.leastRun P.fromBib P.replyFields D.isOrder D.isDynamicChannel D.leastPeriod D.dynamicFields
-frames-read = record { request-read = refl; request-refused = refl; reply-read = refl; reply-refused = refl; dynamic-read = refl; dynamic-refused = refl }
+frames-read = record {
+  request-read = refl;
+  request-refused = refl;
+  request-address = refl;
+  reply-read = refl;
+  reply-refused = refl;
+  reply-address = refl;
+  dynamic-read = refl;
+  dynamic-address = refl;
+  dynamic-refused = refl;
+}
 
 frames-written : FramesWritten
 unfolding oneOf leap monthLength realDay between upTo isAddress isRaw isRequester isOutput allFrom recordWrong wrongIn writeTried timingKind timed Q.isInformation Q.isRequestChannel Q.requestFields isStatus P.isLetter P.isReplyChannel P.leastRun P.fromBib P.replyFields timingOf leftOver wrongInC frameOf write digits
@@ -131,8 +141,10 @@ frames-written = record {
   no-bytes = λ _ _ w. w .bytes;
   written = λ _ _ w. w .told;
   no-record = λ _ _ w. w .told;
+  no-address = λ _ _ w. w .told;
   no-room = λ _ _ w. w .told;
   reply-written = λ _ _ w. w .told;
+  reply-no-address = λ _ _ w. w .told;
   left-over = λ _ _ w. w .told;
   reply-room = λ _ _ w. w .told;
 }
@@ -152,6 +164,7 @@ timing-numbered = record {
   raw-day = refl;
   raw-net = refl;
   raw-alone = refl;
+  address-first = refl;
   bib-first = refl;
   time-first = refl;
   date-first = refl;

@@ -12,6 +12,9 @@ use Rattle.frames.specs.Request.{request}
 use Rattle.frames.specs.Reply.{reply}
 use Rattle.frames.specs.Dynamic.{dynamic}
 use Rattle.frames.specs.Cases as F
+use Rattle.frames.specs.RequestCases as Q
+use Rattle.frames.specs.ReplyCases as P
+use Rattle.frames.specs.DynamicCases as D
 use Rattle.finder.specs.Pieces.{foundFrom}
 use Rattle.desk.specs.Memory.{Memory, memory}
 use Rattle.desk.specs.Calls.{resets, opens, replies, nextHeld}
@@ -97,10 +100,14 @@ pub record CapturesTaken : Type 0 where
 
 -- ---- frames read
 
--- the record of a reply as in the cases of frames, with this bib, letter and timing, and no raw bytes
+-- the record of a reply as in the cases of frames, with this address, bib, letter and timing, and no raw bytes
+abbrev pub toldAt : ℕ → ℕ → ℕ → TimingNumbers → ReplyRecord
+toldAt address bib letter timing =
+    record { head = record { address = address; program = 83; mode = 79; status = 69; requester = 65; number = 12; bib = bib; group = 0; run = 1; physical = 15; channel = 255; information = letter }; timing = timing; «raw_time» = replicate 10 0; «raw_date» = replicate 8 0; spare = 32 ∷ 32 ∷ [] }
+
+-- the same with a space as the address
 abbrev pub told : ℕ → ℕ → TimingNumbers → ReplyRecord
-told bib letter timing =
-    record { head = record { address = 32; program = 83; mode = 79; status = 69; requester = 65; number = 12; bib = bib; group = 0; run = 1; physical = 15; channel = 255; information = letter }; timing = timing; «raw_time» = replicate 10 0; «raw_date» = replicate 8 0; spare = 32 ∷ 32 ∷ [] }
+told = toldAt 32
 
 -- the same with bib 41 and letter P, and with raw bytes
 abbrev pub shownRaw : TimingNumbers → ReplyRecord
@@ -116,12 +123,15 @@ pub record FramesRead : Type 0 where
       ≡ record { refusal = 0; offset = 0; request = record { address = 32; requester = 65; number = 12; bib = 41; information = 49; channel = 255; run = 250; group = 0; output = 83 } }
   pub request-refused : requestAnswer (read request (F.asking "A" "1" "255" "251"))
       ≡ record { refusal = 5; offset = 16; request = record { address = 0; requester = 0; number = 0; bib = 0; information = 0; channel = 0; run = 0; group = 0; output = 0 } }
+  pub request-address : requestAnswer (read request Q.good) ≡ record { refusal = 0; offset = 0; request = Q.asks 55 66 123 45678 81 231 156 89 65 }
   pub reply-read : replyAnswer (read reply (F.replying "00041" "255" "0" "0001125400" "29022024"))
       ≡ record { refusal = 0; offset = 0; reply = told 41 48 (record { kind = 1; ticks = 725400; day = 29; month = 2; year = 2024; net = pos 0 }) }
   pub reply-refused : replyAnswer (read reply (F.replying "60000" "255" "0" "0001125400" "29022024"))
       ≡ record { refusal = 5; offset = 12; reply = record { head = record { address = 0; program = 0; mode = 0; status = 0; requester = 0; number = 0; bib = 0; group = 0; run = 0; physical = 0; channel = 0; information = 0 }; timing = record { kind = 0; ticks = 0; day = 0; month = 0; year = 0; net = pos 0 }; «raw_time» = 0 ∷ 0 ∷ 0 ∷ 0 ∷ 0 ∷ 0 ∷ 0 ∷ 0 ∷ 0 ∷ 0 ∷ []; «raw_date» = 0 ∷ 0 ∷ 0 ∷ 0 ∷ 0 ∷ 0 ∷ 0 ∷ 0 ∷ []; spare = 0 ∷ 0 ∷ [] } }
+  pub reply-address : replyAnswer (read reply P.good) .reply .head .address ≡ 53
   pub dynamic-read : dynamicAnswer (read dynamic (F.running "A" "00041" "00001"))
       ≡ record { refusal = 0; offset = 0; request = record { address = 32; requester = 49; order = 65; bib = 41; channel = 0; run = 1; «stop_bib» = 60000; «stop_channel» = 255; «stop_run» = 0; sign = 0; time = 0; days = 0; period = 1; output = 83 } }
+  pub dynamic-address : dynamicAnswer (read dynamic D.good) ≡ record { refusal = 0; offset = 0; request = D.orders 57 67 98 34567 178 209 45678 193 214 1 452967890 7 8642 66 }
   pub dynamic-refused : dynamicAnswer (read dynamic (F.running "A" "00041" "00000"))
       ≡ record { refusal = 5; offset = 39; request = record { address = 0; requester = 0; order = 0; bib = 0; channel = 0; run = 0; «stop_bib» = 0; «stop_channel» = 0; «stop_run» = 0; sign = 0; time = 0; days = 0; period = 0; output = 0 } }
 
@@ -140,8 +150,10 @@ pub record FramesWritten : Type 0 where
   pub no-bytes : Leaves (WroteLent request (F.asked 251) (replicate 25 1)) (replicate 25 1)
   pub written : Answers (WroteLent request (F.asked 250) (replicate 24 0)) (record { refusal = 0; offset = 0; size = 24 })
   pub no-record : Answers (WroteLent request (F.asked 251) (replicate 24 0)) (record { refusal = 6; offset = 16; size = 0 })
+  pub no-address : Answers (WroteLent request (Q.asks 45 66 123 45678 81 231 156 89 65) (replicate 24 0)) (record { refusal = 6; offset = 2; size = 0 })
   pub no-room : Answers (WroteLent request (F.asked 250) (replicate 23 0)) (record { refusal = 7; offset = 0; size = 0 })
   pub reply-written : Answers (WroteReplyLent (told 41 48 (clocked 0)) (replicate 51 0)) (record { refusal = 0; offset = 0; size = 51 })
+  pub reply-no-address : Answers (WroteReplyLent (toldAt 45 41 48 (clocked 0)) (replicate 51 0)) (record { refusal = 6; offset = 2; size = 0 })
   pub left-over : Answers (WroteReplyLent (told 41 48 (clocked 5)) (replicate 51 0)) (record { refusal = 6; offset = 50; size = 0 })
   pub reply-room : Answers (WroteReplyLent (told 41 48 (clocked 0)) (replicate 50 0)) (record { refusal = 7; offset = 0; size = 0 })
 
@@ -161,6 +173,7 @@ pub record TimingNumbered : Type 0 where
   pub raw-day : wrongInC (shownRaw (record { kind = 0; ticks = 0; day = 3; month = 0; year = 0; net = pos 0 })) ≡ 50
   pub raw-net : wrongInC (shownRaw (record { kind = 0; ticks = 0; day = 0; month = 0; year = 0; net = pos 1 })) ≡ 50
   pub raw-alone : wrongInC (shownRaw (record { kind = 0; ticks = 0; day = 0; month = 0; year = 0; net = pos 0 })) ≡ 0
+  pub address-first : wrongInC (toldAt 45 41 48 (clocked 5)) ≡ 2
   pub bib-first : wrongInC (told 60000 48 (clocked 5)) ≡ 12
   pub time-first : wrongInC (told 41 48 (record { kind = 1; ticks = 864000000; day = 1; month = 1; year = 2024; net = pos 5 })) ≡ 30
   pub date-first : wrongInC (told 41 48 (record { kind = 1; ticks = 0; day = 30; month = 2; year = 2024; net = pos 5 })) ≡ 40
