@@ -17,8 +17,16 @@
 
    ANSWERS. A refusal of 0 (REI2_DONE) says that the call was done. Any other number says why it was refused: see enum
    rei2_refusal. A refused call returns the state that it was given and changes no lent byte. Its offset is 0 unless the
-   refusal is REI2_FIELD or REI2_RECORD, and the rest of its answer is 0. rei2_refusal_name has the names. Structs have
-   padding, so compare them field by field. A seat has none.
+   refusal is REI2_FIELD or REI2_RECORD, its spoiled is 0 unless the refusal is REI2_FIELD, and the rest of its answer
+   is 0. If the call was done, offset and spoiled are 0. rei2_refusal_name has the names. Structs have padding, so
+   compare them field by field. A seat has none.
+
+   SPOILED BYTES. REI2_FIELD has two offsets, both counted from the first byte of the frame. offset is where the first
+   wrong field begins. spoiled is where the first byte of that field is that cannot be at its place: no good frame of
+   this kind, with the same fields before this one, has that byte there. If each byte of the field can be at its place,
+   but not all of them together, spoiled is the same as offset. For example, if a reply with a time of day has
+   2461000000 there, spoiled is 32, because minutes never begin with 6. With 2400000000 it is 30, where the time begins:
+   each digit can be at its place, but there is no hour 24. docs/host.md says what can be at which place.
 
    REQUESTS AND REPLIES. The desk takes a reply only if its request was opened. So give every request that you send to
    rei2_open too. The stopwatch sends a line feed after the CR of each reply. It is not part of the frame.
@@ -82,7 +90,7 @@ enum rei2_refusal {
     REI2_LENGTH = 2,         /* the frame does not have the length of its kind */
     REI2_END = 3,            /* the last byte is not CR */
     REI2_ADDRESS = 4,        /* byte 1 is not R, or byte 2 is neither a space nor 0 to 9 */
-    REI2_FIELD = 5,          /* a field is wrong; offset: where the first wrong field begins */
+    REI2_FIELD = 5,          /* a field is wrong; offset: where the first wrong one begins; spoiled: its spoiled byte */
     REI2_RECORD = 6,         /* a part of the record is wrong; offset: where the first wrong part would be written */
     REI2_ROOM = 7,           /* the output is too short */
     REI2_TIME = 8,           /* a number of the running time is out of range */
@@ -110,9 +118,9 @@ enum rei2_found {
     REI2_CUT = 2      /* a frame without its CR: the next frame begins first, or the capture ends */
 };
 
-/* ---- structs. In an answer, refusal is a number of enum rei2_refusal, and offset is where the wrong field begins. A
-   tick is a ten-thousandth of a second; a day has 864000000 ticks. A uint8_t is a byte as it is in the frame: a letter
-   is its ASCII code. */
+/* ---- structs. In an answer, refusal is a number of enum rei2_refusal, offset is where the wrong field begins, and
+   spoiled is the offset of the spoiled byte in it. A tick is a ten-thousandth of a second; a day has 864000000 ticks. A
+   uint8_t is a byte as it is in the frame: a letter is its ASCII code. */
 
 /* The state of a desk: a bit for each seat in use, bit 0 for seat 0, and how many cells are held. {0, 0} is the state
    of an empty desk. */
@@ -137,6 +145,7 @@ typedef struct rei2_desk_answer {
     rei2_desk desk;
     uint32_t refusal;
     uint32_t offset;
+    uint32_t spoiled;
     uint32_t seat;
 } rei2_desk_answer;
 
@@ -175,6 +184,7 @@ typedef struct rei2_static_request {
 typedef struct rei2_request_answer {
     uint32_t refusal;
     uint32_t offset;
+    uint32_t spoiled;
     rei2_static_request request;
 } rei2_request_answer;
 
@@ -220,6 +230,7 @@ typedef struct rei2_reply_record {
 typedef struct rei2_reply_answer {
     uint32_t refusal;
     uint32_t offset;
+    uint32_t spoiled;
     rei2_reply_record reply;
 } rei2_reply_answer;
 
@@ -246,6 +257,7 @@ typedef struct rei2_dynamic_request {
 typedef struct rei2_dynamic_answer {
     uint32_t refusal;
     uint32_t offset;
+    uint32_t spoiled;
     rei2_dynamic_request request;
 } rei2_dynamic_answer;
 
@@ -333,7 +345,8 @@ REI2_SIZE(rei2_desk_answer, 32);
 REI2_OFFSET(rei2_desk_answer, desk, 0);
 REI2_OFFSET(rei2_desk_answer, refusal, 16);
 REI2_OFFSET(rei2_desk_answer, offset, 20);
-REI2_OFFSET(rei2_desk_answer, seat, 24);
+REI2_OFFSET(rei2_desk_answer, spoiled, 24);
+REI2_OFFSET(rei2_desk_answer, seat, 28);
 
 REI2_SIZE(rei2_counts, 32);
 REI2_OFFSET(rei2_counts, opened, 0);
@@ -357,10 +370,11 @@ REI2_OFFSET(rei2_static_request, run, 20);
 REI2_OFFSET(rei2_static_request, group, 24);
 REI2_OFFSET(rei2_static_request, output, 28);
 
-REI2_SIZE(rei2_request_answer, 40);
+REI2_SIZE(rei2_request_answer, 44);
 REI2_OFFSET(rei2_request_answer, refusal, 0);
 REI2_OFFSET(rei2_request_answer, offset, 4);
-REI2_OFFSET(rei2_request_answer, request, 8);
+REI2_OFFSET(rei2_request_answer, spoiled, 8);
+REI2_OFFSET(rei2_request_answer, request, 12);
 
 REI2_SIZE(rei2_timing_numbers, 32);
 REI2_OFFSET(rei2_timing_numbers, kind, 0);
@@ -391,10 +405,11 @@ REI2_OFFSET(rei2_reply_record, raw_time, 72);
 REI2_OFFSET(rei2_reply_record, raw_date, 82);
 REI2_OFFSET(rei2_reply_record, spare, 90);
 
-REI2_SIZE(rei2_reply_answer, 104);
+REI2_SIZE(rei2_reply_answer, 112);
 REI2_OFFSET(rei2_reply_answer, refusal, 0);
 REI2_OFFSET(rei2_reply_answer, offset, 4);
-REI2_OFFSET(rei2_reply_answer, reply, 8);
+REI2_OFFSET(rei2_reply_answer, spoiled, 8);
+REI2_OFFSET(rei2_reply_answer, reply, 16);
 
 REI2_SIZE(rei2_dynamic_request, 48);
 REI2_OFFSET(rei2_dynamic_request, address, 0);
@@ -412,10 +427,11 @@ REI2_OFFSET(rei2_dynamic_request, days, 36);
 REI2_OFFSET(rei2_dynamic_request, period, 40);
 REI2_OFFSET(rei2_dynamic_request, output, 44);
 
-REI2_SIZE(rei2_dynamic_answer, 56);
+REI2_SIZE(rei2_dynamic_answer, 60);
 REI2_OFFSET(rei2_dynamic_answer, refusal, 0);
 REI2_OFFSET(rei2_dynamic_answer, offset, 4);
-REI2_OFFSET(rei2_dynamic_answer, request, 8);
+REI2_OFFSET(rei2_dynamic_answer, spoiled, 8);
+REI2_OFFSET(rei2_dynamic_answer, request, 12);
 
 REI2_SIZE(rei2_written_answer, 16);
 REI2_OFFSET(rei2_written_answer, refusal, 0);

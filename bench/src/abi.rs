@@ -23,14 +23,14 @@ macro_rules! structs {
 structs! {
     Desk { bits: u64, count: u32 }
     Seat { address: u32, requester: u32, number: u32, held: u32, ended: u32 }
-    DeskAnswer { desk: Desk, refusal: u32, offset: u32, seat: u32 }
+    DeskAnswer { desk: Desk, refusal: u32, offset: u32, spoiled: u32, seat: u32 }
     Counts { opened: usize, collected: usize, dynamic: usize, refused: usize }
     CapturedAnswer { desk: Desk, refusal: u32, counts: Counts }
     StaticRequest {
         address: u8, requester: u8, number: u32, bib: u32, information: u8, channel: u32, run: u32, group: u32,
         output: u8,
     }
-    RequestAnswer { refusal: u32, offset: u32, request: StaticRequest }
+    RequestAnswer { refusal: u32, offset: u32, spoiled: u32, request: StaticRequest }
     TimingNumbers { kind: u32, ticks: u32, day: u32, month: u32, year: u32, net: i64 }
     ReplyHead {
         address: u8, program: u8, mode: u8, status: u8, requester: u8, number: u32, bib: u32, group: u32, run: u32,
@@ -39,12 +39,12 @@ structs! {
     ReplyRecord {
         head: ReplyHead, timing: TimingNumbers, raw_time: [u8; 10], raw_date: [u8; 8], spare: [u8; 2],
     }
-    ReplyAnswer { refusal: u32, offset: u32, reply: ReplyRecord }
+    ReplyAnswer { refusal: u32, offset: u32, spoiled: u32, reply: ReplyRecord }
     DynamicRequest {
         address: u8, requester: u8, order: u8, bib: u32, channel: u32, run: u32, stop_bib: u32, stop_channel: u32,
         stop_run: u32, sign: u32, time: u32, days: u32, period: u32, output: u8,
     }
-    DynamicAnswer { refusal: u32, offset: u32, request: DynamicRequest }
+    DynamicAnswer { refusal: u32, offset: u32, spoiled: u32, request: DynamicRequest }
     WrittenAnswer { refusal: u32, offset: u32, size: usize }
     FrameAnswer { kind: u32, start: usize, end: usize, next: usize }
     CellAnswer { found: u32, cell: usize }

@@ -107,6 +107,14 @@ static void put_number(size_t number, int width) {
     put_byte('0' + (uint32_t)(number % 10));
 }
 
+/* A byte as two hex digits and an h. */
+static void put_hex(uint8_t byte) {
+    static const char digits[] = "0123456789ABCDEF";
+    put_byte((uint8_t)digits[byte >> 4]);
+    put_byte((uint8_t)digits[byte & 15]);
+    put("h");
+}
+
 /* The word at and an address, a space as a minus sign, as a list shows it. */
 static void put_address(uint32_t address) {
     put(" at ");
@@ -137,24 +145,35 @@ static const char *kind_of(const uint8_t *frame) {
     return frame[0] == REI2_REQUEST_LEAD ? "request" : frame[0] == REI2_REPLY_LEAD ? "reply" : "dynamic request";
 }
 
-/* Prints why a frame was refused. */
-static void refused(uint32_t refusal, uint32_t offset) {
+/* Where a field is wrong: where it begins, its spoiled byte, and what is there. */
+static void put_field(const uint8_t *frame, uint32_t offset, uint32_t spoiled) {
+    put(" at ");
+    put_number(offset, 1);
+    put(", byte ");
+    put_number(spoiled, 1);
+    put(" is ");
+    put_hex(frame[spoiled]);
+}
+
+/* Prints why a frame was refused: the refusal's number and name, and with FIELD where. */
+static void refused(uint32_t refusal, const uint8_t *frame, uint32_t offset, uint32_t spoiled) {
     uint8_t name[REI2_NAME_SIZE];
     rei2_refusal_name(refusal, name, sizeof name);
     counts.refused++;
     put(" refused, ");
+    put_number(refusal, 1);
+    put(" ");
     put((const char *)name);
     if (refusal == REI2_FIELD) {
-        put(" at ");
-        put_number(offset, 1);
+        put_field(frame, offset, spoiled);
     }
 }
 
-/* Goes on with the state that a call returned, and prints its answer. */
-static void answered(rei2_desk_answer answer, const char *done, size_t *count) {
+/* Goes on with the state that a call on a frame returned, and prints its answer. */
+static void answered(rei2_desk_answer answer, const uint8_t *frame, const char *done, size_t *count) {
     desk = answer.desk;
     if (answer.refusal != REI2_DONE) {
-        refused(answer.refusal, answer.offset);
+        refused(answer.refusal, frame, answer.offset, answer.spoiled);
         return;
     }
     ++*count;
@@ -165,7 +184,7 @@ static void answered(rei2_desk_answer answer, const char *done, size_t *count) {
 static void dynamic(const uint8_t *frame, size_t size) {
     rei2_dynamic_answer answer = rei2_read_dynamic(frame, size);
     if (answer.refusal != REI2_DONE) {
-        refused(answer.refusal, answer.offset);
+        refused(answer.refusal, frame, answer.offset, answer.spoiled);
         return;
     }
     counts.dynamic++;
@@ -177,7 +196,7 @@ static void dynamic(const uint8_t *frame, size_t size) {
 /* A reply goes to the desk. If it is a stray, its key says which request is missing. */
 static void reply(const uint8_t *frame, size_t size) {
     rei2_desk_answer answer = rei2_reply(seats, REI2_SEATS, desk, cells, sizeof cells, marks, REI2_CELLS, frame, size);
-    answered(answer, " taken by seat ", &counts.collected);
+    answered(answer, frame, " taken by seat ", &counts.collected);
     if (answer.refusal == REI2_STRAY) {
         rei2_reply_head head = rei2_read_reply(frame, size).reply.head;
         put(": ");
@@ -188,7 +207,7 @@ static void reply(const uint8_t *frame, size_t size) {
 /* A whole frame goes to the call for its first byte. */
 static void whole(const uint8_t *frame, size_t size) {
     if (frame[0] == REI2_REQUEST_LEAD) {
-        answered(rei2_open(seats, REI2_SEATS, desk, cells, sizeof cells, marks, REI2_CELLS, frame, size),
+        answered(rei2_open(seats, REI2_SEATS, desk, cells, sizeof cells, marks, REI2_CELLS, frame, size), frame,
                  " opened at seat ", &counts.opened);
     } else if (frame[0] == REI2_REPLY_LEAD) {
         reply(frame, size);

@@ -22,7 +22,7 @@ use crate::times::{self, Net, Running};
 const UNTOUCHED: u8 = 0xee;
 
 /// The answer when nothing was refused.
-const DONE: &str = "0 0";
+const DONE: &str = "0 0 0";
 
 /// The answer when something cannot be read.
 const WRONG: &str = "wrong";
@@ -177,7 +177,7 @@ fn running(arguments: &[&str]) -> Result<String, NotACase> {
     };
     Ok(match times::running_time(running) {
         Some(ticks) => format!("{DONE} {ticks}"),
-        None => "8 0 0".to_string(),
+        None => "8 0 0 0".to_string(),
     })
 }
 
@@ -210,25 +210,27 @@ fn damage<Record: Kind>(frame: &str) -> Result<Vec<String>, NotACase> {
     Ok(lines)
 }
 
-/// Number and offset of a damage answer. If the frame is refused, they are those of the refusal. An
-/// accepted frame is written again to as many bytes: `0.0` if that returns its own bytes, `0.1` if
-/// not.
-fn read_and_write_again<Record: Kind>(frame: &[u8]) -> (u8, usize) {
+/// Number, offset and offset of the spoiled byte, as a damage answer has them.
+type Damage = (u8, usize, usize);
+
+/// If the frame is refused, the damage answer is that of the refusal. An accepted frame is written
+/// again to as many bytes: `0.0.0` if that returns its own bytes, `0.1.0` if not.
+fn read_and_write_again<Record: Kind>(frame: &[u8]) -> Damage {
     match Record::read(frame) {
-        Err(refusal) => (refusal.number(), refusal.offset()),
+        Err(refusal) => (refusal.number(), refusal.offset(), refusal.spoiled()),
         Ok(record) => {
             let mut again = vec![UNTOUCHED; frame.len()];
             let same = record.write(&mut again).is_ok() && again == frame;
-            (0, usize::from(!same))
+            (0, usize::from(!same), 0)
         }
     }
 }
 
 /// The line of one place. Each of the 256 values is put there, including the unchanged one.
 /// Neighbouring values with the same answer are counted together.
-fn damage_line(frame: &[u8], place: usize, outcome: fn(&[u8]) -> (u8, usize)) -> String {
+fn damage_line(frame: &[u8], place: usize, outcome: fn(&[u8]) -> Damage) -> String {
     let mut damaged = frame.to_vec();
-    let mut runs: Vec<(usize, (u8, usize))> = Vec::new();
+    let mut runs: Vec<(usize, Damage)> = Vec::new();
     for value in 0..=u8::MAX {
         damaged[place] = value;
         let answer = outcome(&damaged);
@@ -239,7 +241,7 @@ fn damage_line(frame: &[u8], place: usize, outcome: fn(&[u8]) -> (u8, usize)) ->
     }
     let runs: String = runs
         .into_iter()
-        .map(|(count, (number, offset))| format!(" {count}*{number}.{offset}"))
+        .map(|(count, (number, offset, spoiled))| format!(" {count}*{number}.{offset}.{spoiled}"))
         .collect();
     format!("{place}{runs}")
 }
@@ -249,7 +251,8 @@ fn value_or_wrong(value: Option<impl ToString>) -> String {
 }
 
 fn refusal_text(refusal: Refusal) -> String {
-    format!("{} {}", refusal.number(), refusal.offset())
+    let (number, offset, spoiled) = (refusal.number(), refusal.offset(), refusal.spoiled());
+    format!("{number} {offset} {spoiled}")
 }
 
 fn reading_text<Record: Spelled>(outcome: Result<Record, Refusal>) -> String {
@@ -316,22 +319,22 @@ mod tests {
         check("net 1 0 0", "wrong");
         check("net-parts -10000", "1 1 863990000");
         check("net-parts 8640000000000000", "wrong");
-        check("running 1 0 863999999 0 9 863999999", "0 0 -9503999998");
-        check("running 0 0 1 0 0 0", "8 0 0");
-        check("read-request -", "1 0");
-        check("read-request 11", "2 0");
+        check("running 1 0 863999999 0 9 863999999", "0 0 0 -9503999998");
+        check("running 0 0 1 0 0 0", "8 0 0 0");
+        check("read-request -", "1 0 0");
+        check("read-request 11", "2 0 0");
         check(
             &format!("read-request {FIRST}"),
-            "0 0 32 49 7 0 80 0 2 0 83",
+            "0 0 0 32 49 7 0 80 0 2 0 83",
         );
         check(
             "write-request 25 32 49 7 0 80 0 2 0 83",
-            &format!("0 0 {FIRST}ee"),
+            &format!("0 0 0 {FIRST}ee"),
         );
-        check("write-request 2 32 49 7 0 80 0 2 0 83", "7 0 eeee");
-        check("write-request 0 32 49 7 0 80 250 251 0 83", "6 13 -");
-        check("write-request 0 47 91 7 0 80 0 2 0 83", "6 2 -");
-        check("write-request 0 48 91 7 0 80 0 2 0 83", "6 3 -");
+        check("write-request 2 32 49 7 0 80 0 2 0 83", "7 0 0 eeee");
+        check("write-request 0 32 49 7 0 80 250 251 0 83", "6 13 0 -");
+        check("write-request 0 47 91 7 0 80 0 2 0 83", "6 2 0 -");
+        check("write-request 0 48 91 7 0 80 0 2 0 83", "6 3 0 -");
     }
 
     /// The example's second reply and its record.
@@ -342,23 +345,23 @@ mod tests {
     #[test]
     fn replies() {
         let reply = bytes_text(REPLY);
-        let (done, zeros) = (format!("0 0 {REPLY_RECORD}"), "00".repeat(51));
+        let (done, zeros) = (format!("0 0 0 {REPLY_RECORD}"), "00".repeat(51));
         check(&format!("read-reply {reply}"), &done);
         check(&format!("read-reply-value {reply}"), &done);
-        check("read-reply 12", "2 0");
-        check(&format!("read-reply-value {zeros}"), "1 0");
-        let written = format!("0 0 {reply}");
+        check("read-reply 12", "2 0 0");
+        check(&format!("read-reply-value {zeros}"), "1 0 0");
+        let written = format!("0 0 0 {reply}");
         check(&format!("write-reply-value {REPLY_RECORD}"), &written);
         check(
             &format!("write-reply 52 {REPLY_RECORD}"),
             &format!("{written}ee"),
         );
-        check(&format!("write-reply 1 {REPLY_RECORD}"), "7 0 ee");
+        check(&format!("write-reply 1 {REPLY_RECORD}"), "7 0 0 ee");
         let wrong = REPLY_RECORD.replace("net 725400", "raw");
-        check(&format!("write-reply 0 {wrong}"), "6 30 -");
+        check(&format!("write-reply 0 {wrong}"), "6 30 0 -");
         check(
             &format!("write-reply-value {wrong}"),
-            &format!("6 30 {zeros}"),
+            &format!("6 30 0 {zeros}"),
         );
     }
 
@@ -366,14 +369,14 @@ mod tests {
     fn dynamic_requests() {
         let frame = bytes_text(b"\x13R9zA600002502506000024000010000000000000001T\r");
         let record = "57 122 65 60000 250 250 60000 240 0 1 0 0 1 84";
-        check(&format!("read-dynamic {frame}"), &format!("0 0 {record}"));
+        check(&format!("read-dynamic {frame}"), &format!("0 0 0 {record}"));
         check(
             &format!("write-dynamic 47 {record}"),
-            &format!("0 0 {frame}ee"),
+            &format!("0 0 0 {frame}ee"),
         );
         check(
             "write-dynamic 1 57 122 65 60001 250 250 60000 240 0 1 0 0 1 84",
-            "6 5 ee",
+            "6 5 0 ee",
         );
     }
 
@@ -398,7 +401,7 @@ mod tests {
     #[test]
     fn the_desk_lasts_from_line_to_line() {
         let script = format!("open {FIRST}\nread-request 11\nused\nlend 0 0\nused\n");
-        let answers = "0 0 0 1 0 seat 0 32 49 7 0 0\n2 0\n1\n0\n0\n";
+        let answers = "0 0 0 0 1 0 seat 0 32 49 7 0 0\n2 0 0\n1\n0\n0\n";
         assert_eq!(file(script.as_bytes()).as_deref(), Ok(answers));
         // The desk does not last beyond the end of the file.
         check("used", "0");
@@ -410,11 +413,14 @@ mod tests {
         let answers = file(format!("damage-reply {reply}\n").as_bytes()).expect("a case");
         let lines: Vec<&str> = answers.lines().collect();
         assert_eq!(lines.len(), 51);
-        assert_eq!(lines[2], "2 32*4.0 1*0.0 15*4.0 10*0.0 198*4.0");
-        assert_eq!(lines[5], "5 69*5.5 1*0.0 12*5.5 1*0.0 7*5.5 1*0.0 165*5.5");
+        assert_eq!(lines[2], "2 32*4.0.0 1*0.0.0 15*4.0.0 10*0.0.0 198*4.0.0");
+        assert_eq!(
+            lines[5],
+            "5 69*5.5.5 1*0.0.0 12*5.5.5 1*0.0.0 7*5.5.5 1*0.0.0 165*5.5.5"
+        );
         // Minus zero days are refused.
-        assert_eq!(lines[40], "40 43*5.40 1*0.0 212*5.40");
-        assert_eq!(lines[49], "49 32*5.48 95*0.0 129*5.48");
+        assert_eq!(lines[40], "40 43*5.40.40 1*0.0.0 212*5.40.40");
+        assert_eq!(lines[49], "49 32*5.48.49 95*0.0.0 129*5.48.49");
     }
 
     #[test]
@@ -423,14 +429,14 @@ mod tests {
         let answers = file(case.as_bytes()).expect("a case");
         let lines: Vec<&str> = answers.lines().collect();
         assert_eq!(lines.len(), 24);
-        assert_eq!(lines[0], "0 17*1.0 1*0.0 238*1.0");
-        assert_eq!(lines[2], "2 32*4.0 1*0.0 15*4.0 10*0.0 198*4.0");
+        assert_eq!(lines[0], "0 17*1.0.0 1*0.0.0 238*1.0.0");
+        assert_eq!(lines[2], "2 32*4.0.0 1*0.0.0 15*4.0.0 10*0.0.0 198*4.0.0");
         assert_eq!(
             lines[3],
-            "3 48*5.3 10*0.0 7*5.3 26*0.0 6*5.3 26*0.0 133*5.3"
+            "3 48*5.3.3 10*0.0.0 7*5.3.3 26*0.0.0 6*5.3.3 26*0.0.0 133*5.3.3"
         );
-        assert_eq!(lines[5], "5 48*5.4 10*0.0 198*5.4");
-        assert_eq!(lines[23], "23 13*3.0 1*0.0 242*3.0");
+        assert_eq!(lines[5], "5 48*5.4.5 10*0.0.0 198*5.4.5");
+        assert_eq!(lines[23], "23 13*3.0.0 1*0.0.0 242*3.0.0");
     }
 
     /// A wrong field behind a good address is reported. Behind a wrong address it is not.
@@ -439,7 +445,7 @@ mod tests {
         let request = FIRST.replacen("5220313030", "52205b3030", 1);
         let answers = file(format!("damage-request {request}\n").as_bytes()).expect("a case");
         let lines: Vec<&str> = answers.lines().collect();
-        assert_eq!(lines[2], "2 32*4.0 1*5.3 15*4.0 10*5.3 198*4.0");
+        assert_eq!(lines[2], "2 32*4.0.0 1*5.3.3 15*4.0.0 10*5.3.3 198*4.0.0");
     }
 
     #[test]

@@ -11,6 +11,7 @@ mod finder;
 mod frames;
 mod reply;
 mod request;
+mod spoiled;
 mod times;
 
 use std::collections::BTreeSet;
@@ -49,6 +50,7 @@ pub fn single_cases(seed: u64) -> String {
     reply::add_all(&mut cases, seed);
     dynamic::add_all(&mut cases, seed);
     finder::add_all(&mut cases, seed);
+    spoiled::add_all(&mut cases, seed);
     cases.text
 }
 

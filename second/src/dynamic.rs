@@ -1,8 +1,10 @@
 //! The dynamic request: 46 bytes, lead byte DC3.
 
+mod shown;
+
 use crate::digits;
-use crate::frame::{self, is_address, is_output, is_requester, Kind};
-use crate::refusal::Refusal;
+use crate::frame::{self, is_address, is_output, is_requester, Kind, WrongAt};
+use crate::shown::Shown;
 use crate::times;
 
 /// The offset at which each field begins.
@@ -59,7 +61,7 @@ impl Kind for Dynamic {
     const LEAD: u8 = 0x13;
     const LENGTH: usize = 46;
 
-    fn read_fields(address: u8, frame: &[u8]) -> Result<Self, Refusal> {
+    fn read_fields(address: u8, frame: &[u8]) -> Result<Self, WrongAt> {
         let requester = frame::letter(frame, at::REQUESTER, is_requester)?;
         let order = frame::letter(frame, at::ORDER, is_order)?;
         let bib = frame::number(frame, at::BIB, width::BIB, is_bib)?;
@@ -91,6 +93,10 @@ impl Kind for Dynamic {
             period,
             output,
         })
+    }
+
+    fn shown(frame: &[u8], offset: usize) -> &'static Shown {
+        shown::of_field(frame, offset)
     }
 
     fn first_wrong_field(&self) -> Option<usize> {
@@ -167,6 +173,7 @@ fn is_period(value: u64, order: u8) -> bool {
 #[cfg(test)]
 mod tests {
     use super::*;
+    use crate::refusal::Refusal;
 
     const PLUS: &[u8; 46] = b"\x13R 1a000150000020004125500301234567898200100S\r";
     const MINUS_ZERO: &[u8; 46] = b"\x13R4zA600002502506000024000010000000000000001T\r";
@@ -178,11 +185,15 @@ mod tests {
     }
 
     fn check(offset: usize, text: &[u8], good: bool) {
+        // None of the wrong texts has a spoiled byte after the first.
+        check_spoiled(offset, text, (!good).then_some(offset));
+    }
+
+    fn check_spoiled(offset: usize, text: &[u8], spoiled: Option<usize>) {
         let outcome = Dynamic::read(&with(offset, text)).map(|_| ());
-        let expected = if good {
-            Ok(())
-        } else {
-            Err(Refusal::Field(offset))
+        let expected = match spoiled {
+            None => Ok(()),
+            Some(spoiled) => Err(Refusal::Field(offset, spoiled)),
         };
         assert_eq!(outcome, expected, "{} at {offset}", text.escape_ascii());
     }
@@ -258,8 +269,13 @@ mod tests {
     fn case_1_time() {
         let last = Dynamic::read(&with(at::TIME, b"2359599999"));
         assert_eq!(last.map(|record| record.time), Ok(863_999_999));
-        for wrong in [b"2400000000", b"0060000000", b"0000600000", b"000000000 "] {
-            check(28, wrong, false);
+        for (wrong, spoiled) in [
+            (b"2400000000", 28),
+            (b"0060000000", 30),
+            (b"0000600000", 32),
+            (b"000000000 ", 37),
+        ] {
+            check_spoiled(28, wrong, Some(spoiled));
         }
     }
 
@@ -282,7 +298,7 @@ mod tests {
             bytes[at::ORDER] = *order;
             let outcome = Dynamic::read(&bytes).map(|record| record.period);
             let expected = match order {
-                b'A' | b'B' => Err(Refusal::Field(39)),
+                b'A' | b'B' => Err(Refusal::Field(39, 39)),
                 _ => Ok(0),
             };
             assert_eq!(outcome, expected);
@@ -321,9 +337,9 @@ mod tests {
     #[test]
     fn refusals_come_in_order() {
         let mut bytes = with(at::SIGN, b"22400000000 ");
-        assert_eq!(Dynamic::read(&bytes), Err(Refusal::Field(27)));
+        assert_eq!(Dynamic::read(&bytes), Err(Refusal::Field(27, 27)));
         bytes[2] = b'9';
-        assert_eq!(Dynamic::read(&bytes), Err(Refusal::Field(27)));
+        assert_eq!(Dynamic::read(&bytes), Err(Refusal::Field(27, 27)));
         bytes[2] = b':';
         assert_eq!(Dynamic::read(&bytes), Err(Refusal::Address));
         bytes[45] = 0;

@@ -3,6 +3,7 @@
 
 use crate::digits;
 use crate::refusal::Refusal;
+use crate::shown::Shown;
 use crate::times;
 
 pub const CR: u8 = 0x0d;
@@ -13,14 +14,22 @@ const BYTE_1: u8 = b'R';
 /// The offset of the address in every frame.
 pub const ADDRESS: usize = 2;
 
+/// The offset of a frame's first wrong field.
+#[derive(Clone, Copy, Debug, PartialEq, Eq)]
+pub struct WrongAt(pub usize);
+
 /// One kind of frame, implemented by the record that holds its contents.
 pub trait Kind: Sized {
     const LEAD: u8;
     const LENGTH: usize;
 
     /// Reads the fields of a frame that has this address and nothing wrong around the fields. They
-    /// are read by rising offset, so the refusal names the first wrong one.
-    fn read_fields(address: u8, frame: &[u8]) -> Result<Self, Refusal>;
+    /// are read by rising offset, so the first wrong one is found.
+    fn read_fields(address: u8, frame: &[u8]) -> Result<Self, WrongAt>;
+
+    /// What good fields at this offset show after the fields that this frame has before it. Those
+    /// are good.
+    fn shown(frame: &[u8], offset: usize) -> &'static Shown;
 
     /// The offset of the first field that keeps the record from being well formed. The address is
     /// the first of all.
@@ -31,7 +40,10 @@ pub trait Kind: Sized {
 
     fn read(frame: &[u8]) -> Result<Self, Refusal> {
         let address = read_surround(frame, Self::LEAD, Self::LENGTH)?;
-        Self::read_fields(address, frame)
+        Self::read_fields(address, frame).map_err(|WrongAt(offset)| {
+            let spoiled = Self::shown(frame, offset).first_spoiled(frame, offset);
+            Refusal::Field(offset, spoiled)
+        })
     }
 
     /// Writes the frame to the first bytes of `output` and changes no other byte. RECORD is tried
@@ -66,38 +78,38 @@ fn read_surround(frame: &[u8], lead: u8, length: usize) -> Result<u8, Refusal> {
 }
 
 /// The letter at `offset`, if it is good.
-pub fn letter(frame: &[u8], offset: usize, good: fn(u8) -> bool) -> Result<u8, Refusal> {
+pub fn letter(frame: &[u8], offset: usize, good: fn(u8) -> bool) -> Result<u8, WrongAt> {
     match frame.get(offset) {
         Some(&code) if good(code) => Ok(code),
-        _ => Err(Refusal::Field(offset)),
+        _ => Err(WrongAt(offset)),
     }
 }
 
 /// The number at `offset`, if all its bytes are digits and its value is good. Whichever byte is
-/// wrong, the refusal has the offset at which the field begins.
+/// wrong, the field is wrong at the offset at which it begins.
 pub fn number(
     frame: &[u8],
     offset: usize,
     width: usize,
     good: impl FnOnce(u64) -> bool,
-) -> Result<u64, Refusal> {
+) -> Result<u64, WrongAt> {
     digits::read(frame, offset, width)
         .filter(|&value| good(value))
-        .ok_or(Refusal::Field(offset))
+        .ok_or(WrongAt(offset))
 }
 
 /// The time HHMMSSdddd at `offset`, in ticks.
-pub fn time(frame: &[u8], offset: usize) -> Result<i128, Refusal> {
-    times::read_clock(frame, offset).ok_or(Refusal::Field(offset))
+pub fn time(frame: &[u8], offset: usize) -> Result<i128, WrongAt> {
+    times::read_clock(frame, offset).ok_or(WrongAt(offset))
 }
 
 /// The `WIDTH` raw bytes at `offset`. They are one field.
-pub fn raw<const WIDTH: usize>(frame: &[u8], offset: usize) -> Result<[u8; WIDTH], Refusal> {
+pub fn raw<const WIDTH: usize>(frame: &[u8], offset: usize) -> Result<[u8; WIDTH], WrongAt> {
     frame
         .get(offset..offset + WIDTH)
         .and_then(|field| field.try_into().ok())
         .filter(|field: &[u8; WIDTH]| all_raw(field))
-        .ok_or(Refusal::Field(offset))
+        .ok_or(WrongAt(offset))
 }
 
 /// The offset of the first field that is not good. The fields are given by rising offset.
@@ -177,9 +189,9 @@ mod tests {
         assert_eq!((0..=u8::MAX).filter(|&code| is_raw(code)).count(), 95);
         assert_eq!(raw(b"x ~y", 1), Ok([0x20, 0x7e]));
         for wrong in [0x00, 0x0d, 0x1f, 0x7f, 0x80, 0xff] {
-            assert_eq!(raw::<2>(&[b'x', b' ', wrong], 1), Err(Refusal::Field(1)));
+            assert_eq!(raw::<2>(&[b'x', b' ', wrong], 1), Err(WrongAt(1)));
         }
-        assert_eq!(raw::<2>(b"xyz", 2), Err(Refusal::Field(2)));
+        assert_eq!(raw::<2>(b"xyz", 2), Err(WrongAt(2)));
     }
 
     #[test]

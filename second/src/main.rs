@@ -21,6 +21,7 @@ mod refusal;
 mod reply;
 mod request;
 mod script;
+mod shown;
 mod spelling;
 mod times;
 

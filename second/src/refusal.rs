@@ -1,15 +1,16 @@
 //! The refusals of the scope paper and their numbers.
 
 /// Why a frame was not read, a record not written, or a call of the desk not done. `Field` and
-/// `Record` carry the offset of the first wrong field. TIME is not among them: only the running
-/// time returns it, and it has no other refusal.
+/// `Record` carry the offset of the first wrong field. `Field` also carries the offset of that
+/// field's spoiled byte. TIME is not among them: only the running time returns it, and it has no
+/// other refusal.
 #[derive(Clone, Copy, Debug, PartialEq, Eq)]
 pub enum Refusal {
     Kind,
     Length,
     End,
     Address,
-    Field(usize),
+    Field(usize, usize),
     Record(usize),
     Room,
     Desk,
@@ -29,7 +30,7 @@ impl Refusal {
             Refusal::Length => 2,
             Refusal::End => 3,
             Refusal::Address => 4,
-            Refusal::Field(_) => 5,
+            Refusal::Field(..) => 5,
             Refusal::Record(_) => 6,
             Refusal::Room => 7,
             Refusal::Desk => 9,
@@ -46,7 +47,15 @@ impl Refusal {
     /// The offset that belongs to the number. Only 5 and 6 have one, the others return zero.
     pub fn offset(self) -> usize {
         match self {
-            Refusal::Field(offset) | Refusal::Record(offset) => offset,
+            Refusal::Field(offset, _) | Refusal::Record(offset) => offset,
+            _ => 0,
+        }
+    }
+
+    /// The offset of the spoiled byte. Only 5 has one, the others return zero.
+    pub fn spoiled(self) -> usize {
+        match self {
+            Refusal::Field(_, spoiled) => spoiled,
             _ => 0,
         }
     }

@@ -1,9 +1,12 @@
 //! The static reply: 51 bytes. Its lead byte is DC2, as printed in section 4.1.3 of source document
 //! 000.
 
+mod shown;
+
 use crate::digits;
-use crate::frame::{self, all_raw, is_address, is_raw, is_requester, Kind};
+use crate::frame::{self, all_raw, is_address, is_raw, is_requester, Kind, WrongAt};
 use crate::refusal::Refusal;
+use crate::shown::Shown;
 use crate::times::{self, Net};
 
 /// The offset at which each field begins.
@@ -118,7 +121,7 @@ impl Kind for Reply {
     const LEAD: u8 = 0x12;
     const LENGTH: usize = 51;
 
-    fn read_fields(address: u8, frame: &[u8]) -> Result<Self, Refusal> {
+    fn read_fields(address: u8, frame: &[u8]) -> Result<Self, WrongAt> {
         let program = frame::letter(frame, at::PROGRAM, is_raw)?;
         let mode = frame::letter(frame, at::MODE, is_raw)?;
         let status = frame::letter(frame, at::STATUS, is_status)?;
@@ -151,6 +154,10 @@ impl Kind for Reply {
             raw_date,
             spare,
         })
+    }
+
+    fn shown(frame: &[u8], offset: usize) -> &'static Shown {
+        shown::of_field(frame, offset)
     }
 
     fn first_wrong_field(&self) -> Option<usize> {
@@ -266,11 +273,11 @@ impl Reply {
 
 /// The timing and the two raw parts. The time is read before the date, so if both are wrong, the
 /// refusal names the time.
-fn read_timing(frame: &[u8], kind: TimingKind) -> Result<(Timing, [u8; 10], [u8; 8]), Refusal> {
+fn read_timing(frame: &[u8], kind: TimingKind) -> Result<(Timing, [u8; 10], [u8; 8]), WrongAt> {
     match kind {
         TimingKind::Clock => {
             let ticks = frame::time(frame, at::TIME)?;
-            let (day, month, year) = read_date(frame).ok_or(Refusal::Field(at::DATE))?;
+            let (day, month, year) = read_date(frame).ok_or(WrongAt(at::DATE))?;
             let clock = Timing::Clock {
                 ticks,
                 day,
@@ -281,7 +288,7 @@ fn read_timing(frame: &[u8], kind: TimingKind) -> Result<(Timing, [u8; 10], [u8;
         }
         TimingKind::Net => {
             let time = frame::time(frame, at::TIME)?;
-            let value = read_net(frame, time).ok_or(Refusal::Field(at::DATE))?;
+            let value = read_net(frame, time).ok_or(WrongAt(at::DATE))?;
             Ok((Timing::Net(value), [0; 10], [0; 8]))
         }
         TimingKind::Raw => {
@@ -509,7 +516,26 @@ mod tests {
         ));
         for reply in [CLOCK, SECOND] {
             let hour_24 = timing_with(reply, at::TIME, b"2400000000");
-            assert_eq!(hour_24, Err(Refusal::Field(30)));
+            assert_eq!(hour_24, Err(Refusal::Field(30, 30)));
+        }
+    }
+
+    /// Only the fields before the time are fixed, not its own earlier digits: some good time has a 2
+    /// at its first place, and some has a 4 at its second. None has a 6 at the tens of minutes.
+    #[test]
+    fn the_spoiled_byte_of_a_time() {
+        for (wrong, spoiled) in [
+            (b"2400000000", 30),
+            (b"2900000000", 30),
+            (b"2461000000", 32),
+            (b"3061000000", 30),
+            (b"2359600000", 34),
+            (b"23595999:9", 38),
+        ] {
+            for reply in [CLOCK, SECOND] {
+                let outcome = read_with(reply, at::TIME, wrong);
+                assert_eq!(outcome, Err(Refusal::Field(30, spoiled)));
+            }
         }
     }
 
@@ -518,18 +544,27 @@ mod tests {
         let net = |text| timing_with(SECOND, at::TIME, text);
         assert_eq!(net(b"0001125400+0000000"), Ok(Timing::Net(725_400)));
         assert_eq!(net(b"2359590000-0000001"), Ok(Timing::Net(-10_000)));
-        assert_eq!(net(b"2359590000-0000000"), Err(Refusal::Field(40)));
-        assert_eq!(net(b"0000000000 0000001"), Err(Refusal::Field(40)));
-        assert_eq!(net(b"000000000000000001"), Err(Refusal::Field(40)));
-        assert_eq!(net(b"0000000000+00 0001"), Err(Refusal::Field(40)));
+        assert_eq!(net(b"2359590000-0000000"), Err(Refusal::Field(40, 40)));
+        assert_eq!(net(b"0000000000 0000001"), Err(Refusal::Field(40, 40)));
+        assert_eq!(net(b"000000000000000001"), Err(Refusal::Field(40, 40)));
+        assert_eq!(net(b"0000000000+00 0001"), Err(Refusal::Field(40, 43)));
     }
 
     #[test]
     fn case_4_date() {
         assert!(read_with(CLOCK, at::DATE, b"29022024").is_ok());
-        for wrong in [b"29022023", b"31122100", b"31121999", b"2902202 "] {
+        for (wrong, spoiled) in [
+            (b"29022023", 40),
+            (b"31042024", 40),
+            (b"00012024", 40),
+            (b"01132024", 40),
+            (b"31122100", 45),
+            (b"31121999", 44),
+            (b"00000000", 44),
+            (b"2902202 ", 47),
+        ] {
             let outcome = read_with(CLOCK, at::DATE, wrong);
-            assert_eq!(outcome, Err(Refusal::Field(40)));
+            assert_eq!(outcome, Err(Refusal::Field(40, spoiled)));
         }
     }
 
@@ -540,7 +575,7 @@ mod tests {
         }
         for wrong in [b"241", b"251", b"254", b"256"] {
             let outcome = read_with(FIRST, at::CHANNEL, wrong);
-            assert_eq!(outcome, Err(Refusal::Field(26)));
+            assert_eq!(outcome, Err(Refusal::Field(26, 26)));
         }
     }
 
@@ -550,7 +585,7 @@ mod tests {
             let mut reply = *FIRST;
             reply[at::STATUS] = status[0];
             let outcome = read_with(&reply, at::INFORMATION, b"L");
-            assert_eq!(outcome, Err(Refusal::Field(29)));
+            assert_eq!(outcome, Err(Refusal::Field(29, 29)));
         }
     }
 
@@ -558,7 +593,7 @@ mod tests {
     fn case_12_bib() {
         assert!(read_with(FIRST, at::BIB, b"59999").is_ok());
         let outcome = read_with(FIRST, at::BIB, b"60000");
-        assert_eq!(outcome, Err(Refusal::Field(12)));
+        assert_eq!(outcome, Err(Refusal::Field(12, 12)));
     }
 
     #[test]
@@ -602,8 +637,8 @@ mod tests {
     #[test]
     fn run_0_is_for_status_z_alone() {
         for (status, outcome) in [
-            (b'R', Err(Refusal::Field(20))),
-            (b'E', Err(Refusal::Field(20))),
+            (b'R', Err(Refusal::Field(20, 20))),
+            (b'E', Err(Refusal::Field(20, 20))),
             (b'Z', Ok(0)),
         ] {
             let mut reply = *FIRST;
@@ -618,7 +653,7 @@ mod tests {
         for (place, field) in [(3, 3), (4, 4), (39, 30), (47, 40), (48, 48), (49, 48)] {
             for wrong in [b"\x1f", b"\x7f", b"\x80"] {
                 let outcome = read_with(FIRST, place, wrong);
-                assert_eq!(outcome, Err(Refusal::Field(field)));
+                assert_eq!(outcome, Err(Refusal::Field(field, place)));
             }
         }
     }
@@ -626,11 +661,11 @@ mod tests {
     #[test]
     fn refusals_come_in_order() {
         let mut bytes = with(SECOND, at::TIME, b"2400000000-0000000\x1f\x1f");
-        assert_eq!(Reply::read(&bytes), Err(Refusal::Field(30)));
+        assert_eq!(Reply::read(&bytes), Err(Refusal::Field(30, 30)));
         bytes[at::STATUS] = b'X';
-        assert_eq!(Reply::read(&bytes), Err(Refusal::Field(5)));
+        assert_eq!(Reply::read(&bytes), Err(Refusal::Field(5, 5)));
         bytes[2] = b'5';
-        assert_eq!(Reply::read(&bytes), Err(Refusal::Field(5)));
+        assert_eq!(Reply::read(&bytes), Err(Refusal::Field(5, 5)));
         bytes[1] = b'S';
         assert_eq!(Reply::read(&bytes), Err(Refusal::Address));
         bytes[50] = b'\n';

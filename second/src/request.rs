@@ -1,8 +1,10 @@
 //! The static request: 24 bytes, lead byte DC1.
 
+mod shown;
+
 use crate::digits;
-use crate::frame::{self, is_address, is_output, is_requester, Kind};
-use crate::refusal::Refusal;
+use crate::frame::{self, is_address, is_output, is_requester, Kind, WrongAt};
+use crate::shown::Shown;
 
 /// The offset at which each field begins.
 pub mod at {
@@ -51,7 +53,7 @@ impl Kind for Request {
     const LEAD: u8 = 0x11;
     const LENGTH: usize = 24;
 
-    fn read_fields(address: u8, frame: &[u8]) -> Result<Self, Refusal> {
+    fn read_fields(address: u8, frame: &[u8]) -> Result<Self, WrongAt> {
         let requester = frame::letter(frame, at::REQUESTER, is_requester)?;
         let number = frame::number(frame, at::NUMBER, width::NUMBER, is_number)?;
         let bib = frame::number(frame, at::BIB, width::BIB, is_bib)?;
@@ -71,6 +73,10 @@ impl Kind for Request {
             group,
             output,
         })
+    }
+
+    fn shown(frame: &[u8], offset: usize) -> &'static Shown {
+        shown::of_field(frame, offset)
     }
 
     fn first_wrong_field(&self) -> Option<usize> {
@@ -129,6 +135,7 @@ fn is_group(value: u64) -> bool {
 #[cfg(test)]
 mod tests {
     use super::*;
+    use crate::refusal::Refusal;
 
     /// The two requests of the scope paper's example.
     const FIRST: &[u8; 24] = b"\x11R 100700000P000002000S\r";
@@ -176,7 +183,7 @@ mod tests {
         assert!(Request::read(&with(at::RUN, b"250")).is_ok());
         assert_eq!(
             Request::read(&with(at::RUN, b"251")),
-            Err(Refusal::Field(16))
+            Err(Refusal::Field(16, 16))
         );
     }
 
@@ -184,7 +191,7 @@ mod tests {
     fn case_6_channel() {
         assert_eq!(
             Request::read(&with(at::CHANNEL, b"250")),
-            Err(Refusal::Field(13))
+            Err(Refusal::Field(13, 13))
         );
     }
 
@@ -203,13 +210,22 @@ mod tests {
     fn case_10_requester() {
         assert_eq!(
             Request::read(&with(at::REQUESTER, b"[")),
-            Err(Refusal::Field(3))
+            Err(Refusal::Field(3, 3))
         );
     }
 
     #[test]
-    fn a_wrong_digit_names_the_field_and_not_the_byte() {
-        assert_eq!(Request::read(&with(11, b"x")), Err(Refusal::Field(7)));
+    fn a_wrong_digit_names_the_field_and_the_byte() {
+        assert_eq!(Request::read(&with(11, b"x")), Err(Refusal::Field(7, 11)));
+        assert_eq!(Request::read(&with(18, b"/")), Err(Refusal::Field(16, 18)));
+    }
+
+    #[test]
+    fn digits_that_are_wrong_only_together_name_the_field_alone() {
+        for wrong in [b"251", b"260", b"299"] {
+            let outcome = Request::read(&with(at::RUN, wrong));
+            assert_eq!(outcome, Err(Refusal::Field(16, 16)));
+        }
     }
 
     #[test]
@@ -221,9 +237,9 @@ mod tests {
     #[test]
     fn refusals_come_in_order() {
         let mut bytes = with(at::REQUESTER, b"[");
-        assert_eq!(Request::read(&bytes), Err(Refusal::Field(3)));
+        assert_eq!(Request::read(&bytes), Err(Refusal::Field(3, 3)));
         bytes[2] = b'0';
-        assert_eq!(Request::read(&bytes), Err(Refusal::Field(3)));
+        assert_eq!(Request::read(&bytes), Err(Refusal::Field(3, 3)));
         bytes[2] = b'-';
         assert_eq!(Request::read(&bytes), Err(Refusal::Address));
         bytes[23] = b'\n';

@@ -42,20 +42,22 @@ void check_said(struct said got, struct said wanted, struct place place) {
     if (got.refusal <= REI2_FULL) {
         met[got.refusal] = 1;
     }
-    if (fails(got.refusal == wanted.refusal && got.offset == wanted.offset, place)) {
-        printf(": says %u at %u and not %u at %u\n", got.refusal, got.offset, wanted.refusal, wanted.offset);
+    int same = got.refusal == wanted.refusal && got.offset == wanted.offset && got.spoiled == wanted.spoiled;
+    if (fails(same, place)) {
+        printf(": says %u at %u with byte %u", got.refusal, got.offset, got.spoiled);
+        printf(" and not %u at %u with byte %u\n", wanted.refusal, wanted.offset, wanted.spoiled);
     }
 }
 
 struct said said(struct said s) { return s; }
-struct said said_by_desk(rei2_desk_answer a) { return (struct said){a.refusal, a.offset}; }
-struct said said_captured(rei2_captured_answer a) { return (struct said){a.refusal, 0}; }
-struct said said_request(rei2_request_answer a) { return (struct said){a.refusal, a.offset}; }
-struct said said_reply(rei2_reply_answer a) { return (struct said){a.refusal, a.offset}; }
-struct said said_dynamic(rei2_dynamic_answer a) { return (struct said){a.refusal, a.offset}; }
-struct said said_written(rei2_written_answer a) { return (struct said){a.refusal, a.offset}; }
-struct said said_listed(rei2_listed_answer a) { return (struct said){a.refusal, 0}; }
-struct said said_running(rei2_running_answer a) { return (struct said){a.refusal, 0}; }
+struct said said_by_desk(rei2_desk_answer a) { return (struct said){a.refusal, a.offset, a.spoiled}; }
+struct said said_captured(rei2_captured_answer a) { return (struct said){a.refusal, 0, 0}; }
+struct said said_request(rei2_request_answer a) { return (struct said){a.refusal, a.offset, a.spoiled}; }
+struct said said_reply(rei2_reply_answer a) { return (struct said){a.refusal, a.offset, a.spoiled}; }
+struct said said_dynamic(rei2_dynamic_answer a) { return (struct said){a.refusal, a.offset, a.spoiled}; }
+struct said said_written(rei2_written_answer a) { return (struct said){a.refusal, a.offset, 0}; }
+struct said said_listed(rei2_listed_answer a) { return (struct said){a.refusal, 0, 0}; }
+struct said said_running(rei2_running_answer a) { return (struct said){a.refusal, 0, 0}; }
 
 void trying(const char *what) {
     tried = what;

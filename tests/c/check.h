@@ -18,13 +18,19 @@ struct place {
 /* Two runs of bytes are the same. */
 #define SAME(got, wanted, size) check_same(got, wanted, size, HERE(#got))
 
-/* An answer has this refusal and this offset. The refusal is noted for was_said. */
-#define SAYS(answer, refusal, offset) check_said(SAID(answer), (struct said){refusal, offset}, HERE(#answer))
+/* An answer has this refusal and this offset, and no spoiled byte, as with every refusal but FIELD. The refusal is
+   noted for was_said. */
+#define SAYS(answer, refusal, offset) check_said(SAID(answer), (struct said){refusal, offset, 0}, HERE(#answer))
 
-/* Refusal and offset of an answer. The offset is 0 if the answer has none. */
+/* An answer has the refusal FIELD with this offset and this spoiled byte. */
+#define SAYS_FIELD(answer, offset, spoiled) check_said(SAID(answer), WRONG_FIELD(offset, spoiled), HERE(#answer))
+#define WRONG_FIELD(offset, spoiled) ((struct said){REI2_FIELD, offset, spoiled})
+
+/* Refusal, offset and spoiled byte of an answer. An offset that the answer does not have is 0. */
 struct said {
     uint32_t refusal;
     uint32_t offset;
+    uint32_t spoiled;
 };
 #define SAID(answer)                         \
     _Generic((answer),                       \

@@ -36,7 +36,8 @@ static void openings_are_refused_in_order(void) {
     REFUSED(&now, opens_with(23, '\n'), REI2_END, 0);
     REFUSED(&now, opens_with(1, 'r'), REI2_ADDRESS, 0);
     REFUSED(&now, opens_with(2, '-'), REI2_ADDRESS, 0);
-    REFUSED(&now, opens_with(22, 'C'), REI2_FIELD, 22);
+    REFUSED_FIELD(&now, opens_with(22, 'C'), 22, 22);
+    REFUSED_FIELD(&now, opens_with(18, '-'), 16, 18);
     REFUSED(&now, opens_with(12, 'q'), REI2_NO_ANSWER_DUE, 0);
     REFUSED(&now, opens_with(12, 'P'), REI2_IN_USE, 0);
     REFUSED(&now, table_opens(&now, 'a', "999"), REI2_IN_USE, 0);
@@ -85,7 +86,8 @@ static void replies_are_refused_in_order(void) {
     REFUSED(&now, table_reply(&now, (const uint8_t *)"\022R", 2), REI2_LENGTH, 0);
     REFUSED(&now, replies_with(50, '\n'), REI2_END, 0);
     REFUSED(&now, replies_with(2, 'A'), REI2_ADDRESS, 0);
-    REFUSED(&now, replies_with(29, 'L'), REI2_FIELD, 29);
+    REFUSED_FIELD(&now, replies_with(29, 'L'), 29, 29);
+    REFUSED_FIELD(&now, replies_with(16, '-'), 12, 16);
     REFUSED(&now, replies_with(2, '0'), REI2_STRAY, 0);
     REFUSED(&now, replies_with(6, 'B'), REI2_STRAY, 0);
     REFUSED(&now, replies_with(7, '1'), REI2_STRAY, 0);
@@ -103,7 +105,7 @@ static void a_full_desk_refuses_last(void) {
     REFUSED(&now, table_takes(&now, 'Z', 'A', "00012"), REI2_OUT_OF_PLACE, 0);
     REFUSED(&now, table_takes(&now, 'R', '1', "00007"), REI2_ENDED, 0);
     REFUSED(&now, table_takes(&now, 'R', '9', "00007"), REI2_STRAY, 0);
-    REFUSED(&now, replies_with(20, 'x'), REI2_FIELD, 20);
+    REFUSED_FIELD(&now, replies_with(21, 'x'), 20, 21);
     SAYS(table_opens(&now, 'c', "001"), REI2_DONE, 0);
 }
 

@@ -79,11 +79,6 @@ static rei2_written_answer readdress_dynamic(const uint8_t *frame, uint8_t addre
     return rei2_write_dynamic(r, to, room);
 }
 
-/* Where the fields begin, and a 0 after the last. */
-static const uint8_t request_fields[] = {3, 4, 7, 12, 13, 16, 19, 22, 0};
-static const uint8_t reply_fields[] = {3, 4, 5, 6, 7, 12, 17, 20, 23, 26, 29, 30, 40, 48, 0};
-static const uint8_t dynamic_fields[] = {3, 4, 5, 10, 13, 16, 21, 24, 27, 28, 38, 39, 44, 0};
-
 /* A kind: its reader, its writer with another address, its size, its fields, and a good frame. */
 struct kind {
     const char *name;
@@ -107,8 +102,13 @@ static void make_kinds(void) {
     make_dynamic(kinds[2].frame);
 }
 
-static void is_refused(struct reading r, uint32_t refusal, uint32_t offset) {
-    SAYS(r.said, refusal, offset);
+static void is_refused(struct reading r, uint32_t refusal) {
+    SAYS(r.said, refusal, 0);
+    CHECK(r.empty);
+}
+
+static void has_wrong_field(struct reading r, uint32_t offset, uint32_t spoiled) {
+    SAYS_FIELD(r.said, offset, spoiled);
     CHECK(r.empty);
 }
 
@@ -116,23 +116,14 @@ static void is_refused(struct reading r, uint32_t refusal, uint32_t offset) {
 static void lengths(const struct kind *kind) {
     uint8_t longer[REI2_REPLY_SIZE + 1] = {0};
     memcpy(longer, kind->frame, kind->size);
-    is_refused(kind->read(NULL, 0), REI2_KIND, 0);
-    is_refused(kind->read(longer, 0), REI2_KIND, 0);
-    is_refused(kind->read(longer, 1), REI2_LENGTH, 0);
-    is_refused(kind->read(longer, kind->size - 1), REI2_LENGTH, 0);
-    is_refused(kind->read(longer, kind->size + 1), REI2_LENGTH, 0);
+    is_refused(kind->read(NULL, 0), REI2_KIND);
+    is_refused(kind->read(longer, 0), REI2_KIND);
+    is_refused(kind->read(longer, 1), REI2_LENGTH);
+    is_refused(kind->read(longer, kind->size - 1), REI2_LENGTH);
+    is_refused(kind->read(longer, kind->size + 1), REI2_LENGTH);
     struct reading good = kind->read(longer, kind->size);
     SAYS(good.said, REI2_DONE, 0);
     CHECK(!good.empty);
-}
-
-/* Where the field begins that a byte belongs to. */
-static uint32_t field_of(const struct kind *kind, size_t at) {
-    const uint8_t *field = kind->fields;
-    while (field[1] != 0 && field[1] <= at) {
-        field++;
-    }
-    return *field;
 }
 
 /* A byte that no field takes, at every place. */
@@ -143,13 +134,13 @@ static void damage(const struct kind *kind) {
         frame[at] = 0x80;
         struct reading r = kind->read(frame, kind->size);
         if (at == 0) {
-            is_refused(r, REI2_KIND, 0);
+            is_refused(r, REI2_KIND);
         } else if (at == kind->size - 1) {
-            is_refused(r, REI2_END, 0);
+            is_refused(r, REI2_END);
         } else if (at < 3) {
-            is_refused(r, REI2_ADDRESS, 0);
+            is_refused(r, REI2_ADDRESS);
         } else {
-            is_refused(r, REI2_FIELD, field_of(kind, at));
+            has_wrong_field(r, field_of(kind->fields, at), (uint32_t)at);
         }
     }
 }
@@ -159,7 +150,7 @@ static void other_kinds(const struct kind *kind) {
     for (size_t i = 0; i < KINDS; i++) {
         struct reading r = kind->read(kinds[i].frame, kinds[i].size);
         if (kind != &kinds[i]) {
-            is_refused(r, REI2_KIND, 0);
+            is_refused(r, REI2_KIND);
         }
     }
 }
@@ -170,14 +161,14 @@ static void in_order(const struct kind *kind) {
     memcpy(frame, kind->frame, sizeof frame);
     frame[kind->size - 2] = 0x80;
     frame[3] = 0x80;
-    is_refused(kind->read(frame, kind->size), REI2_FIELD, 3);
+    has_wrong_field(kind->read(frame, kind->size), 3, 3);
     frame[2] = '-';
-    is_refused(kind->read(frame, kind->size), REI2_ADDRESS, 0);
+    is_refused(kind->read(frame, kind->size), REI2_ADDRESS);
     frame[1] = 'S';
-    is_refused(kind->read(frame, kind->size), REI2_ADDRESS, 0);
+    is_refused(kind->read(frame, kind->size), REI2_ADDRESS);
     frame[kind->size - 1] = '\n';
-    is_refused(kind->read(frame, kind->size), REI2_END, 0);
-    is_refused(kind->read(frame, kind->size - 1), REI2_LENGTH, 0);
+    is_refused(kind->read(frame, kind->size), REI2_END);
+    is_refused(kind->read(frame, kind->size - 1), REI2_LENGTH);
 }
 
 static void reading(void) {
@@ -231,7 +222,7 @@ static void takes_address(const struct kind *kind, const uint8_t *frame) {
 
 /* Any other byte: neither read nor written. */
 static void takes_no_address(const struct kind *kind, const uint8_t *frame) {
-    is_refused(kind->read(frame, kind->size), REI2_ADDRESS, 0);
+    is_refused(kind->read(frame, kind->size), REI2_ADDRESS);
     wrote_not(kind->readdress(kind->frame, frame[2], out, OUT), REI2_RECORD, 2);
     wrote_not(kind->readdress(kind->frame, frame[2], NULL, 0), REI2_RECORD, 2);
 }

@@ -21,6 +21,17 @@ void make_dynamic(uint8_t *to) {
            REI2_DYNAMIC_SIZE);
 }
 
+const uint8_t request_fields[] = {3, 4, 7, 12, 13, 16, 19, 22, 0};
+const uint8_t reply_fields[] = {3, 4, 5, 6, 7, 12, 17, 20, 23, 26, 29, 30, 40, 48, 0};
+const uint8_t dynamic_fields[] = {3, 4, 5, 10, 13, 16, 21, 24, 27, 28, 38, 39, 44, 0};
+
+uint32_t field_of(const uint8_t *fields, size_t at) {
+    while (fields[1] != 0 && fields[1] <= at) {
+        fields++;
+    }
+    return *fields;
+}
+
 void fill(void *at, size_t size, uint32_t seed) {
     uint8_t *bytes = at;
     for (size_t i = 0; i < size; i++) {

@@ -15,6 +15,12 @@ void make_reply(uint8_t *to, char status, char requester, const char *number);
 /* A good dynamic request, REI2_DYNAMIC_SIZE bytes. */
 void make_dynamic(uint8_t *to);
 
+/* Where the fields of each kind begin, and a 0 after the last. */
+extern const uint8_t request_fields[], reply_fields[], dynamic_fields[];
+
+/* Where the field begins that a byte belongs to. */
+uint32_t field_of(const uint8_t *fields, size_t at);
+
 /* Bytes without a pattern, the same for the same seed. */
 void fill(void *at, size_t size, uint32_t seed);
 

@@ -19,6 +19,7 @@ static void every_refusal_was_met(void) {
 
 static int run_all(void) {
     test_frames();
+    test_fields();
     test_times();
     test_desk();
     test_spoiled();

@@ -98,9 +98,8 @@ int same_desk(rei2_desk a, rei2_desk b) {
     return a.bits == b.bits && a.count == b.count;
 }
 
-void table_refused(struct table *table, rei2_desk_answer answer, uint32_t refusal, uint32_t offset,
-                   struct place place) {
-    check_said(SAID(answer), (struct said){refusal, offset}, place);
+void table_refused(struct table *table, rei2_desk_answer answer, struct said wanted, struct place place) {
+    check_said(SAID(answer), wanted, place);
     check(same_desk(answer.desk, table->desk) && answer.seat == 0, place);
     check_same(&table->memory, &table->was, sizeof table->was, place);
 }

@@ -58,9 +58,12 @@ rei2_desk_answer table_takes_at(struct table *table, char address, char status, 
 /* Are two states the same? */
 int same_desk(rei2_desk a, rei2_desk b);
 
-/* The call was refused with this refusal and offset, returned the state that it was given, and named no seat. */
+/* The call was refused, returned the state that it was given, named no seat and changed no byte. The first has this
+   refusal and offset, the second is FIELD with this offset and this spoiled byte. */
 #define REFUSED(table, answer, refusal, offset) \
-    table_refused(table, answer, refusal, offset, HERE(#answer))
-void table_refused(struct table *table, rei2_desk_answer answer, uint32_t refusal, uint32_t offset, struct place place);
+    table_refused(table, answer, (struct said){refusal, offset, 0}, HERE(#answer))
+#define REFUSED_FIELD(table, answer, offset, spoiled) \
+    table_refused(table, answer, WRONG_FIELD(offset, spoiled), HERE(#answer))
+void table_refused(struct table *table, rei2_desk_answer answer, struct said wanted, struct place place);
 
 #endif

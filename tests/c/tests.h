@@ -3,6 +3,7 @@
 #define TESTS_H
 
 void test_frames(void);
+void test_fields(void);
 void test_times(void);
 void test_desk(void);
 void test_spoiled(void);

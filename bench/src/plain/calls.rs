@@ -16,8 +16,10 @@ unsafe fn store<T>(place: *mut T, answer: T) -> *mut T {
 #[inline(always)]
 fn desk_answer(before: Desk, done: Result<(Desk, usize), Refusal>) -> DeskAnswer {
     match done {
-        Ok((desk, seat)) => DeskAnswer { desk, refusal: 0, offset: 0, seat: seat as u32 },
-        Err(Refusal { number, offset }) => DeskAnswer { desk: before, refusal: number, offset, seat: 0 },
+        Ok((desk, seat)) => DeskAnswer { desk, refusal: 0, offset: 0, spoiled: 0, seat: seat as u32 },
+        Err(Refusal { number, offset, spoiled }) => {
+            DeskAnswer { desk: before, refusal: number, offset, spoiled, seat: 0 }
+        }
     }
 }
 
@@ -25,7 +27,7 @@ fn desk_answer(before: Desk, done: Result<(Desk, usize), Refusal>) -> DeskAnswer
 fn written(done: Result<usize, Refusal>) -> WrittenAnswer {
     match done {
         Ok(size) => WrittenAnswer { refusal: 0, offset: 0, size },
-        Err(Refusal { number, offset }) => WrittenAnswer { refusal: number, offset, size: 0 },
+        Err(Refusal { number, offset, .. }) => WrittenAnswer { refusal: number, offset, size: 0 },
     }
 }
 
@@ -130,8 +132,10 @@ pub unsafe extern "C" fn next_held(
 #[inline(never)]
 pub unsafe extern "C" fn read_request(place: *mut RequestAnswer, frame: *const u8, len: usize) -> *mut RequestAnswer {
     let answer = match request::read(from_raw_parts(frame, len)) {
-        Ok(request) => RequestAnswer { refusal: 0, offset: 0, request },
-        Err(Refusal { number, offset }) => RequestAnswer { refusal: number, offset, request: StaticRequest::default() },
+        Ok(request) => RequestAnswer { refusal: 0, offset: 0, spoiled: 0, request },
+        Err(Refusal { number, offset, spoiled }) => {
+            RequestAnswer { refusal: number, offset, spoiled, request: StaticRequest::default() }
+        }
     };
     store(place, answer)
 }
@@ -144,8 +148,10 @@ pub unsafe extern "C" fn write_request(record: StaticRequest, out: *mut u8, len:
 #[inline(never)]
 pub unsafe extern "C" fn read_reply(place: *mut ReplyAnswer, frame: *const u8, len: usize) -> *mut ReplyAnswer {
     let answer = match reply::read(from_raw_parts(frame, len)) {
-        Ok(reply) => ReplyAnswer { refusal: 0, offset: 0, reply },
-        Err(Refusal { number, offset }) => ReplyAnswer { refusal: number, offset, reply: ReplyRecord::default() },
+        Ok(reply) => ReplyAnswer { refusal: 0, offset: 0, spoiled: 0, reply },
+        Err(Refusal { number, offset, spoiled }) => {
+            ReplyAnswer { refusal: number, offset, spoiled, reply: ReplyRecord::default() }
+        }
     };
     store(place, answer)
 }
@@ -158,9 +164,9 @@ pub unsafe extern "C" fn write_reply(record: ReplyRecord, out: *mut u8, len: usi
 #[inline(never)]
 pub unsafe extern "C" fn read_dynamic(place: *mut DynamicAnswer, frame: *const u8, len: usize) -> *mut DynamicAnswer {
     let answer = match dynamic::read(from_raw_parts(frame, len)) {
-        Ok(request) => DynamicAnswer { refusal: 0, offset: 0, request },
-        Err(Refusal { number, offset }) => {
-            DynamicAnswer { refusal: number, offset, request: DynamicRequest::default() }
+        Ok(request) => DynamicAnswer { refusal: 0, offset: 0, spoiled: 0, request },
+        Err(Refusal { number, offset, spoiled }) => {
+            DynamicAnswer { refusal: number, offset, spoiled, request: DynamicRequest::default() }
         }
     };
     store(place, answer)

@@ -4,6 +4,8 @@ use super::refusal::{field, Refusal, ADDRESS, END, KIND, LENGTH};
 use super::times;
 
 pub const CR: u8 = 0x0d;
+const FIRST_RAW: u8 = 0x20;
+const LAST_RAW: u8 = 0x7e;
 
 /// The frame, if its lead byte, length, end and address are right.
 #[inline(always)]
@@ -35,10 +37,26 @@ pub fn number(digits: &[u8]) -> Option<u32> {
     Some(value)
 }
 
-/// The number in a field, if `good` accepts it.
+/// FIELD for a field in which each byte can be one from `least` to `most` at its place. The spoiled byte is the first one
+/// that is not. If there is none, it is the field's first byte.
+#[cold]
+#[inline(never)]
+pub fn outside(frame: &[u8], at: usize, least: &[u8], most: &[u8]) -> Refusal {
+    let limits = least.iter().zip(most);
+    let spoiled = frame[at..].iter().zip(limits).position(|(byte, (least, most))| byte < least || most < byte);
+    field(at, at + spoiled.unwrap_or(0))
+}
+
+/// The number in a field, if `good` accepts it. `most` has the greatest digit that can be at each place.
 #[inline(always)]
-pub fn number_at<const WIDTH: usize>(frame: &[u8], at: usize, good: impl FnOnce(u32) -> bool) -> Result<u32, Refusal> {
-    number(&frame[at..at + WIDTH]).filter(|&value| good(value)).ok_or(field(at))
+pub fn number_at<const WIDTH: usize>(
+    frame: &[u8],
+    at: usize,
+    most: &[u8; WIDTH],
+    good: impl FnOnce(u32) -> bool,
+) -> Result<u32, Refusal> {
+    let value = number(&frame[at..at + WIDTH]).filter(|&value| good(value));
+    value.ok_or_else(|| outside(frame, at, &[b'0'; WIDTH], most))
 }
 
 /// The byte at a place, if `good` accepts it.
@@ -47,14 +65,14 @@ pub fn byte_at(frame: &[u8], at: usize, good: impl FnOnce(u8) -> bool) -> Result
     if good(frame[at]) {
         Ok(frame[at])
     } else {
-        Err(field(at))
+        Err(field(at, at))
     }
 }
 
 /// The time of day in a field of ten digits, in ticks.
 #[inline(always)]
 pub fn clock_at(frame: &[u8], at: usize) -> Result<u32, Refusal> {
-    times::clock(&frame[at..at + 10]).ok_or(field(at))
+    times::clock(&frame[at..at + 10]).ok_or_else(|| outside(frame, at, b"0000000000", b"2959599999"))
 }
 
 /// The bytes of a raw field.
@@ -64,7 +82,7 @@ pub fn raw_at<const WIDTH: usize>(frame: &[u8], at: usize) -> Result<[u8; WIDTH]
     if all_raw(&bytes) {
         Ok(bytes)
     } else {
-        Err(field(at))
+        Err(outside(frame, at, &[FIRST_RAW; WIDTH], &[LAST_RAW; WIDTH]))
     }
 }
 
@@ -90,7 +108,7 @@ pub fn is_output(code: u8) -> bool {
 }
 
 pub fn is_raw(code: u8) -> bool {
-    matches!(code, 0x20..=0x7e)
+    matches!(code, FIRST_RAW..=LAST_RAW)
 }
 
 /// Are all bytes raw? There is no early return: on so few bytes it is faster without one.

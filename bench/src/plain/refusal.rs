@@ -4,10 +4,11 @@
 pub struct Refusal {
     pub number: u32,
     pub offset: u32,
+    pub spoiled: u32,
 }
 
 const fn numbered(number: u32) -> Refusal {
-    Refusal { number, offset: 0 }
+    Refusal { number, offset: 0, spoiled: 0 }
 }
 
 pub const KIND: Refusal = numbered(1);
@@ -25,9 +26,9 @@ pub const ENDED: Refusal = numbered(14);
 pub const OUT_OF_PLACE: Refusal = numbered(15);
 pub const FULL: Refusal = numbered(16);
 
-/// FIELD, with the offset at which the wrong field begins.
-pub const fn field(at: usize) -> Refusal {
-    Refusal { number: 5, offset: at as u32 }
+/// FIELD, with the offset at which the wrong field begins, and that of its spoiled byte.
+pub const fn field(at: usize, spoiled: usize) -> Refusal {
+    Refusal { number: 5, offset: at as u32, spoiled: spoiled as u32 }
 }
 
 /// RECORD with this offset, unless the part is good.
@@ -36,7 +37,7 @@ pub fn part(good: bool, at: u32) -> Result<(), Refusal> {
     if good {
         Ok(())
     } else {
-        Err(Refusal { number: 6, offset: at })
+        Err(Refusal { number: 6, offset: at, spoiled: 0 })
     }
 }
 

@@ -1,7 +1,8 @@
 //! The static reply.
 
 use super::fields::{
-    all_raw, byte_at, clock_at, framed, is_address, is_raw, is_requester, number, number_at, put_number, raw_at, CR,
+    all_raw, byte_at, clock_at, framed, is_address, is_raw, is_requester, number, number_at, outside, put_number,
+    raw_at, CR,
 };
 use super::refusal::{field, part, Refusal, ROOM};
 use super::times::{is_clock, is_day, net_parts, net_value, put_clock};
@@ -18,12 +19,12 @@ pub fn read(bytes: &[u8]) -> Result<ReplyRecord, Refusal> {
     let mode = byte_at(frame, 4, is_raw)?;
     let status = byte_at(frame, 5, is_status)?;
     let requester = byte_at(frame, 6, is_requester)?;
-    let number = number_at::<5>(frame, 7, |_| true)?;
-    let bib = number_at::<5>(frame, 12, is_bib)?;
-    let group = number_at::<3>(frame, 17, is_group)?;
-    let run = number_at::<3>(frame, 20, |run| is_run(run, status))?;
-    let physical = number_at::<3>(frame, 23, |_| true)?;
-    let channel = number_at::<3>(frame, 26, is_channel)?;
+    let number = number_at(frame, 7, b"99999", |_| true)?;
+    let bib = number_at(frame, 12, b"59999", is_bib)?;
+    let group = number_at(frame, 17, b"199", is_group)?;
+    let run = number_at(frame, 20, b"299", |run| is_run(run, status))?;
+    let physical = number_at(frame, 23, b"999", |_| true)?;
+    let channel = number_at(frame, 26, b"299", is_channel)?;
     let information = byte_at(frame, 29, is_information)?;
     let (timing, raw_time, raw_date) = match kind_of(status, information) {
         CLOCK => (read_clock(frame)?, [0; 10], [0; 8]),
@@ -52,11 +53,12 @@ pub fn read(bytes: &[u8]) -> Result<ReplyRecord, Refusal> {
 #[inline(always)]
 fn read_clock(frame: &[u8; SIZE]) -> Result<TimingNumbers, Refusal> {
     let ticks = clock_at(frame, 30)?;
-    let day = number(&frame[40..42]).ok_or(field(40))?;
-    let month = number(&frame[42..44]).ok_or(field(40))?;
-    let year = number(&frame[44..48]).ok_or(field(40))?;
+    let wrong = || outside(frame, 40, b"00002000", b"39192099");
+    let day = number(&frame[40..42]).ok_or_else(wrong)?;
+    let month = number(&frame[42..44]).ok_or_else(wrong)?;
+    let year = number(&frame[44..48]).ok_or_else(wrong)?;
     if !is_day(day, month, year) {
-        return Err(field(40));
+        return Err(wrong());
     }
     Ok(TimingNumbers { kind: CLOCK, ticks, day, month, year, net: 0 })
 }
@@ -67,10 +69,11 @@ fn read_net(frame: &[u8; SIZE]) -> Result<TimingNumbers, Refusal> {
     let minus = match frame[40] {
         b'+' => false,
         b'-' => true,
-        _ => return Err(field(40)),
+        _ => return Err(field(40, 40)),
     };
-    let days = number(&frame[41..48]).ok_or(field(40))?;
-    let net = net_value(minus, days, time).ok_or(field(40))?;
+    let wrong = || outside(frame, 40, b"+0000000", b"-9999999");
+    let days = number(&frame[41..48]).ok_or_else(wrong)?;
+    let net = net_value(minus, days, time).ok_or_else(wrong)?;
     Ok(TimingNumbers { kind: NET, net, ..TimingNumbers::default() })
 }
 

@@ -65,7 +65,7 @@ fn damage_place(kind: Damaged, frame: &mut [u8], place: usize) {
 }
 
 fn same_told(a: Refusal, b: Refusal) -> bool {
-    (a.number == b.number) & (a.offset == b.offset)
+    (a.number == b.number) & (a.offset == b.offset) & (a.spoiled == b.spoiled)
 }
 
 fn print_run(count: u64, t: Refusal) {
@@ -75,6 +75,8 @@ fn print_run(count: u64, t: Refusal) {
     print::decimal(t.number as u64);
     print::text(b".");
     print::decimal(t.offset as u64);
+    print::text(b".");
+    print::decimal(t.spoiled as u64);
 }
 
 fn answer_with(kind: Damaged, frame: &mut [u8], place: usize, value: u8) -> Refusal {
@@ -139,6 +141,7 @@ fn own_bytes(a: WriteAnswer, out: &[u8], frame: &[u8]) -> Refusal {
         WriteAnswer::Refused(_) => Refusal {
             number: 0,
             offset: 1,
+            spoiled: 0,
         },
     }
 }
@@ -150,6 +153,7 @@ fn same_bytes(out: &[u8], frame: &[u8]) -> Refusal {
             return Refusal {
                 number: 0,
                 offset: 1,
+                spoiled: 0,
             };
         }
         i += 1;

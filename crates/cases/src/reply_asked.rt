@@ -42,7 +42,7 @@ fn print_read(a: ReplyRead) {
 }
 
 fn print_reply(r: StaticReply) {
-    print::text(b"0 0");
+    print::text(b"0 0 0");
     let head = r.head;
     print_head(head);
     let timing = r.timing;

@@ -22,7 +22,7 @@ pub fn reading(s: &[u8]) {
 }
 
 fn print_request(r: StaticRequest) {
-    print::text(b"0 0");
+    print::text(b"0 0 0");
     also_code(r.address);
     also_code(r.requester);
     print::also(r.number);

@@ -113,10 +113,10 @@ pub fn running(s: &[u8]) {
     };
     match running_time(of) {
         Running::Ticks(v) => {
-            print::text(b"0 0 ");
+            print::text(b"0 0 0 ");
             print_signed(v);
         }
-        Running::Time => print::text(b"8 0 0"),
+        Running::Time => print::text(b"8 0 0 0"),
     }
     print::end_line();
 }

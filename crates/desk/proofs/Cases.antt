@@ -5,6 +5,7 @@ use Rattle.digits.specs.Text.{oneOf}
 use Rattle.frames.specs.Rules.{between, upTo, isAddress, isRaw, isRequester, isOutput}
 use Rattle.frames.specs.Status.{isStatus}
 use Rattle.frames.specs.Shape.{allFrom}
+use Rattle.frames.specs.Shown.{digitFrom, firstOff}
 use Rattle.frames.specs.Layout.{fieldsOf}
 use Rattle.frames.specs.Kind.{headTold, read}
 use Rattle.frames.specs.Timing.{timingKind, timed}
@@ -22,7 +23,7 @@ use Rattle.desk.specs.Cases.{Worked, MixWorked, AddressMixWorked}
 use Rattle.desk.specs.DeskCases.{DeskWorked}
 
 pub worked : Worked
-unfolding numberAt numberFrom oneOf between upTo isAddress isRaw isRequester isOutput allFrom fieldsOf headTold read timingKind timed Q.isInformation Q.isRequestChannel Q.requestFields isStatus P.isLetter P.isReplyChannel P.leastRun P.fromBib P.replyFields allBelow countBelow first sameKey isKey heard ends inPlace keyed seatWith lowestClear capacityOf isZero markNames lastEnds isDesk keyTried requestTried openTried opens seatTried labelTried replyTried replies run seatsInUse recordsOf
+unfolding numberAt numberFrom oneOf between upTo isAddress isRaw isRequester isOutput allFrom fieldsOf headTold read timingKind timed Q.isInformation Q.isRequestChannel Q.requestFields isStatus P.isLetter P.isReplyChannel P.leastRun P.fromBib P.replyFields allBelow countBelow first sameKey isKey heard ends inPlace keyed seatWith lowestClear capacityOf isZero markNames lastEnds isDesk keyTried requestTried openTried opens seatTried labelTried replyTried replies run seatsInUse recordsOf firstOff digitFrom
 worked = record {
   no-desk-opens = refl;
   no-desk-replies = refl;
@@ -31,6 +32,9 @@ worked = record {
   in-use = refl;
   other-address = refl;
   no-address = refl;
+  run-spoiled = refl;
+  bib-spoiled = refl;
+  number-spoiled = refl;
   next-seat = refl;
   no-seat = refl;
   stray = refl;
@@ -61,15 +65,15 @@ worked = record {
 }
 
 pub mix-worked : MixWorked
-unfolding numberAt numberFrom oneOf between upTo isAddress isRaw isRequester isOutput allFrom fieldsOf headTold read timingKind timed Q.isInformation Q.isRequestChannel Q.requestFields isStatus P.isLetter P.isReplyChannel P.leastRun P.fromBib P.replyFields allBelow countBelow first sameKey isKey heard ends inPlace keyed seatWith lowestClear capacityOf isZero markNames lastEnds isDesk keyTried requestTried openTried opens seatTried labelTried replyTried replies run repliesTo recordsOf
+unfolding numberAt numberFrom oneOf between upTo isAddress isRaw isRequester isOutput allFrom fieldsOf headTold read timingKind timed Q.isInformation Q.isRequestChannel Q.requestFields isStatus P.isLetter P.isReplyChannel P.leastRun P.fromBib P.replyFields allBelow countBelow first sameKey isKey heard ends inPlace keyed seatWith lowestClear capacityOf isZero markNames lastEnds isDesk keyTried requestTried openTried opens seatTried labelTried replyTried replies run repliesTo recordsOf firstOff digitFrom
 mix-worked = record { answers = refl; marks = refl; count = refl; bits = refl; seats = refl; held-by-1 = refl; held-by-A = refl; held-by-z = refl; bound = refl }
 
 pub address-mix-worked : AddressMixWorked
-unfolding numberAt numberFrom oneOf between upTo isAddress isRaw isRequester isOutput allFrom fieldsOf headTold read timingKind timed Q.isInformation Q.isRequestChannel Q.requestFields isStatus P.isLetter P.isReplyChannel P.leastRun P.fromBib P.replyFields allBelow countBelow first sameKey isKey heard ends inPlace keyed seatWith lowestClear capacityOf isZero markNames lastEnds isDesk keyTried requestTried openTried opens seatTried labelTried replyTried replies run repliesTo recordsOf
+unfolding numberAt numberFrom oneOf between upTo isAddress isRaw isRequester isOutput allFrom fieldsOf headTold read timingKind timed Q.isInformation Q.isRequestChannel Q.requestFields isStatus P.isLetter P.isReplyChannel P.leastRun P.fromBib P.replyFields allBelow countBelow first sameKey isKey heard ends inPlace keyed seatWith lowestClear capacityOf isZero markNames lastEnds isDesk keyTried requestTried openTried opens seatTried labelTried replyTried replies run repliesTo recordsOf firstOff digitFrom
 address-mix-worked = record { answers = refl; marks = refl; count = refl; seats = refl; held-at-space = refl; held-at-0 = refl; held-at-9 = refl; bound = refl }
 
 pub desk-worked : DeskWorked
-unfolding numberAt numberFrom oneOf between upTo isAddress isRaw isRequester allFrom fieldsOf headTold read timingKind timed isStatus P.isLetter P.isReplyChannel P.leastRun P.fromBib P.replyFields allBelow countBelow sameKey isKey heard ends keyed capacityOf isZero markNames lastEnds isDesk
+unfolding numberAt numberFrom oneOf between upTo isAddress isRaw isRequester allFrom fieldsOf headTold read timingKind timed isStatus P.isLetter P.isReplyChannel P.leastRun P.fromBib P.replyFields allBelow countBelow sameKey isKey heard ends keyed capacityOf isZero markNames lastEnds isDesk firstOff digitFrom
 desk-worked = record {
   a-desk = refl;
   fifteen = refl;

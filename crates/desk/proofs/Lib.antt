@@ -13,6 +13,7 @@ pub mod RuleLaws
 pub mod MixLaws
 pub mod AwaitedLaws
 pub mod Cases
+pub mod HandedOn
 pub mod CaptureLaws
 pub mod KeepsLaws
 pub mod LeavesLaws

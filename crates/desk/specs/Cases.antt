@@ -5,7 +5,7 @@ use mathlib.Core.List.{List, [], _∷_, _++_}
 use mathlib.Core.Path.{_≡_}
 use lib.ListN.{replicate}
 use Rattle.digits.specs.Text.{codes}
-use Rattle.digits.specs.Refusals.{plain, placed}
+use Rattle.digits.specs.Refusals.{plain, spoiledAt}
 use Rattle.digits.specs.Told.{Told, gives, refuses}
 use Rattle.desk.specs.Memory.{Memory, capacityOf, heldBy}
 use Rattle.desk.specs.Calls.{opens, replies, emptied, seatsInUse}
@@ -62,6 +62,10 @@ pub record Worked : Type 0 where
   -- the same requester and number at another address is another key, and a space is not 0
   pub other-address : opens asked (askingAt "0" "1" "P") .answer ≡ gives 1
   pub no-address : opens bare (askingAt "-" "1" "P") .answer ≡ refuses (plain 4)
+  -- a wrong field is reported with the byte that spoils it
+  pub run-spoiled : opens bare (17 ∷ (codes "R 100700000P0000x2000S" ++ (13 ∷ []))) .answer ≡ refuses (spoiledAt 5 16 17)
+  pub bib-spoiled : replies asked (replyTo "R" "1" "00007" "60x15") .answer ≡ refuses (spoiledAt 5 12 12)
+  pub number-spoiled : replies asked (replyTo "R" "1" "0000:" "00015") .answer ≡ refuses (spoiledAt 5 7 11)
   pub next-seat : opens asked (asking "A" "P") .answer ≡ gives 1
   pub no-seat : opens (run bare (openings sixteen)) (asking "B" "P") .answer ≡ refuses (plain 12)
   pub stray : replies bare (replying "R") .answer ≡ refuses (plain 13)
@@ -78,7 +82,7 @@ pub record Worked : Type 0 where
   pub full : replies (crowded "R") (replying "R") .answer ≡ refuses (plain 16)
   -- of two faults, the one that is tested first is reported
   pub desk-before-frame : opens (lending 102 2) [] .answer ≡ refuses (plain 9)
-  pub frame-before-q : opens bare (asking "[" "q") .answer ≡ refuses (placed 5 3)
+  pub frame-before-q : opens bare (asking "[" "q") .answer ≡ refuses (spoiledAt 5 3 3)
   pub q-before-in-use : opens asked (asking "1" "q") .answer ≡ refuses (plain 10)
   pub in-use-before-no-seat : opens (run bare (openings sixteen)) (asking "1" "P") .answer ≡ refuses (plain 11)
   pub desk-before-reply : replies (lending 102 2) [] .answer ≡ refuses (plain 9)
@@ -128,7 +132,7 @@ answersOf m (e ∷ es) = happens m e .answer ∷ answersOf (happens m e .after) 
 
 pub record MixWorked : Type 0 where
   pub answers : answersOf three mixed
-      ≡ gives 1 ∷ gives 0 ∷ refuses (plain 13) ∷ refuses (plain 13) ∷ refuses (placed 5 12) ∷ gives 2 ∷ refuses (plain 15) ∷ gives 0 ∷ refuses (plain 14) ∷ refuses (plain 14) ∷ gives 1 ∷ gives 1 ∷ []
+      ≡ gives 1 ∷ gives 0 ∷ refuses (plain 13) ∷ refuses (plain 13) ∷ refuses (spoiledAt 5 12 16) ∷ gives 2 ∷ refuses (plain 15) ∷ gives 0 ∷ refuses (plain 14) ∷ refuses (plain 14) ∷ gives 1 ∷ gives 1 ∷ []
   pub marks : run three mixed .marks ≡ 1 ∷ 0 ∷ 2 ∷ 0 ∷ 1 ∷ 1 ∷ 0 ∷ 0 ∷ 0 ∷ []
   pub count : run three mixed .count ≡ 6
   pub bits : run three mixed .bits ≡ 7

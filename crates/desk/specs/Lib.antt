@@ -7,6 +7,7 @@ pub mod Memory
 pub mod Desk
 pub mod Calls
 pub mod Capture
+pub mod HandedOn
 pub mod Keeps
 pub mod Rule
 pub mod Mix

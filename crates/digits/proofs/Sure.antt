@@ -4,15 +4,15 @@ use mathlib.Core.Bool.{Bool, true, false, true≢false}
 use mathlib.Core.Path.{_≡_, refl, ap, sym, _∙_}
 use native.Mathlib.Omega.{arith}
 use Rattle.digits.specs.declared.refusal.Refusal.{Refusal}
-use Rattle.digits.specs.Refusals.{plain, placed, isRefusal, TableWorked}
+use Rattle.digits.specs.Refusals.{spoiledAt, plain, isRefusal, TableWorked}
 use Rattle.digits.specs.Told.{Told, gives, refuses, tried, Sure}
 
 pub never-0 : (f : Refusal) → isRefusal f ≡ true → 1 ≤ f .number
-never-0 f e = go (f .number) (f .offset) e
+never-0 f e = go (f .number) e
   where
-    go : (n o : ℕ) → isRefusal (placed n o) ≡ true → 1 ≤ n
-    go zero o e = absurd (true≢false (sym e))
-    go (suc n) o e = omega arith
+    go : (n : ℕ) → isRefusal (spoiledAt n (f .offset) (f .spoiled)) ≡ true → 1 ≤ n
+    go zero e = absurd (true≢false (sym e))
+    go (suc n) e = omega arith
 
 module _ {A : Type 0} where
   refusalOr : Told A → Refusal → Refusal
@@ -43,4 +43,4 @@ module _ {A : Type 0} where
   sure-tried false f rest h s = sure-refuses f (h refl)
 
 pub table-worked : TableWorked
-table-worked = record { numbers = refl; offsets = refl; none-0 = refl; last-16 = refl; none-17 = refl; field-placed = refl; field-nowhere = refl; room-placed = refl }
+table-worked = record { numbers = refl; offsets = refl; spoiled-bytes = refl; none-0 = refl; last-16 = refl; none-17 = refl; field-placed = refl; field-own = refl; spoiled-before = refl; field-nowhere = refl; record-placed = refl; record-spoiled = refl; room-placed = refl; room-spoiled = refl }

@@ -1,4 +1,4 @@
--- The table of refusals: why a call is refused, by number. FIELD and RECORD have an offset; all others have 0 there.
+-- The table of refusals: why a call is refused, by number. FIELD and RECORD have an offset, and FIELD has the offset of the spoiled byte too; all others have 0 there.
 use Prim.Native.Nat.{ℕ}
 use mathlib.Core.List.{[], _∷_}
 use mathlib.Core.Bool.{Bool, true, false, cond, not, _&&_, _||_}
@@ -6,9 +6,12 @@ use mathlib.Core.Path.{_≡_}
 use lib.Dec.{eqb, leb}
 use Rattle.digits.specs.declared.refusal.Refusal.{Refusal}
 
--- a refusal with an offset, and one without
+-- a refusal with the offsets of a field and of the byte that spoils it, one with an offset alone, and one with none
+abbrev pub spoiledAt : ℕ → ℕ → ℕ → Refusal
+spoiledAt number offset spoiled = record { number = number; offset = offset; spoiled = spoiled }
+
 abbrev pub placed : ℕ → ℕ → Refusal
-placed number offset = record { number = number; offset = offset }
+placed number offset = spoiledAt number offset 0
 
 abbrev pub plain : ℕ → Refusal
 plain number = placed number 0
@@ -29,9 +32,9 @@ END = plain 3
 abbrev pub ADDRESS : Refusal
 ADDRESS = plain 4
 
--- a field of a frame is wrong: the offset of the first wrong field
-abbrev pub FIELD : ℕ → Refusal
-FIELD = placed 5
+-- a field of a frame is wrong: the offset of the first wrong field, and the offset of the byte that spoils it
+abbrev pub FIELD : ℕ → ℕ → Refusal
+FIELD = spoiledAt 5
 
 -- a part of a record is wrong: the offset of the first wrong part
 abbrev pub RECORD : ℕ → Refusal
@@ -77,20 +80,28 @@ OUT-OF-PLACE = plain 15
 abbrev pub FULL : Refusal
 FULL = plain 16
 
--- a refusal of the table: a number from 1 to 16, and an offset other than 0 exactly for 5 and 6
+-- a refusal of the table: a number from 1 to 16; a spoiled byte, not before the field, for 5 and otherwise 0; and an offset other than 0 exactly for 5 and 6
 abbrev pub isRefusal : Refusal → Bool
 isRefusal f =
-    leb 1 (f .number) && leb (f .number) 16 && cond (eqb (f .number) 5 || eqb (f .number) 6) (not (eqb (f .offset) 0)) (eqb (f .offset) 0)
+    leb 1 (f .number) && leb (f .number) 16
+    && cond (eqb (f .number) 5) (leb (f .offset) (f .spoiled)) (eqb (f .spoiled) 0)
+    && cond (eqb (f .number) 5 || eqb (f .number) 6) (not (eqb (f .offset) 0)) (eqb (f .offset) 0)
 
--- worked cases: the numbers in the table's order, and which refusals have an offset
+-- worked cases: the numbers in the table's order, and which refusals have an offset and a spoiled byte
 pub record TableWorked : Type 0 where
-  pub numbers : KIND .number ∷ LENGTH .number ∷ END .number ∷ ADDRESS .number ∷ FIELD 9 .number ∷ RECORD 9 .number ∷ ROOM .number ∷ TIME .number
+  pub numbers : KIND .number ∷ LENGTH .number ∷ END .number ∷ ADDRESS .number ∷ FIELD 9 11 .number ∷ RECORD 9 .number ∷ ROOM .number ∷ TIME .number
       ∷ DESK .number ∷ NO-ANSWER-DUE .number ∷ IN-USE .number ∷ NO-SEAT .number ∷ STRAY .number ∷ ENDED .number ∷ OUT-OF-PLACE .number ∷ FULL .number ∷ []
       ≡ 1 ∷ 2 ∷ 3 ∷ 4 ∷ 5 ∷ 6 ∷ 7 ∷ 8 ∷ 9 ∷ 10 ∷ 11 ∷ 12 ∷ 13 ∷ 14 ∷ 15 ∷ 16 ∷ []
-  pub offsets : FIELD 9 .offset ∷ RECORD 9 .offset ∷ ROOM .offset ∷ FULL .offset ∷ [] ≡ 9 ∷ 9 ∷ 0 ∷ 0 ∷ []
+  pub offsets : FIELD 9 11 .offset ∷ RECORD 9 .offset ∷ ROOM .offset ∷ FULL .offset ∷ [] ≡ 9 ∷ 9 ∷ 0 ∷ 0 ∷ []
+  pub spoiled-bytes : FIELD 9 11 .spoiled ∷ RECORD 9 .spoiled ∷ ROOM .spoiled ∷ FULL .spoiled ∷ [] ≡ 11 ∷ 0 ∷ 0 ∷ 0 ∷ []
   pub none-0 : isRefusal (plain 0) ≡ false
   pub last-16 : isRefusal (plain 16) ≡ true
   pub none-17 : isRefusal (plain 17) ≡ false
-  pub field-placed : isRefusal (placed 5 30) ≡ true
-  pub field-nowhere : isRefusal (placed 5 0) ≡ false
+  pub field-placed : isRefusal (FIELD 30 32) ≡ true
+  pub field-own : isRefusal (FIELD 30 30) ≡ true
+  pub spoiled-before : isRefusal (FIELD 30 29) ≡ false
+  pub field-nowhere : isRefusal (FIELD 0 3) ≡ false
+  pub record-placed : isRefusal (RECORD 30) ≡ true
+  pub record-spoiled : isRefusal (spoiledAt 6 30 30) ≡ false
   pub room-placed : isRefusal (placed 7 30) ≡ false
+  pub room-spoiled : isRefusal (spoiledAt 7 0 30) ≡ false

@@ -34,10 +34,11 @@ pub const OUT_OF_PLACE: u32 = 15;
 
 pub const FULL: u32 = 16;
 
-// Only FIELD and RECORD have an offset; for the others it is 0.
+// Only FIELD and RECORD have an offset, and only FIELD has the offset of a spoiled byte; for the others they are 0.
 pub struct Refusal {
     pub number: u32,
     pub offset: u32,
+    pub spoiled: u32,
 }
 
 pub fn plain(number: u32) -> Refusal
@@ -52,5 +53,16 @@ pub fn placed(number: u32, offset: u8) -> Refusal
     Refusal {
         number,
         offset: offset as u32,
+        spoiled: 0,
+    }
+}
+
+pub fn of_field(field: u8, spoiled: u8) -> Refusal
+    ensures { λ r. ⌜ r ≡ R.FIELD field spoiled ⌝ }
+{
+    Refusal {
+        number: FIELD,
+        offset: field as u32,
+        spoiled: spoiled as u32,
     }
 }

@@ -11,17 +11,20 @@ use Rattle.digits.specs.Text.{oneOf}
 use Rattle.digits.specs.Told.{gives}
 use Rattle.digits.specs.Digits.{digits}
 use Rattle.digits.proofs.Tests.{and-true, and-l, and-r}
+use Rattle.times.specs.Clock.{isTime}
 use Rattle.times.specs.Net.{isNet}
 use Rattle.frames.specs.declared.timing.TimingKind.{TimingKind}
 use Rattle.frames.specs.declared.timing.TimingKind.the-variants.{Clock as clockKind, Net as netKind, Raw as rawKind}
 use Rattle.frames.specs.declared.reply.StaticReply.{StaticReply}
-use Rattle.frames.specs.Rules.{between, upTo, space, isAddress, isRaw, isRequester, isOutput}
+use Rattle.frames.specs.Rules.{between, space, isAddress, isRaw, isRequester, isOutput}
 use Rattle.frames.specs.Status.{isStatus}
-use Rattle.frames.specs.Shape.{Shape, byte, number, time, run, bytesOf, allFrom}
+use Rattle.frames.specs.Shape.{number, bytesOf, allFrom}
+use Rattle.frames.specs.Shown.{Places}
+use Rattle.frames.specs.Field.{Field, letter, numberTo, timeOfDay}
 use Rattle.frames.specs.Layout.{Layout, field, suits, end, recordWrong, write, within}
 use Rattle.frames.specs.Kind.{Kind, CR, letterR, read, wrongIn, frameOf, writeTried}
 use Rattle.frames.specs.Faithful.{Faithful}
-use Rattle.frames.specs.Timing.{areRaw, isSign, netOf, timed, timingKind}
+use Rattle.frames.specs.Timing.{areRaw, rawBytes, isSign, netOf, realDate, netDays, timed, timingKind}
 use Rattle.frames.specs.Request.{request, requestFields, isInformation}
 use Rattle.frames.specs.Reply.{reply, replyFields, Whole as Whole-reply, isLetter, leastRun, fromBib, tailOf, withTail}
 use Rattle.frames.specs.Dynamic.{dynamic, dynamicFields, isOrder}
@@ -81,17 +84,17 @@ requester-raw b e =
 -- ---- a layout whose fields are all written in such bytes
 
 data Printed {R : Type 0} : Layout R → Type 1 where
-  printed : {A : Type 0} {at : ℕ} {shape : Shape A} {rule : A → Bool} {part : R → A} {next : A → Layout R}
-      → T (ltb 0 at) → ((v : A) → rule v ≡ true → every isRaw (shape .put v) ≡ true) → ((v : A) → rule v ≡ true → Printed (next v)) → Printed (field at shape rule part next)
+  printed : {A : Type 0} {at : ℕ} {f : Field A} {part : R → A} {next : A → Layout R}
+      → T (ltb 0 at) → ((v : A) → f .rule v ≡ true → every isRaw (f .shape .put v) ≡ true) → ((v : A) → f .rule v ≡ true → Printed (next v)) → Printed (field at f part next)
   printed-suits : {at : ℕ} {test : R → Bool} {rest : Layout R} → T (ltb 0 at) → Printed rest → Printed (suits at test rest)
   printed-end : {r : R} → Printed (end r)
 
 write-raw : {R : Type 0} {L : Layout R} → Printed L → (r : R) → recordWrong L r ≡ 0 → every isRaw (write L r) ≡ true
 unfolding recordWrong write
-write-raw (printed {A} {at} {shape} {rule} {part} {next} some shows rest) r e =
+write-raw (printed {A} {at} {f} {part} {next} some shows rest) r e =
     let v = part r in
-    let u = unless-none (rule v) at (recordWrong (next v) r) (ltb→lt 0 at some) e in
-    every-both isRaw (shape .put v) (write (next v) r) (shows v (u .0)) (write-raw (rest v (u .0)) r (u .1))
+    let u = unless-none (f .rule v) at (recordWrong (next v) r) (ltb→lt 0 at some) e in
+    every-both isRaw (f .shape .put v) (write (next v) r) (shows v (u .0)) (write-raw (rest v (u .0)) r (u .1))
 write-raw (printed-suits {at} {test} {rest} some prints) r e =
     write-raw prints r (unless-none (test r) at (recordWrong rest r) (ltb→lt 0 at some) e .1)
 write-raw printed-end r e = refl
@@ -101,21 +104,21 @@ within-printed of whole (printed some shows rest) = printed some shows λ v good
 within-printed of whole (printed-suits some rest) = printed-suits some (within-printed of whole rest)
 within-printed of whole printed-end = printed-end
 
--- ---- such fields, by their shape
+-- ---- such fields, by what they are
 
 module _ {R : Type 0} {at : ℕ} where
   module _ {rule : ℕ → Bool} {part : R → ℕ} {next : ℕ → Layout R} where
-    byte-printed : T (ltb 0 at) → ((v : ℕ) → rule v ≡ true → isRaw v ≡ true) → ((v : ℕ) → rule v ≡ true → Printed (next v)) → Printed (field at byte rule part next)
-    byte-printed some raw rest = printed some (λ v q. and-true (raw v q) refl) rest
+    letter-printed : T (ltb 0 at) → ((v : ℕ) → rule v ≡ true → isRaw v ≡ true) → ((v : ℕ) → rule v ≡ true → Printed (next v)) → Printed (field at (letter rule) part next)
+    letter-printed some raw rest = printed some (λ v q. and-true (raw v q) refl) rest
 
-    number-printed : (w : ℕ) → T (ltb 0 at) → ((v : ℕ) → rule v ≡ true → Printed (next v)) → Printed (field at (number w) rule part next)
+    number-printed : {places : Places} (w : ℕ) → T (ltb 0 at) → ((v : ℕ) → rule v ≡ true → Printed (next v)) → Printed (field at (record { shape = number w; rule = rule; places = places }) part next)
     number-printed w some rest = printed some (λ v _. digits-raw w v) rest
 
-    time-printed : T (ltb 0 at) → ((v : ℕ) → rule v ≡ true → Printed (next v)) → Printed (field at time rule part next)
-    time-printed some rest = printed some (λ v _. digits-raw 10 _) rest
+  time-printed : {part : R → ℕ} {next : ℕ → Layout R} → T (ltb 0 at) → ((v : ℕ) → isTime v ≡ true → Printed (next v)) → Printed (field at timeOfDay part next)
+  time-printed some rest = printed some (λ v _. digits-raw 10 _) rest
 
-  run-printed : {part : R → List ℕ} {next : List ℕ → Layout R} (n : ℕ) → T (ltb 0 at) → ((v : List ℕ) → areRaw n v ≡ true → Printed (next v)) → Printed (field at (run n) (areRaw n) part next)
-  run-printed n some rest = printed some (λ v q. run-raw v 0 n q) rest
+  raw-printed : {part : R → List ℕ} {next : List ℕ → Layout R} (n : ℕ) → T (ltb 0 at) → ((v : List ℕ) → areRaw n v ≡ true → Printed (next v)) → Printed (field at (rawBytes n) part next)
+  raw-printed n some rest = printed some (λ v q. run-raw v 0 n q) rest
 
 address-raw : (b : ℕ) → isAddress b ≡ true → isRaw b ≡ true
 unfolding isAddress isRaw between
@@ -125,23 +128,23 @@ address-raw b e =
 request-printed : Printed requestFields
 unfolding requestFields isInformation isOutput isRaw between
 request-printed =
-    byte-printed tt address-raw λ _ _.
-    byte-printed tt requester-raw λ _ _.
+    letter-printed tt address-raw λ _ _.
+    letter-printed tt requester-raw λ _ _.
     number-printed 3 tt λ _ _.
     number-printed 5 tt λ _ _.
-    byte-printed tt (listed-raw _ refl) λ _ _.
+    letter-printed tt (listed-raw _ refl) λ _ _.
     number-printed 3 tt λ _ _.
     number-printed 3 tt λ _ _.
     number-printed 3 tt λ _ _.
-    byte-printed tt (listed-raw _ refl) λ _ _.
+    letter-printed tt (listed-raw _ refl) λ _ _.
     printed-end
 
 dynamic-printed : Printed dynamicFields
 unfolding dynamicFields isOrder isOutput isRaw between
 dynamic-printed =
-    byte-printed tt address-raw λ _ _.
-    byte-printed tt requester-raw λ _ _.
-    byte-printed tt (listed-raw _ refl) λ _ _.
+    letter-printed tt address-raw λ _ _.
+    letter-printed tt requester-raw λ _ _.
+    letter-printed tt (listed-raw _ refl) λ _ _.
     number-printed 5 tt λ _ _.
     number-printed 3 tt λ _ _.
     number-printed 3 tt λ _ _.
@@ -152,7 +155,7 @@ dynamic-printed =
     time-printed tt λ _ _.
     number-printed 1 tt λ _ _.
     number-printed 5 tt λ _ _.
-    byte-printed tt (listed-raw _ refl) λ _ _.
+    letter-printed tt (listed-raw _ refl) λ _ _.
     printed-end
 
 timed-printed : (kind : TimingKind) → Printed (timed kind)
@@ -160,23 +163,23 @@ unfolding timed isSign isRaw between
 timed-printed clockKind =
     printed-suits tt
     (time-printed tt λ _ _.
-    printed tt (λ (d : ℕ × (ℕ × ℕ)) _. every-both isRaw (digits 2 (d .0)) (digits 2 (d .1 .0) ++ digits 4 (d .1 .1)) (digits-raw 2 (d .0)) (every-both isRaw (digits 2 (d .1 .0)) (digits 4 (d .1 .1)) (digits-raw 2 (d .1 .0)) (digits-raw 4 (d .1 .1)))) λ _ _.
-    run-printed 2 tt λ _ _.
+    printed {f = realDate} tt (λ (d : ℕ × (ℕ × ℕ)) _. every-both isRaw (digits 2 (d .0)) (digits 2 (d .1 .0) ++ digits 4 (d .1 .1)) (digits-raw 2 (d .0)) (every-both isRaw (digits 2 (d .1 .0)) (digits 4 (d .1 .1)) (digits-raw 2 (d .1 .0)) (digits-raw 4 (d .1 .1)))) λ _ _.
+    raw-printed 2 tt λ _ _.
     printed-suits tt printed-end)
 timed-printed netKind =
     printed-suits tt
     (time-printed tt λ ticks _.
-    printed tt (λ (d : ℕ × ℕ) q. and-true (listed-raw _ refl (d .0) (and-l (isSign (d .0)) (isNet (netOf ticks (d .0) (d .1))) q)) (digits-raw 7 (d .1))) λ _ _.
-    run-printed 2 tt λ _ _.
+    printed {f = netDays ticks} tt (λ (d : ℕ × ℕ) q. and-true (listed-raw _ refl (d .0) (and-l (isSign (d .0)) (isNet (netOf ticks (d .0) (d .1))) q)) (digits-raw 7 (d .1))) λ _ _.
+    raw-printed 2 tt λ _ _.
     printed-suits tt printed-end)
 timed-printed rawKind =
     printed-suits tt
-    (run-printed 10 tt λ _ _.
-    run-printed 8 tt λ _ _.
-    run-printed 2 tt λ _ _.
+    (raw-printed 10 tt λ _ _.
+    raw-printed 8 tt λ _ _.
+    raw-printed 2 tt λ _ _.
     printed-end)
 
-tail-printed : (status : ℕ) → Printed (fromBib (leastRun status) (number 3) (upTo 999) isLetter (timingKind status))
+tail-printed : (status : ℕ) → Printed (fromBib (leastRun status) (numberTo 3 999) isLetter (timingKind status))
 unfolding fromBib isLetter isRaw between
 tail-printed status =
     number-printed 5 tt λ bib _.
@@ -184,17 +187,17 @@ tail-printed status =
     number-printed 3 tt λ run _.
     number-printed 3 tt λ physical _.
     number-printed 3 tt λ channel _.
-    byte-printed tt (listed-raw _ refl) λ letter _.
+    letter-printed tt (listed-raw _ refl) λ letter _.
     within-printed (λ t. t .times) (λ times. record { bib = bib; group = group; run = run; physical = physical; channel = channel; information = letter; times = times }) (timed-printed (timingKind status letter))
 
 reply-printed : Printed replyFields
 unfolding replyFields isStatus isRaw between
 reply-printed =
-    byte-printed tt address-raw λ address _.
-    byte-printed tt (λ v q. q) λ program _.
-    byte-printed tt (λ v q. q) λ mode _.
-    byte-printed tt (listed-raw _ refl) λ status _.
-    byte-printed tt requester-raw λ requester _.
+    letter-printed tt address-raw λ address _.
+    letter-printed tt (λ v q. q) λ program _.
+    letter-printed tt (λ v q. q) λ mode _.
+    letter-printed tt (listed-raw _ refl) λ status _.
+    letter-printed tt requester-raw λ requester _.
     number-printed 5 tt λ n _.
     within-printed tailOf (withTail address program mode status requester n) (tail-printed status)
 

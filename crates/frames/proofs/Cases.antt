@@ -11,6 +11,7 @@ use Rattle.frames.specs.Layout.{fieldsOf, recordWrong, write}
 use Rattle.frames.specs.Kind.{headTold, read, wrongIn, frameOf, writeTried}
 use Rattle.frames.specs.Status.{isStatus}
 use Rattle.frames.specs.Shape.{allFrom}
+use Rattle.frames.specs.Shown.{digitFrom, firstOff}
 use Rattle.frames.specs.Request as Q
 use Rattle.frames.specs.Timing.{timingKind, isSign, timed}
 use Rattle.frames.specs.Reply as P
@@ -21,9 +22,10 @@ use Rattle.frames.specs.RequestCases.{RequestWorked}
 use Rattle.frames.specs.ReplyCases.{ReplyWorked}
 use Rattle.frames.specs.DynamicCases.{DynamicWorked}
 use Rattle.frames.specs.AddressCases.{AddressWorked}
+use Rattle.frames.specs.SpoiledCases.{SpoiledWorked}
 
 pub worked : Worked
-unfolding numberAt numberFrom oneOf ticksOf leap monthLength realDay isNet inRange runningTime between upTo isAddress isRaw isRequester isOutput allFrom fieldsOf recordWrong headTold read wrongIn writeTried timingKind isSign timed Q.isInformation Q.isRequestChannel Q.requestFields isStatus P.isLetter P.isReplyChannel P.leastRun P.fromBib P.replyFields D.isOrder D.isDynamicChannel D.leastPeriod D.dynamicFields
+unfolding numberAt numberFrom oneOf ticksOf leap monthLength realDay isNet inRange runningTime between upTo isAddress isRaw isRequester isOutput allFrom fieldsOf recordWrong headTold read wrongIn writeTried timingKind isSign timed Q.isInformation Q.isRequestChannel Q.requestFields isStatus P.isLetter P.isReplyChannel P.leastRun P.fromBib P.replyFields D.isOrder D.isDynamicChannel D.leastPeriod D.dynamicFields firstOff digitFrom
 worked = record {
   last-tick = refl;
   last-second = refl;
@@ -68,7 +70,7 @@ worked = record {
 }
 
 pub request-worked : RequestWorked
-unfolding digits numberAt numberFrom oneOf between upTo isAddress isRequester isOutput allFrom fieldsOf recordWrong write headTold read wrongIn frameOf Q.isInformation Q.isRequestChannel Q.requestFields
+unfolding digits numberAt numberFrom oneOf between upTo isAddress isRequester isOutput allFrom fieldsOf recordWrong write headTold read wrongIn frameOf Q.isInformation Q.isRequestChannel Q.requestFields firstOff digitFrom
 request-worked = record {
   spelled = refl;
   written = refl;
@@ -110,7 +112,7 @@ request-worked = record {
 }
 
 pub reply-worked : ReplyWorked
-unfolding digits numberAt numberFrom oneOf between upTo isAddress isRequester isOutput allFrom fieldsOf recordWrong write headTold read wrongIn frameOf ticksOf clockNumber leap monthLength realDay isNet isRaw timingKind isSign timed isStatus P.isLetter P.isReplyChannel P.leastRun P.fromBib P.replyFields
+unfolding digits numberAt numberFrom oneOf between upTo isAddress isRequester isOutput allFrom fieldsOf recordWrong write headTold read wrongIn frameOf ticksOf clockNumber leap monthLength realDay isNet isRaw timingKind isSign timed isStatus P.isLetter P.isReplyChannel P.leastRun P.fromBib P.replyFields firstOff digitFrom
 reply-worked = record {
   net = refl;
   clock = refl;
@@ -171,7 +173,7 @@ reply-worked = record {
 }
 
 pub dynamic-worked : DynamicWorked
-unfolding digits numberAt numberFrom oneOf between upTo isAddress isRequester isOutput allFrom fieldsOf recordWrong write headTold read wrongIn frameOf ticksOf clockNumber D.isOrder D.isDynamicChannel D.leastPeriod D.dynamicFields
+unfolding digits numberAt numberFrom oneOf between upTo isAddress isRequester isOutput allFrom fieldsOf recordWrong write headTold read wrongIn frameOf ticksOf clockNumber D.isOrder D.isDynamicChannel D.leastPeriod D.dynamicFields firstOff digitFrom
 dynamic-worked = record {
   spelled = refl;
   written = refl;
@@ -242,7 +244,7 @@ rules-worked = record {
 }
 
 pub address-worked : AddressWorked
-unfolding numberAt numberFrom oneOf between upTo isAddress isRequester isOutput allFrom fieldsOf recordWrong headTold read wrongIn writeTried ticksOf clockNumber isNet isRaw timingKind isSign timed isStatus Q.isInformation Q.isRequestChannel Q.requestFields P.isLetter P.isReplyChannel P.leastRun P.fromBib P.replyFields D.isOrder D.isDynamicChannel D.leastPeriod D.dynamicFields
+unfolding numberAt numberFrom oneOf between upTo isAddress isRequester isOutput allFrom fieldsOf recordWrong headTold read wrongIn writeTried ticksOf clockNumber isNet isRaw timingKind isSign timed isStatus Q.isInformation Q.isRequestChannel Q.requestFields P.isLetter P.isReplyChannel P.leastRun P.fromBib P.replyFields D.isOrder D.isDynamicChannel D.leastPeriod D.dynamicFields firstOff digitFrom
 address-worked = record {
   in-request = refl;
   in-reply = refl;
@@ -263,4 +265,35 @@ address-worked = record {
   reply-refused = refl;
   dynamic-refused = refl;
   refused-without-room = refl;
+}
+
+pub spoiled-worked : SpoiledWorked
+unfolding numberAt numberFrom oneOf between upTo isAddress isRequester isOutput allFrom fieldsOf headTold read ticksOf leap monthLength realDay isNet isRaw timingKind isSign timed isStatus Q.isInformation Q.isRequestChannel Q.requestFields P.isLetter P.isReplyChannel P.leastRun P.fromBib P.replyFields D.isOrder D.isDynamicChannel D.leastPeriod D.dynamicFields firstOff digitFrom
+spoiled-worked = record {
+  request-run = refl;
+  request-number = refl;
+  request-bib = refl;
+  request-channel = refl;
+  request-group = refl;
+  two-fields = refl;
+  together-first = refl;
+  clock-time = refl;
+  net-time = refl;
+  raw-time = refl;
+  z-time = refl;
+  dynamic-time = refl;
+  clock-date = refl;
+  clock-year = refl;
+  net-date = refl;
+  spare = refl;
+  both-spare = refl;
+  raw-date = refl;
+  reply-run = refl;
+  z-run = refl;
+  period-A = refl;
+  period-b = refl;
+  dynamic-bib = refl;
+  stop-bib = refl;
+  reply-number = refl;
+  physical = refl;
 }

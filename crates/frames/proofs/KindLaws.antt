@@ -22,27 +22,28 @@ use Rattle.frames.specs.declared.refusals.WriteAnswer.{WriteAnswer}
 use Rattle.frames.specs.declared.refusals.WriteAnswer.the-variants.{Written, Refused}
 use Rattle.frames.specs.Refusals.{readRefused, verdictTold, writeTold}
 use Rattle.frames.specs.Rules.{isAddress}
-use Rattle.frames.specs.Shape.{byte}
+use Rattle.frames.specs.Field.{letter}
 use Rattle.frames.specs.Layout.{Layout, field, wrongUnless, fieldsOf, write}
 use Rattle.frames.specs.Kind.{Kind, leadIs, letterR, CR, headTold, read, wrongIn, frameOf, writeTried, Wrote}
 use Rattle.frames.specs.Faithful.{Faithful}
 use Rattle.frames.proofs.HeadLaws.{tried-gives, then-gives, head-good, write-done}
-use Rattle.frames.proofs.LayoutLaws.{Sound, written-reads, length-write, reads-write, Sees, sees-field, seen-is}
+use Rattle.frames.proofs.LayoutLaws.{Sound, written-reads, length-write, reads-write, Sees, seen-is}
+use Rattle.frames.proofs.SeesLaws.{sees-letter}
 
 -- ---- the head of an accepted frame
 
-record Passed (lead size : ℕ) (s : List ℕ) : Type 0 where
-  first : getD s 0 0 ≡ lead
-  long : length s ≡ size
-  last : getD s (size - 1) 0 ≡ CR
-  letter : getD s 1 0 ≡ letterR
-  address : isAddress (getD s 2 0) ≡ true
+pub record Passed (lead size : ℕ) (s : List ℕ) : Type 0 where
+  pub first : getD s 0 0 ≡ lead
+  pub long : length s ≡ size
+  pub last : getD s (size - 1) 0 ≡ CR
+  pub letter-r : getD s 1 0 ≡ letterR
+  pub address : isAddress (getD s 2 0) ≡ true
 
 lead-is : (lead : ℕ) (s : List ℕ) → leadIs lead s ≡ true → getD s 0 0 ≡ lead
 lead-is lead [] e = absurd (let z : _≡_ {A = ℕ} 0 1 = cc in omega arith)
 lead-is lead (b ∷ s) e = eqb-true b lead e
 
-passed : (lead size : ℕ) (s : List ℕ) → headTold lead size s ≡ gives tt → Passed lead size s
+pub passed : (lead size : ℕ) (s : List ℕ) → headTold lead size s ≡ gives tt → Passed lead size s
 unfolding headTold
 passed lead size s e =
     let a = tried-gives (leadIs lead s) _ _ _ e in
@@ -50,20 +51,19 @@ passed lead size s e =
     let c = tried-gives (eqb (getD s (size - 1) 0) CR) _ _ _ (b .1) in
     let d = tried-gives (eqb (getD s 1 0) letterR && isAddress (getD s 2 0)) _ _ _ (c .1) in
     let f = and-eq-true-iff (eqb (getD s 1 0) letterR) (isAddress (getD s 2 0)) .0 (d .0) in
-    record { first = lead-is lead s (a .0); long = eqb-true _ _ (b .0); last = eqb-true _ _ (c .0); letter = eqb-true _ _ (f .0); address = f .1 }
+    record { first = lead-is lead s (a .0); long = eqb-true _ _ (b .0); last = eqb-true _ _ (c .0); letter-r = eqb-true _ _ (f .0); address = f .1 }
 
 with-last : (t : List ℕ) (n x : ℕ) → length t ≡ n + 1 → getD t n 0 ≡ x → take n t ++ (x ∷ []) ≡ t
 with-last t n x h e = rw (← e, ← take-suc t n 0 (omega arith)) (take-all (suc n) t (omega arith))
 
 -- a frame is lead byte, R and CR, and what is between them
-whole-frame : (lead n : ℕ) (s : List ℕ) → Passed lead (n + 3) s → lead ∷ letterR ∷ (take n (drop 2 s) ++ (CR ∷ [])) ≡ s
-whole-frame lead n [] p = absurd (let h = p .long in omega arith)
-whole-frame lead n (x ∷ []) p = absurd (let h = p .long in omega arith)
-whole-frame lead n (x ∷ y ∷ t) p =
-    let h = p .long in
-    let i : n + 3 - 1 ≡ suc (suc n) = omega arith in
-    let e : getD (x ∷ y ∷ t) (suc (suc n)) 0 ≡ CR = rw i at (p .last) in
-    rw (with-last t n CR (omega arith) e, ← p .first, ← p .letter)
+pub whole-frame : (lead n : ℕ) (s : List ℕ) → getD s 0 0 ≡ lead → length s ≡ n + 3 → getD s (n + 2) 0 ≡ CR → getD s 1 0 ≡ letterR → lead ∷ letterR ∷ (take n (drop 2 s) ++ (CR ∷ [])) ≡ s
+whole-frame lead n [] first long last letter-r = absurd (omega arith)
+whole-frame lead n (x ∷ []) first long last letter-r = absurd (omega arith)
+whole-frame lead n (x ∷ y ∷ t) first long last letter-r =
+    let i : n + 2 ≡ suc (suc n) = omega arith in
+    let e : getD (x ∷ y ∷ t) (suc (suc n)) 0 ≡ CR = rw i at last in
+    rw (with-last t n CR (omega arith) e, ← first, ← letter-r)
 
 -- ---- a kind whose layout is sound
 
@@ -84,12 +84,17 @@ module _ {R : Type 0} {k : Kind R} {Whole : R → Type 0} (g : SoundKind k Whole
       size-of : {m : ℕ} → m ≡ g .bytes + 3 → m ≡ k .size
       size-of q = q ∙ sym (g .size)
 
+  -- the fields of a well formed record's frame hold that record
+  pub frame-fields : (r : R) → Whole r → wrongIn k r ≡ 0 → fieldsOf (k .fields) 2 (frameOf k r) ≡ gives r
+  unfolding wrongIn frameOf
+  frame-fields r w e = written-reads (g .sound) r w tt (k .lead ∷ letterR ∷ []) (CR ∷ []) (frameOf k r) 2 e refl refl
+
   -- a well formed record's frame is read as that record
   pub frame-back : (r : R) → Whole r → wrongIn k r ≡ 0 → read k (frameOf k r) ≡ gives r
   unfolding read wrongIn frameOf
   frame-back r w e =
       let s = frameOf k r in
-      let q : fieldsOf (k .fields) 2 s ≡ gives r = written-reads (g .sound) r w tt (k .lead ∷ letterR ∷ []) (CR ∷ []) s 2 e refl refl in
+      let q : fieldsOf (k .fields) 2 s ≡ gives r = frame-fields r w e in
       let l = length-write (g .sound) r e in
       let long : length s ≡ k .size = length-frame r e in
       let last : getD s (k .size - 1) 0 ≡ CR = getD-at (k .lead ∷ letterR ∷ write (k .fields) r) CR [] 0 (k .size - 1) (omega (arith, g .size)) in
@@ -107,7 +112,8 @@ module _ {R : Type 0} {k : Kind R} {Whole : R → Type 0} (g : SoundKind k Whole
       let h = then-gives (headTold (k .lead) (k .size) s) _ r e in
       let p : Passed (k .lead) (g .bytes + 3) s = rw (g .size) at (passed (k .lead) (k .size) s (h .0)) in
       let w = reads-write (g .sound) tt 2 s r (let l = p .long in omega arith) (h .1) in
-      record { has = w .whole; fine = w .fine; bytes = rw (w .text) (whole-frame (k .lead) (g .bytes) s p) }
+      let i : g .bytes + 3 - 1 ≡ g .bytes + 2 = omega arith in
+      record { has = w .whole; fine = w .fine; bytes = rw (w .text) (whole-frame (k .lead) (g .bytes) s (p .first) (p .long) (rw i at (p .last)) (p .letter-r)) }
 
   room-enough : (r : R) → wrongIn k r ≡ 0 → (out : List ℕ) → k .size ≤ length out → gives tt ≡ writeTried (wrongIn k r) (k .size) (length out)
   room-enough r e out h = write-done (wrongIn k r) (k .size) (length out) e h
@@ -134,23 +140,23 @@ module _ {R : Type 0} {k : Kind R} {Whole : R → Type 0} (g : SoundKind k Whole
 -- ---- `read`, from the tests of the head and from what the code reads of the fields
 
 -- the fields after the address, for code that tests a frame's address only in the head
-pub sees-address : {R : Type 0} {part : R → ℕ} {next : ℕ → Layout R} {s : List ℕ} {w : ℕ} {r : R}
-    → Sees (next (getD s 2 0)) 3 s w r → isAddress (getD s 2 0) ≡ true → Sees (field 2 byte isAddress part next) 2 s w r
-sees-address {R} {part} {next} {s} {w} {r} rest good =
-    subst (λ (t : Bool). Sees (field 2 byte isAddress part next) 2 s (wrongUnless t 2 w) r) good (sees-field (getD s 2 0) tt refl (λ _. rest))
+pub sees-address : {R : Type 0} {part : R → ℕ} {next : ℕ → Layout R} {s : List ℕ} {spoils : ℕ → ℕ} {w : ℕ} {r : R} → spoils 2 ≡ 2
+    → Sees (next (getD s 2 0)) 3 s spoils w r → isAddress (getD s 2 0) ≡ true → Sees (field 2 (letter isAddress) part next) 2 s spoils w r
+sees-address {R} {part} {next} {s} {spoils} {w} {r} own rest good =
+    subst (λ (t : Bool). Sees (field 2 (letter isAddress) part next) 2 s spoils (wrongUnless t 2 w) r) good (sees-letter tt own (λ _. rest))
 
-pub read-fields : {R : Type 0} (k : Kind R) (s : List ℕ) (w : ℕ) (r : R) → (isAddress (getD s 2 0) ≡ true → Sees (k .fields) 2 s w r)
-    → (h : ReadVerdict) (t : Told R) → h ≡ Read → verdictTold h ≡ headTold (k .lead) (k .size) s → t ≡ tried (eqb w 0) (FIELD w) (gives r) → t ≡ read k s
+pub read-fields : {R : Type 0} (k : Kind R) (s : List ℕ) (spoils : ℕ → ℕ) (w : ℕ) (r : R) → (isAddress (getD s 2 0) ≡ true → Sees (k .fields) 2 s spoils w r)
+    → (h : ReadVerdict) (t : Told R) → h ≡ Read → verdictTold h ≡ headTold (k .lead) (k .size) s → t ≡ tried (eqb w 0) (FIELD w (spoils w)) (gives r) → t ≡ read k s
 unfolding read
-read-fields k s w r sees h t q e f =
+read-fields k s spoils w r sees h t q e f =
     let good : gives tt ≡ headTold (k .lead) (k .size) s = rw q at e in
     rw (← good) (f ∙ sym (seen-is (sees (passed (k .lead) (k .size) s (sym good) .address))))
 
 -- for a kind whose fields the code holds as one record
-module _ {R : Type 0} (k : Kind R) (at : List ℕ → R) (sees : (s : List ℕ) → Sees (k .fields) 2 s (wrongIn k (at s)) (at s)) where
+module _ {R : Type 0} (k : Kind R) (at : List ℕ → R) (spoils : List ℕ → ℕ → ℕ) (sees : (s : List ℕ) → Sees (k .fields) 2 s (spoils s) (wrongIn k (at s)) (at s)) where
   pub read-record : (s : List ℕ) (r : R) → r ≡ at s → (h : ReadVerdict) (t : Told R) → h ≡ Read → verdictTold h ≡ headTold (k .lead) (k .size) s
-      → t ≡ tried (eqb (wrongIn k r) 0) (FIELD (wrongIn k r)) (gives r) → t ≡ read k s
-  read-record s r e h t q f g = read-fields k s (wrongIn k (at s)) (at s) (λ _. sees s) h t q f (rw e at g)
+      → t ≡ tried (eqb (wrongIn k r) 0) (FIELD (wrongIn k r) (spoils s (wrongIn k r))) (gives r) → t ≡ read k s
+  read-record s r e h t q f g = read-fields k s (spoils s) (wrongIn k (at s)) (at s) (λ _. sees s) h t q f (rw e at g)
 
 -- a frame that passed the tests of the head has its kind's size
 pub passed-long : (lead size : ℕ) (s : List ℕ) (h : ReadVerdict) → h ≡ Read → verdictTold h ≡ headTold lead size s → length s ≡ size

@@ -7,15 +7,20 @@ use native.Mathlib.Omega.{arith}
 use lib.Dec.{T, eqb, leb, ltb, leb→le, ltb→lt}
 use borrow.Author.Tests.{ne-eqb}
 use lib.ListN.{length, take, drop, length-append}
+use Rattle.digits.specs.declared.refusal.Refusal.{Refusal}
 use Rattle.digits.specs.Refusals.{FIELD}
 use Rattle.digits.specs.Told.{Told, gives, refuses, tried}
 use Rattle.digits.proofs.Forms.{byte-lawful}
 use Rattle.digits.proofs.Sure.{not-refused}
 use Rattle.times.specs.Clock.{isTime}
 use Rattle.times.proofs.ClockLaws.{clock-inverse}
-use Rattle.frames.specs.Shape.{Value, is, none, Shape, byte, number, time, run}
+use Rattle.frames.specs.Shape.{Value, is, none, byte}
+use Rattle.frames.specs.Shown.{spoiledIn}
+use Rattle.frames.specs.Field.{Field, letter, numberBy, timeOfDay}
 use Rattle.frames.specs.Layout.{Layout, field, suits, end, wrongUnless, taken, fieldsOf, recordWrong, write, within}
+use Rattle.frames.specs.Timing.{areRaw, rawBytes}
 use Rattle.frames.proofs.ShapeLaws.{both-hold, Inverse, one-inverse, digits-inverse, run-inverse, join}
+use Rattle.frames.proofs.ShownLaws.{Shows, letter-shows, time-shows, raw-shows}
 
 -- ---- tests that passed
 
@@ -25,29 +30,29 @@ unless-none false at rest h e = absurd (omega arith)
 
 module _ {R A : Type 0} where
   -- a field that was accepted
-  record Kept (rule : A → Bool) (x : Value A) (rest : A → Told R) (r : R) : Type 0 where
-    of : A
-    there : x ≡ is of
-    good : rule of ≡ true
-    after : rest of ≡ gives r
+  pub record Kept (rule : A → Bool) (x : Value A) (rest : A → Told R) (r : R) : Type 0 where
+    pub of : A
+    pub there : x ≡ is of
+    pub good : rule of ≡ true
+    pub after : rest of ≡ gives r
 
-  kept : (at : ℕ) (rule : A → Bool) (x : Value A) (rest : A → Told R) (r : R) → taken at rule x rest ≡ gives r → Kept rule x rest r
-  kept at rule (is v) rest r e = go (rule v) refl e
+  pub kept : (rule : A → Bool) (f : Refusal) (x : Value A) (rest : A → Told R) (r : R) → taken rule f x rest ≡ gives r → Kept rule x rest r
+  kept rule f (is v) rest r e = go (rule v) refl e
     where
-      go : (t : Bool) → rule v ≡ t → tried t (FIELD at) (rest v) ≡ gives r → Kept rule (is v) rest r
-      go true q f = record { of = v; there = refl; good = q; after = f }
-      go false q f = absurd (not-refused r (FIELD at) (sym f))
-  kept at rule none rest r e = absurd (not-refused r (FIELD at) (sym e))
+      go : (t : Bool) → rule v ≡ t → tried t f (rest v) ≡ gives r → Kept rule (is v) rest r
+      go true q h = record { of = v; there = refl; good = q; after = h }
+      go false q h = absurd (not-refused r f (sym h))
+  kept rule f none rest r e = absurd (not-refused r f (sym e))
 
 -- ---- what makes a layout sound over n bytes
 
 -- P is what is known of a record from the values so far, F says that these values fit, and W that a record is whole
 pub data Sound {R : Type 0} (W : R → Type 0) : Layout R → (R → Type 0) → Type 0 → ℕ → Type 1 where
-  -- an offset that is not 0, a shape that fits and that reads and writes what the rule takes, and a sound rest after each such value
-  field-sound : {A : Type 0} {at n : ℕ} {shape : Shape A} {rule : A → Bool} {part : R → A} {next : A → Layout R} {P : R → Type 0} {F : Type 0} {Fit : A → Type 0}
-      → 0 < at → shape .width ≤ n → Inverse shape rule Fit → ((r : R) → W r → Fit (part r))
-      → ((v : A) → rule v ≡ true → Sound W (next v) (λ r. P r × (part r ≡ v)) (F × Fit v) (n - shape .width))
-      → Sound W (field at shape rule part next) P F n
+  -- an offset that is not 0, a shape that fits and that reads and writes what the rule takes, places that are what good values show, and a sound rest after each such value
+  field-sound : {A : Type 0} {at n : ℕ} {f : Field A} {part : R → A} {next : A → Layout R} {P : R → Type 0} {F : Type 0} {Fit : A → Type 0}
+      → 0 < at → f .shape .width ≤ n → Inverse (f .shape) (f .rule) Fit → Shows f Fit → ((r : R) → W r → Fit (part r))
+      → ((v : A) → f .rule v ≡ true → Sound W (next v) (λ r. P r × (part r ≡ v)) (F × Fit v) (n - f .shape .width))
+      → Sound W (field at f part next) P F n
   suits-sound : {at n : ℕ} {test : R → Bool} {rest : Layout R} {P : R → Type 0} {F : Type 0}
       → 0 < at → Sound W rest (λ r. P r × (test r ≡ true)) F n → Sound W (suits at test rest) P F n
   -- the record is the only whole one for which all this holds
@@ -66,13 +71,13 @@ module _ {R : Type 0} {W : R → Type 0} where
   pub written-reads : {L : Layout R} {P : R → Type 0} {F : Type 0} {n : ℕ} → Sound W L P F n → (r : R) → W r → P r → (pre post s : List ℕ) (p : ℕ)
       → recordWrong L r ≡ 0 → s ≡ pre ++ write L r ++ post → p ≡ length pre → fieldsOf L p s ≡ gives r
   unfolding fieldsOf recordWrong write
-  written-reads (field-sound {A} {at} {n} {shape} {rule} {part} {next} some fits inverse fit rest) r whole known pre post s p e is-s here =
+  written-reads (field-sound {A} {at} {n} {f} {part} {next} some fits inverse shown fit rest) r whole known pre post s p e is-s here =
       let v = part r in
-      let q = unless-none (rule v) at (recordWrong (next v) r) some e in
-      let s′ : s ≡ pre ++ shape .put v ++ (write (next v) r ++ post) = is-s ∙ simp append-assoc in
-      let got : shape .got s p ≡ is v =
-      rw (s′, here) (inverse .lawful .local pre (shape .put v) (write (next v) r ++ post) (inverse .lawful .long v) ∙ inverse .back v (q .0) (fit r whole)) in
-      let more = written-reads (rest v (q .0)) r whole (known, refl) (pre ++ shape .put v) post s (p + shape .width) (q .1) (is-s ∙ simp append-assoc)
+      let q = unless-none (f .rule v) at (recordWrong (next v) r) some e in
+      let s′ : s ≡ pre ++ f .shape .put v ++ (write (next v) r ++ post) = is-s ∙ simp append-assoc in
+      let got : f .shape .got s p ≡ is v =
+      rw (s′, here) (inverse .lawful .local pre (f .shape .put v) (write (next v) r ++ post) (inverse .lawful .long v) ∙ inverse .back v (q .0) (fit r whole)) in
+      let more = written-reads (rest v (q .0)) r whole (known, refl) (pre ++ f .shape .put v) post s (p + f .shape .width) (q .1) (is-s ∙ simp append-assoc)
       (rw (length-append, inverse .lawful .long v, here)) in
       rw (got, q .0) more
   written-reads (suits-sound {at} {n} {test} {rest} some sound) r whole known pre post s p e is-s here =
@@ -82,11 +87,11 @@ module _ {R : Type 0} {W : R → Type 0} where
 
   pub length-write : {L : Layout R} {P : R → Type 0} {F : Type 0} {n : ℕ} → Sound W L P F n → (r : R) → recordWrong L r ≡ 0 → length (write L r) ≡ n
   unfolding recordWrong write
-  length-write (field-sound {A} {at} {n} {shape} {rule} {part} {next} some fits inverse fit rest) r e =
+  length-write (field-sound {A} {at} {n} {f} {part} {next} some fits inverse shown fit rest) r e =
       let v = part r in
-      let q = unless-none (rule v) at (recordWrong (next v) r) some e in
+      let q = unless-none (f .rule v) at (recordWrong (next v) r) some e in
       let l = length-write (rest v (q .0)) r (q .1) in
-      length-append (shape .put v) (write (next v) r) ∙ omega (arith, inverse .lawful .long v)
+      length-append (f .shape .put v) (write (next v) r) ∙ omega (arith, inverse .lawful .long v)
   length-write (suits-sound {at} {n} {test} {rest} some sound) r e =
       let q = unless-none (test r) at (recordWrong rest r) some e in length-write sound r (q .1)
   length-write (end-sound own fits one) r e = refl
@@ -95,21 +100,21 @@ module _ {R : Type 0} {W : R → Type 0} where
 
   pub reads-write : {L : Layout R} {P : R → Type 0} {F : Type 0} {n : ℕ} → Sound W L P F n → F → (p : ℕ) (s : List ℕ) (r : R) → p + n ≤ length s → fieldsOf L p s ≡ gives r → Writes W L P p s n r
   unfolding fieldsOf recordWrong write
-  reads-write (field-sound {A} {at} {n} {shape} {rule} {part} {next} some fits inverse fit rest) facts p s r h e =
-      let k = kept at rule (shape .got s p) (λ v. fieldsOf (next v) (p + shape .width) s) r e in
-      let w = reads-write (rest (k .of) (k .good)) (facts, inverse .fit s p (k .of) (k .there)) (p + shape .width) s r (omega arith) (k .after) in
+  reads-write (field-sound {A} {at} {n} {f} {part} {next} some fits inverse shown fit rest) facts p s r h e =
+      let k = kept (f .rule) (FIELD at _) (f .shape .got s p) (λ v. fieldsOf (next v) (p + f .shape .width) s) r e in
+      let w = reads-write (rest (k .of) (k .good)) (facts, inverse .fit s p (k .of) (k .there)) (p + f .shape .width) s r (omega arith) (k .after) in
       let held = w .known .1 in
       record {
         whole = w .whole;
         known = w .known .0;
         fine = rw (held, k .good) (w .fine);
-        text = rw held (join n (shape .width) p s _ _ fits (inverse .lawful .again s p (k .of) (omega arith) (k .there)) (sym (w .text)));
+        text = rw held (join n (f .shape .width) p s _ _ fits (inverse .lawful .again s p (k .of) (omega arith) (k .there)) (sym (w .text)));
       }
   reads-write (suits-sound {at} {n} {test} {rest} some sound) facts p s r h e =
       let w = reads-write sound facts p s r h e in
       record { whole = w .whole; known = w .known .0; fine = rw (w .known .1) (w .fine); text = w .text }
   reads-write (end-sound {q} {P} own fits one) facts p s r h e =
-      let same : q ≡ r = let f : gives q ≡ gives r = e in cc in
+      let same : q ≡ r = let same-told : gives q ≡ gives r = e in cc in
       record { whole = subst W same (fits facts); known = subst P same own; fine = refl; text = refl }
 
 -- ---- a layout within a larger record
@@ -117,21 +122,21 @@ module _ {R : Type 0} {W : R → Type 0} where
 module _ {Q R : Type 0} (of : R → Q) (whole : Q → R) where
   pub within-wrong : (L : Layout Q) (r : R) → recordWrong (within of whole L) r ≡ recordWrong L (of r)
   unfolding recordWrong
-  within-wrong (field at shape rule part next) r = ap (wrongUnless (rule (part (of r))) at) (within-wrong (next (part (of r))) r)
+  within-wrong (field at f part next) r = ap (wrongUnless (f .rule (part (of r))) at) (within-wrong (next (part (of r))) r)
   within-wrong (suits at test rest) r = ap (wrongUnless (test (of r)) at) (within-wrong rest r)
   within-wrong (end q) r = refl
 
   pub within-write : (L : Layout Q) (r : R) → write (within of whole L) r ≡ write L (of r)
   unfolding write
-  within-write (field at shape rule part next) r = ap (λ (t : List ℕ). shape .put (part (of r)) ++ t) (within-write (next (part (of r))) r)
+  within-write (field at f part next) r = ap (λ (t : List ℕ). f .shape .put (part (of r)) ++ t) (within-write (next (part (of r))) r)
   within-write (suits at test rest) r = within-write rest r
   within-write (end q) r = refl
 
   module _ (W : Q → Type 0) (U : R → Type 0) (ofWhole : (q : Q) → of (whole q) ≡ q) (down : (r : R) → U r → W (of r)) (up : (q : Q) → W q → U (whole q)) where
     pub within-sound : {L : Layout Q} {P : Q → Type 0} {F : Type 0} {n : ℕ} → Sound W L P F n → (O : R → Type 0) (G : Type 0) → (G → F)
         → ((r : R) → O r → P (of r)) → ((q : Q) → P q → O (whole q)) → ((r : R) → O r → whole (of r) ≡ r) → Sound U (within of whole L) O G n
-    within-sound (field-sound {A} {at} {n} {shape} {rule} {part} {next} {P} {F} {Fit} some fits inverse fit rest) O G facts inner outer same =
-        field-sound some fits inverse (λ r u. fit (of r) (down r u))
+    within-sound (field-sound {A} {at} {n} {f} {part} {next} {P} {F} {Fit} some fits inverse shown fit rest) O G facts inner outer same =
+        field-sound some fits inverse shown (λ r u. fit (of r) (down r u))
         (λ v good. within-sound (rest v good) (λ r. O r × (part (of r) ≡ v)) (G × Fit v) (λ g. (facts (g .0), g .1))
         (λ r o. (inner r (o .0), o .1))
         (λ q k. (outer q (k .0), ap part (ofWhole q) ∙ k .1))
@@ -151,71 +156,71 @@ abbrev pub HeldAs : {A : Type 0} → (A → Bool) → Value A → A → Type 0
 HeldAs rule (is u) v = u ≡ v
 HeldAs rule none v = rule v ≡ false
 
--- the code's offset of the first wrong field (0 for none), and its record
-pub data Sees {R : Type 0} : Layout R → ℕ → List ℕ → ℕ → R → Type 1 where
-  sees-field : {A : Type 0} {at p w : ℕ} {s : List ℕ} {r : R} {shape : Shape A} {rule : A → Bool} {part : R → A} {next : A → Layout R}
-      → (v : A) → T (ltb 0 at) → HeldAs rule (shape .got s p) v → (rule v ≡ true → Sees (next v) (p + shape .width) s w r)
-      → Sees (field at shape rule part next) p s (wrongUnless (rule v) at w) r
-  sees-suits : {at p w : ℕ} {s : List ℕ} {r : R} {test : R → Bool} {rest : Layout R} → Sees rest p s w r → Sees (suits at test rest) p s w r
-  sees-end : {p : ℕ} {s : List ℕ} {q r : R} → q ≡ r → Sees (end q) p s 0 r
+-- the code's offset of the first wrong field (0 for none), and its record; `spoils` is the byte that the code names if the field at an offset is wrong
+pub data Sees {R : Type 0} : Layout R → ℕ → List ℕ → (ℕ → ℕ) → ℕ → R → Type 1 where
+  sees-field : {A : Type 0} {at p w : ℕ} {s : List ℕ} {spoils : ℕ → ℕ} {r : R} {f : Field A} {part : R → A} {next : A → Layout R}
+      → (v : A) → T (ltb 0 at) → HeldAs (f .rule) (f .shape .got s p) v → spoils at ≡ spoiledIn (f .places) s at → (f .rule v ≡ true → Sees (next v) (p + f .shape .width) s spoils w r)
+      → Sees (field at f part next) p s spoils (wrongUnless (f .rule v) at w) r
+  sees-suits : {at p w : ℕ} {s : List ℕ} {spoils : ℕ → ℕ} {r : R} {test : R → Bool} {rest : Layout R} → Sees rest p s spoils w r → Sees (suits at test rest) p s spoils w r
+  sees-end : {p : ℕ} {s : List ℕ} {spoils : ℕ → ℕ} {q r : R} → q ≡ r → Sees (end q) p s spoils 0 r
 
 module _ {R : Type 0} where
-  abbrev judged : ℕ → R → Told R
-  judged w r = tried (eqb w 0) (FIELD w) (gives r)
+  abbrev judged : (ℕ → ℕ) → ℕ → R → Told R
+  judged spoils w r = tried (eqb w 0) (FIELD w (spoils w)) (gives r)
 
-  wrong-at : (at : ℕ) (r : R) → T (ltb 0 at) → refuses (FIELD at) ≡ judged at r
-  wrong-at at r h = let k = ltb→lt 0 at h in rw (ne-eqb at 0 (λ (e : at ≡ 0). omega arith))
+  wrong-at : (spoils : ℕ → ℕ) (at spoiled : ℕ) (r : R) → T (ltb 0 at) → spoils at ≡ spoiled → refuses (FIELD at spoiled) ≡ judged spoils at r
+  wrong-at spoils at spoiled r h e = let k = ltb→lt 0 at h in rw (ne-eqb at 0 (λ (z : at ≡ 0). omega arith), e)
 
-  pub seen-is : {L : Layout R} {p w : ℕ} {s : List ℕ} {r : R} → Sees L p s w r → fieldsOf L p s ≡ tried (eqb w 0) (FIELD w) (gives r)
+  pub seen-is : {L : Layout R} {p w : ℕ} {s : List ℕ} {spoils : ℕ → ℕ} {r : R} → Sees L p s spoils w r → fieldsOf L p s ≡ tried (eqb w 0) (FIELD w (spoils w)) (gives r)
   unfolding fieldsOf
-  seen-is (sees-field {A} {at} {p} {w} {s} {r} {shape} {rule} {part} {next} v some holds rest) =
-      by-value (λ good. seen-is (rest good)) (shape .got s p) holds
+  seen-is (sees-field {A} {at} {p} {w} {s} {spoils} {r} {f} {part} {next} v some holds spoiled rest) =
+      by-value (λ good. seen-is (rest good)) (f .shape .got s p) holds
     where
-      by-rule : (rule v ≡ true → fieldsOf (next v) (p + shape .width) s ≡ judged w r) → (t : Bool) → rule v ≡ t
-          → tried t (FIELD at) (fieldsOf (next v) (p + shape .width) s) ≡ judged (wrongUnless t at w) r
+      by-rule : (f .rule v ≡ true → fieldsOf (next v) (p + f .shape .width) s ≡ judged spoils w r) → (t : Bool) → f .rule v ≡ t
+          → tried t (FIELD at (spoiledIn (f .places) s at)) (fieldsOf (next v) (p + f .shape .width) s) ≡ judged spoils (wrongUnless t at w) r
       by-rule more true q = more q
-      by-rule more false q = wrong-at at r some
+      by-rule more false q = wrong-at spoils at _ r some spoiled
 
-      by-value : (rule v ≡ true → fieldsOf (next v) (p + shape .width) s ≡ judged w r) → (x : Value A) → HeldAs rule x v
-          → taken at rule x (λ u. fieldsOf (next u) (p + shape .width) s) ≡ judged (wrongUnless (rule v) at w) r
-      by-value more (is u) e = rw e (by-rule more (rule v) refl)
-      by-value more none e = rw e (wrong-at at r some)
+      by-value : (f .rule v ≡ true → fieldsOf (next v) (p + f .shape .width) s ≡ judged spoils w r) → (x : Value A) → HeldAs (f .rule) x v
+          → taken (f .rule) (FIELD at (spoiledIn (f .places) s at)) x (λ u. fieldsOf (next u) (p + f .shape .width) s) ≡ judged spoils (wrongUnless (f .rule v) at w) r
+      by-value more (is u) e = rw e (by-rule more (f .rule v) refl)
+      by-value more none e = rw e (wrong-at spoils at _ r some spoiled)
   seen-is (sees-suits rest) = seen-is rest
   seen-is (sees-end e) = ap gives e
 
 module _ {Q R : Type 0} (of : R → Q) (whole : Q → R) where
-  pub sees-within : {L : Layout Q} {p w : ℕ} {s : List ℕ} {q : Q} {r : R} → Sees L p s w q → whole q ≡ r → Sees (within of whole L) p s w r
-  sees-within (sees-field v some holds rest) e = sees-field v some holds (λ good. sees-within (rest good) e)
+  pub sees-within : {L : Layout Q} {p w : ℕ} {s : List ℕ} {spoils : ℕ → ℕ} {q : Q} {r : R} → Sees L p s spoils w q → whole q ≡ r → Sees (within of whole L) p s spoils w r
+  sees-within (sees-field v some holds spoiled rest) e = sees-field v some holds spoiled (λ good. sees-within (rest good) e)
   sees-within (sees-suits rest) e = sees-suits (sees-within rest e)
   sees-within (sees-end f) e = sees-end (ap whole f ∙ e)
 
--- ---- sound fields, by their shape; a field of digits needs the highest value of its rule
+-- ---- sound fields, by what they are; a letter needs a good one, and a number the highest value of its rule
 
 pub byte-inverse : {rule : ℕ → Bool} → Inverse byte rule (λ _. Unit {0})
 byte-inverse = one-inverse (record { lawful = byte-lawful; back = λ v h. refl })
 
 module _ {R : Type 0} {W : R → Type 0} {at n : ℕ} {P : R → Type 0} {F : Type 0} where
   module _ {part : R → ℕ} {next : ℕ → Layout R} where
-    pub byte-sound : {rule : ℕ → Bool} → T (ltb 0 at && leb 1 n) → ((v : ℕ) → rule v ≡ true → Sound W (next v) (λ r. P r × (part r ≡ v)) (F × Unit {0}) (n - 1)) → Sound W (field at byte rule part next) P F n
-    byte-sound t rest =
+    pub letter-sound : {rule : ℕ → Bool} (some : ℕ) → rule some ≡ true → T (ltb 0 at && leb 1 n) → ((v : ℕ) → rule v ≡ true → Sound W (next v) (λ r. P r × (part r ≡ v)) (F × Unit {0}) (n - 1)) → Sound W (field at (letter rule) part next) P F n
+    letter-sound some good t rest =
         let q = both-hold (ltb 0 at) (leb 1 n) t in
-        field-sound (ltb→lt 0 at (q .0)) (leb→le 1 n (q .1)) byte-inverse (λ r whole. tt) rest
+        field-sound (ltb→lt 0 at (q .0)) (leb→le 1 n (q .1)) byte-inverse (letter-shows some good) (λ r whole. tt) rest
 
-    pub number-sound : {rule : ℕ → Bool} (w hi : ℕ) → T (ltb 0 at && leb w n && (leb 1 w && leb w 10) && ltb hi (10 ^ w)) → ((v : ℕ) → rule v ≡ true → v ≤ hi)
-        → ((v : ℕ) → rule v ≡ true → Sound W (next v) (λ r. P r × (part r ≡ v)) (F × Unit {0}) (n - w)) → Sound W (field at (number w) rule part next) P F n
-    number-sound w hi t below rest =
+    pub number-sound : {rule : ℕ → Bool} (w hi : ℕ) → T (ltb 0 at && leb w n && (leb 1 w && leb w 10) && ltb hi (10 ^ w)) → ((v : ℕ) → rule v ≡ true → v ≤ hi) → Shows (numberBy w hi rule) (λ _. Unit {0})
+        → ((v : ℕ) → rule v ≡ true → Sound W (next v) (λ r. P r × (part r ≡ v)) (F × Unit {0}) (n - w)) → Sound W (field at (numberBy w hi rule) part next) P F n
+    number-sound w hi t below shown rest =
         let a = both-hold (ltb 0 at && leb w n && (leb 1 w && leb w 10)) (ltb hi (10 ^ w)) t in
         let b = both-hold (ltb 0 at && leb w n) (leb 1 w && leb w 10) (a .0) in
         let c = both-hold (ltb 0 at) (leb w n) (b .0) in
-        field-sound (ltb→lt 0 at (c .0)) (leb→le w n (c .1)) (digits-inverse w hi (b .1) (a .1) below) (λ r whole. tt) rest
+        field-sound (ltb→lt 0 at (c .0)) (leb→le w n (c .1)) (digits-inverse w hi (b .1) (a .1) below) shown (λ r whole. tt) rest
 
-    pub time-sound : T (ltb 0 at && leb 10 n) → ((v : ℕ) → isTime v ≡ true → Sound W (next v) (λ r. P r × (part r ≡ v)) (F × Unit {0}) (n - 10)) → Sound W (field at time isTime part next) P F n
+    pub time-sound : T (ltb 0 at && leb 10 n) → ((v : ℕ) → isTime v ≡ true → Sound W (next v) (λ r. P r × (part r ≡ v)) (F × Unit {0}) (n - 10)) → Sound W (field at timeOfDay part next) P F n
     time-sound t rest =
         let q = both-hold (ltb 0 at) (leb 10 n) t in
-        field-sound (ltb→lt 0 at (q .0)) (leb→le 10 n (q .1)) (one-inverse clock-inverse) (λ r whole. tt) rest
+        field-sound (ltb→lt 0 at (q .0)) (leb→le 10 n (q .1)) (one-inverse clock-inverse) time-shows (λ r whole. tt) rest
 
-  pub run-sound : {part : R → List ℕ} {next : List ℕ → Layout R} {rule : List ℕ → Bool} (m : ℕ) → T (ltb 0 at && leb m n) → ((r : R) → W r → length (part r) ≡ m)
-      → ((v : List ℕ) → rule v ≡ true → Sound W (next v) (λ r. P r × (part r ≡ v)) (F × (length v ≡ m)) (n - m)) → Sound W (field at (run m) rule part next) P F n
-  run-sound m t long rest =
+  pub raw-sound : {part : R → List ℕ} {next : List ℕ → Layout R} (m : ℕ) → T (ltb 0 at && leb m n) → ((r : R) → W r → length (part r) ≡ m)
+      → ((v : List ℕ) → areRaw m v ≡ true → Sound W (next v) (λ r. P r × (part r ≡ v)) (F × (length v ≡ m)) (n - m)) → Sound W (field at (rawBytes m) part next) P F n
+  raw-sound m t long rest =
       let q = both-hold (ltb 0 at) (leb m n) t in
-      field-sound (ltb→lt 0 at (q .0)) (leb→le m n (q .1)) (run-inverse m) long rest
+      field-sound (ltb→lt 0 at (q .0)) (leb→le m n (q .1)) (run-inverse m) (raw-shows m) long rest

@@ -2,6 +2,7 @@ pub mod RefusalLaws
 pub mod HeadLaws
 pub mod RuleLaws
 pub mod ShapeLaws
+pub mod ShownLaws
 pub mod LayoutLaws
 pub mod SeesLaws
 pub mod KindLaws
@@ -13,4 +14,7 @@ pub mod Demands
 pub mod Unique
 pub mod KeepsLaws
 pub mod Places
+pub mod ClassLaws
+pub mod SpoiledLaws
+pub mod SpoiledDemands
 pub mod Cases

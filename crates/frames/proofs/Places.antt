@@ -1,20 +1,24 @@
 -- Each field is where it says, field by field; so the refusals of reading are those of the table. Assumes nothing.
-use Prim.Native.Nat.{ℕ, _+_, _<_}
-use mathlib.Core.List.{List}
-use mathlib.Core.Bool.{Bool, true, false, not}
-use mathlib.Core.Path.{_≡_, refl, ap}
+use Prim.Native.Nat.{ℕ, suc, _+_, _≤_, _<_}
+use mathlib.Core.List.{List, [], _∷_}
+use mathlib.Core.Bool.{Bool, true, false, cond, not}
+use mathlib.Core.Path.{_≡_, refl, ap, subst}
 use native.Mathlib.Omega.{arith}
-use borrow.Author.Tests.{ne-eqb}
+use lib.Dec.{ltb→lt}
+use lib.ListN.{getD}
+use borrow.Author.Tests.{le-leb, ne-eqb}
 use Rattle.digits.specs.Refusals.{FIELD, isRefusal}
 use Rattle.digits.specs.Told.{tried, Sure}
+use Rattle.digits.proofs.Tests.{and-true}
 use Rattle.digits.proofs.Sure.{sure-refuses, sure-gives}
 use Rattle.frames.specs.declared.timing.TimingKind.{TimingKind}
 use Rattle.frames.specs.declared.timing.TimingKind.the-variants.{Clock as clockKind, Net as netKind, Raw as rawKind}
-use Rattle.frames.specs.Rules.{upTo}
-use Rattle.frames.specs.Shape.{Value, is, none, number}
+use Rattle.frames.specs.Shape.{Value, is, none}
+use Rattle.frames.specs.Shown.{Places, firstOff, spoiledIn}
+use Rattle.frames.specs.Field.{numberTo}
 use Rattle.frames.specs.Layout.{Layout, taken, fieldsOf, within, Placed, stands, besides, ends}
-use Rattle.frames.specs.Kind.{Kind, headTold, read}
-use Rattle.frames.specs.Places.{Stands, FieldsStandWhereTheySay}
+use Rattle.frames.specs.Kind.{Kind, fieldsBegin, headTold, read}
+use Rattle.frames.specs.Places.{requestOffsets, replyOffsets, dynamicOffsets, Stands, FieldsStandWhereTheySay}
 use Rattle.frames.specs.Request.{request, requestFields}
 use Rattle.frames.specs.Timing.{timingKind, timed}
 use Rattle.frames.specs.Reply.{isLetter, leastRun, fromBib, tailOf, withTail, reply, replyFields}
@@ -23,63 +27,79 @@ use Rattle.frames.proofs.HeadLaws.{sure-then, sure-head}
 
 -- ---- the three kinds
 
-request-stands : Stands request
+pub request-stands : Stands request requestOffsets
 unfolding requestFields
 request-stands =
-    stands λ _ _. stands λ _ _. stands λ _ _. stands λ _ _. stands λ _ _. stands λ _ _. stands λ _ _. stands λ _ _. stands λ _ _. ends
+    stands tt refl λ _ _. stands tt refl λ _ _. stands tt refl λ _ _. stands tt refl λ _ _. stands tt refl λ _ _.
+    stands tt refl λ _ _. stands tt refl λ _ _. stands tt refl λ _ _. stands tt refl λ _ _. ends
 
-dynamic-stands : Stands dynamic
+pub dynamic-stands : Stands dynamic dynamicOffsets
 unfolding dynamicFields
 dynamic-stands =
-    stands λ _ _. stands λ _ _. stands λ _ _. stands λ _ _. stands λ _ _. stands λ _ _. stands λ _ _. stands λ _ _.
-    stands λ _ _. stands λ _ _. stands λ _ _. stands λ _ _. stands λ _ _. stands λ _ _. ends
+    stands tt refl λ _ _. stands tt refl λ _ _. stands tt refl λ _ _. stands tt refl λ _ _. stands tt refl λ _ _.
+    stands tt refl λ _ _. stands tt refl λ _ _. stands tt refl λ _ _. stands tt refl λ _ _. stands tt refl λ _ _.
+    stands tt refl λ _ _. stands tt refl λ _ _. stands tt refl λ _ _. stands tt refl λ _ _. ends
 
-within-stands : {Q R : Type 0} (of : R → Q) (whole : Q → R) {L : Layout Q} {p size : ℕ} → Placed L p size → Placed (within of whole L) p size
-within-stands of whole (stands rest) = stands λ v good. within-stands of whole (rest v good)
+within-stands : {Q R : Type 0} (of : R → Q) (whole : Q → R) {L : Layout Q} {offsets : List ℕ} {size : ℕ} → Placed L offsets size → Placed (within of whole L) offsets size
+within-stands of whole (stands some next rest) = stands some next λ v good. within-stands of whole (rest v good)
 within-stands of whole (besides rest) = besides (within-stands of whole rest)
 within-stands of whole ends = ends
 
-timed-stands : (kind : TimingKind) → Placed (timed kind) 30 51
+timed-stands : (kind : TimingKind) → Placed (timed kind) (30 ∷ 40 ∷ 48 ∷ 50 ∷ []) 51
 unfolding timed
-timed-stands clockKind = besides (stands λ _ _. stands λ _ _. stands λ _ _. besides ends)
-timed-stands netKind = besides (stands λ _ _. stands λ _ _. stands λ _ _. besides ends)
-timed-stands rawKind = besides (stands λ _ _. stands λ _ _. stands λ _ _. ends)
+timed-stands clockKind = besides (stands tt refl λ _ _. stands tt refl λ _ _. stands tt refl λ _ _. besides ends)
+timed-stands netKind = besides (stands tt refl λ _ _. stands tt refl λ _ _. stands tt refl λ _ _. besides ends)
+timed-stands rawKind = besides (stands tt refl λ _ _. stands tt refl λ _ _. stands tt refl λ _ _. ends)
 
-tail-stands : (status : ℕ) → Placed (fromBib (leastRun status) (number 3) (upTo 999) isLetter (timingKind status)) 12 51
+tail-stands : (status : ℕ) → Placed (fromBib (leastRun status) (numberTo 3 999) isLetter (timingKind status)) (12 ∷ 17 ∷ 20 ∷ 23 ∷ 26 ∷ 29 ∷ 30 ∷ 40 ∷ 48 ∷ 50 ∷ []) 51
 unfolding fromBib
 tail-stands status =
-    stands λ bib _. stands λ group _. stands λ run _. stands λ physical _. stands λ channel _. stands λ letter _.
+    stands tt refl λ bib _. stands tt refl λ group _. stands tt refl λ run _. stands tt refl λ physical _. stands tt refl λ channel _. stands tt refl λ letter _.
     within-stands (λ t. t .times) (λ times. record { bib = bib; group = group; run = run; physical = physical; channel = channel; information = letter; times = times }) (timed-stands (timingKind status letter))
 
-reply-stands : Stands reply
+pub reply-stands : Stands reply replyOffsets
 unfolding replyFields
 reply-stands =
-    stands λ address _. stands λ program _. stands λ mode _. stands λ status _. stands λ requester _. stands λ n _.
+    stands tt refl λ address _. stands tt refl λ program _. stands tt refl λ mode _. stands tt refl λ status _. stands tt refl λ requester _. stands tt refl λ n _.
     within-stands tailOf (withTail address program mode status requester n) (tail-stands status)
 
 pub fields-stand-where-they-say : FieldsStandWhereTheySay
 fields-stand-where-they-say = (request-stands, reply-stands, dynamic-stands)
 
--- ---- an offset that is not 0 makes a refusal of the table
+-- ---- an offset that is not 0 makes a refusal of the table, and the spoiled byte is not before the field
 
-field-told : (at : ℕ) → 0 < at → isRefusal (FIELD at) ≡ true
-field-told at h = ap not (ne-eqb at 0 (λ (e : at ≡ 0). omega arith))
-
-sure-fields : {R : Type 0} {L : Layout R} {p size : ℕ} → Placed L p size → 0 < p → (s : List ℕ) → Sure (fieldsOf L p s)
-unfolding fieldsOf
-sure-fields {R} (stands {A} {p} {size} {shape} {rule} {part} {next} rest) h s = by-value (λ v good. sure-fields (rest v good) (omega arith) s) (shape .got s p)
+off-after : (places : Places) (s : List ℕ) (p own : ℕ) → own ≤ p → own ≤ firstOff places s p own
+unfolding firstOff
+off-after [] s p own h = omega arith
+off-after (test ∷ places) s p own h = go (test (getD s p 0)) (off-after places s (suc p) own (omega arith))
   where
-    by-rule : ((v : A) → rule v ≡ true → Sure (fieldsOf (next v) (p + shape .width) s)) → (v : A) (t : Bool) → rule v ≡ t → Sure (tried t (FIELD p) (fieldsOf (next v) (p + shape .width) s))
-    by-rule more v true q = more v q
-    by-rule more v false q = sure-refuses (FIELD p) (field-told p h)
+    go : (t : Bool) → own ≤ firstOff places s (suc p) own → own ≤ cond t (firstOff places s (suc p) own) p
+    go true k = k
+    go false k = h
 
-    by-value : ((v : A) → rule v ≡ true → Sure (fieldsOf (next v) (p + shape .width) s)) → (x : Value A) → Sure (taken p rule x (λ v. fieldsOf (next v) (p + shape .width) s))
-    by-value more (is v) = by-rule more v (rule v) refl
-    by-value more none = sure-refuses (FIELD p) (field-told p h)
+field-told : (at spoiled : ℕ) → 0 < at → at ≤ spoiled → isRefusal (FIELD at spoiled) ≡ true
+field-told at spoiled h k = and-true (le-leb at spoiled k) (ap not (ne-eqb at 0 (λ (e : at ≡ 0). omega arith)))
+
+sure-fields : {R : Type 0} {L : Layout R} {p size : ℕ} {offsets : List ℕ} → Placed L (p ∷ offsets) size → 0 < p → (s : List ℕ) → Sure (fieldsOf L p s)
+unfolding fieldsOf
+sure-fields {R} (stands {A} {p} {q} {size} {offsets} {f} {part} {next} some place rest) h s =
+    let l = ltb→lt p q some in
+    by-value (λ v good. subst (λ (i : ℕ). Sure (fieldsOf (next v) i s)) place (sure-fields (rest v good) (omega arith) s)) (f .shape .got s p)
+  where
+    told : isRefusal (FIELD p (spoiledIn (f .places) s p)) ≡ true
+    told = field-told p (spoiledIn (f .places) s p) h (off-after (f .places) s p p (omega arith))
+
+    by-rule : ((v : A) → f .rule v ≡ true → Sure (fieldsOf (next v) (p + f .shape .width) s)) → (v : A) (t : Bool) → f .rule v ≡ t → Sure (tried t (FIELD p (spoiledIn (f .places) s p)) (fieldsOf (next v) (p + f .shape .width) s))
+    by-rule more v true q = more v q
+    by-rule more v false q = sure-refuses (FIELD p (spoiledIn (f .places) s p)) told
+
+    by-value : ((v : A) → f .rule v ≡ true → Sure (fieldsOf (next v) (p + f .shape .width) s)) → (x : Value A) → Sure (taken (f .rule) (FIELD p (spoiledIn (f .places) s p)) x (λ v. fieldsOf (next v) (p + f .shape .width) s))
+    by-value more (is v) = by-rule more v (f .rule v) refl
+    by-value more none = sure-refuses (FIELD p (spoiledIn (f .places) s p)) told
 sure-fields (besides rest) h s = sure-fields rest h s
 sure-fields (ends {p} {r}) h s = sure-gives r
 
-sure-read : {R : Type 0} (k : Kind R) → Stands k → (s : List ℕ) → Sure (read k s)
+sure-read : {R : Type 0} (k : Kind R) {offsets : List ℕ} → Stands k (fieldsBegin ∷ offsets) → (s : List ℕ) → Sure (read k s)
 unfolding read
 sure-read k placed s = sure-then (headTold (k .lead) (k .size) s) _ (sure-head (k .lead) (k .size) s) (sure-fields placed (omega arith) s)
 

@@ -12,7 +12,7 @@ use Rattle.frames.specs.Refusals.{readRefused}
 abbrev pub readBack : Refusal → ReadRefusal
 readBack f =
     cond (eqb (f .number) (KIND .number)) kind (cond (eqb (f .number) (LENGTH .number)) Length (cond (eqb (f .number) (END .number)) End
-    (cond (eqb (f .number) (ADDRESS .number)) Address (Field (record { field = f .offset })))))
+    (cond (eqb (f .number) (ADDRESS .number)) Address (Field (record { field = f .offset; spoiled = f .spoiled })))))
 
 pub read-back : (g : ReadRefusal) → readBack (readRefused g) ≡ g
 read-back kind = refl

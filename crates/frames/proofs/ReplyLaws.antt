@@ -1,13 +1,14 @@
 -- The static reply: its layout is sound, and what the code's steps compute. Assumes nothing.
 use Prim.Native.Nat.{ℕ, _+_, _≤_}
 use mathlib.Core.List.{List, [], _∷_, _++_, append-assoc}
-use mathlib.Core.Bool.{Bool, true, false, cond}
+use mathlib.Core.Bool.{Bool, true, false, cond, _||_}
 use mathlib.Core.Path.{_≡_, refl, sym, ap, _∙_}
 use native.Mathlib.Omega.{arith}
 use lib.Dec.{T, eqb, ltb, ltb→lt}
 use borrow.Author.Tests.{eqb-true, eq-eqb, ne-eqb}
 use lib.ListN.{length, getD, set, length-append}
 use lib.Seq.{sets}
+use Rattle.digits.specs.Text.{oneOf}
 use Rattle.digits.specs.Digits.{digits, numberAt}
 use Rattle.digits.specs.declared.refusal.Refusal.{Refusal}
 use Rattle.digits.specs.Refusals.{FIELD}
@@ -25,8 +26,10 @@ use Rattle.frames.specs.declared.reply.StaticReply.{StaticReply}
 use Rattle.frames.specs.declared.reply.ReplyRead.{ReplyRead}
 use Rattle.frames.specs.Refusals.{readRefused, verdictTold}
 use Rattle.frames.specs.Rules.{between, upTo, isAddress, isRaw, isRequester}
-use Rattle.frames.specs.Status.{isStatus}
-use Rattle.frames.specs.Shape.{number, bytesOf}
+use Rattle.frames.specs.Status.{isStatus, isZ}
+use Rattle.frames.specs.Shape.{bytesOf}
+use Rattle.frames.specs.Shown.{digitFrom}
+use Rattle.frames.specs.Field.{numberTo}
 use Rattle.frames.specs.Layout.{wrongUnless, recordWrong, write, within}
 use Rattle.frames.specs.Kind.{letterR, CR, headTold, read, wrongIn, frameOf}
 use Rattle.frames.specs.Faithful.{Faithful}
@@ -34,14 +37,16 @@ use Rattle.frames.specs.Timing.{timingKind, timed}
 use Rattle.frames.specs.Reply.{isLetter, isReplyChannel, leastRun, Tail, fromBib, tailOf, withTail, replyFields, reply, Whole, toldBy, orZero, ReadAs, labelOf, labelled}
 use Rattle.frames.specs.inside.Held.{orNone}
 use Rattle.frames.specs.inside.Timing.{timingWrong, timingText}
-use Rattle.frames.specs.inside.Reply.{refusedBy, judgedAs, headAt, headWrong, seenIn, replyAt, wrongAt, fieldsRead, fieldsChecked, headText, replyText}
+use Rattle.frames.specs.inside.Reply.{refusedBy, judgedAs, headAt, headWrong, kindAt, seenIn, replyAt, wrongAt, spoiledByte, fieldsRead, fieldsChecked, headText, replyText}
+use Rattle.frames.specs.inside.Spoiled.{inClass, lookedIn, headByte, replyByte}
 use Rattle.frames.proofs.RuleLaws.{up-to, in-range, none-in-range, or-one, to-240}
 use Rattle.frames.proofs.ShapeLaws.{all-bytes}
-use Rattle.frames.proofs.LayoutLaws.{unless-none, Sound, byte-sound, number-sound, within-wrong, within-write, within-sound, Sees, sees-within}
-use Rattle.frames.proofs.SeesLaws.{sees-byte, sees-number}
+use Rattle.frames.proofs.LayoutLaws.{unless-none, Sound, letter-sound, number-sound, within-wrong, within-write, within-sound, Sees, sees-within}
+use Rattle.frames.proofs.ShownLaws.{number-shows, to-shows, from-one, least, leastPositive}
+use Rattle.frames.proofs.SeesLaws.{sees-letter, sees-number}
 use Rattle.frames.proofs.KindLaws as K
 use Rattle.frames.proofs.KindLaws.{SoundKind, faithful, length-frame, sees-address}
-use Rattle.frames.proofs.TimingLaws.{WholeTimes, timed-sound, timing-wrong-is, kind-fits, sees-timed, timing-text}
+use Rattle.frames.proofs.TimingLaws.{WholeTimes, timed-sound, timing-wrong-is, kind-fits, sees-timed, timing-passed, timing-text}
 
 -- ---- the layout is sound
 
@@ -53,15 +58,16 @@ abbrev WholeTail : Tail → Type 0
 WholeTail t = WholeTimes (t .times)
 
 -- from the bib on, for any least run, letters and kind of time for each letter
-tail-sound : (least : ℕ) (letters : ℕ → Bool) (kind : ℕ → TimingKind) → Sound WholeTail (fromBib least (number 3) (upTo 999) letters kind) (λ _. Unit {0}) (Unit {0}) 38
-unfolding fromBib
-tail-sound least letters kind =
-    number-sound 5 _ tt (up-to _) λ bib _.
-    number-sound 3 _ tt (up-to _) λ group _.
-    number-sound 3 250 tt (in-range least 250) λ run _.
-    number-sound 3 _ tt (up-to _) λ physical _.
-    number-sound 3 255 tt channel-bound λ channel _.
-    byte-sound tt λ letter _.
+tail-sound : (lowest : ℕ) → lowest ≤ 1 → (letters : ℕ → Bool) (some : ℕ) → letters some ≡ true → (kind : ℕ → TimingKind)
+    → Sound WholeTail (fromBib lowest (numberTo 3 999) letters kind) (λ _. Unit {0}) (Unit {0}) 38
+unfolding fromBib isReplyChannel between upTo digitFrom digits
+tail-sound lowest h letters some good kind =
+    number-sound 5 59999 tt (up-to _) (to-shows 4 5 59999 refl) λ bib _.
+    number-sound 3 199 tt (up-to _) (to-shows 2 1 199 refl) λ group _.
+    number-sound 3 250 tt (in-range lowest 250) (number-shows 2 2 250 (between 1 250) (leastPositive 2) (in-range lowest 250) (from-one lowest 250 h) refl) λ run _.
+    number-sound 3 999 tt (up-to _) (to-shows 2 9 999 refl) λ physical _.
+    number-sound 3 255 tt channel-bound (number-shows 2 2 255 isReplyChannel (least 2) channel-bound (λ v q. q) refl) λ channel _.
+    letter-sound some good tt λ letter _.
     within-sound (λ t. t .times) (λ times. record { bib = bib; group = group; run = run; physical = physical; channel = channel; information = letter; times = times })
     WholeTimes WholeTail (λ q. refl) (λ r w. w) (λ q w. w) (timed-sound (kind letter)) _ _ (λ _. tt) (λ r o. tt) (λ q k. ((((((tt, refl), refl), refl), refl), refl), refl))
     (λ r o i. record {
@@ -74,19 +80,28 @@ tail-sound least letters kind =
       times = r .times;
     })
 
+-- a run from 1 on is good with each status
+least-one : (status : ℕ) → leastRun status ≤ 1
+unfolding leastRun
+least-one status = go (isZ status)
+  where
+    go : (t : Bool) → cond t 0 1 ≤ 1
+    go true = omega arith
+    go false = omega arith
+
 sound : Sound Whole replyFields (λ _. Unit {0}) (Unit {0}) 48
-unfolding replyFields
+unfolding replyFields isAddress isRaw isStatus isRequester isLetter oneOf between upTo digitFrom digits
 sound =
-    byte-sound tt λ address _.
-    byte-sound tt λ program _.
-    byte-sound tt λ mode _.
-    byte-sound tt λ status _.
-    byte-sound tt λ requester _.
-    number-sound 5 _ tt (up-to _) λ n _.
+    letter-sound 32 refl tt λ address _.
+    letter-sound 32 refl tt λ program _.
+    letter-sound 32 refl tt λ mode _.
+    letter-sound 82 refl tt λ status _.
+    letter-sound 65 refl tt λ requester _.
+    number-sound 5 99999 tt (up-to _) (to-shows 4 9 99999 refl) λ n _.
     within-sound tailOf (withTail address program mode status requester n) WholeTail Whole (λ q. refl)
     (λ r w. record { time = w .time; date = w .date; spare = w .spare })
     (λ q w. record { time = w .time; date = w .date; spare = w .spare })
-    (tail-sound (leastRun status) isLetter (timingKind status)) _ _ (λ _. tt) (λ r o. tt) (λ q k. ((((((tt, refl), refl), refl), refl), refl), refl))
+    (tail-sound (leastRun status) (least-one status) isLetter 80 refl (timingKind status)) _ _ (λ _. tt) (λ r o. tt) (λ q k. ((((((tt, refl), refl), refl), refl), refl), refl))
     (λ r o i. record {
       head = record {
         address = sym (o .0 .0 .0 .0 .0 .1) i;
@@ -108,7 +123,7 @@ sound =
       spare = r .spare;
     })
 
-reply-sound : SoundKind reply Whole
+pub reply-sound : SoundKind reply Whole
 unfolding replyFields frameOf write wrongIn recordWrong
 reply-sound = record { bytes = 48; sound = sound; size = refl; some = omega arith; address = λ r e. unless-none _ 2 _ (omega arith) e .0 }
 
@@ -159,36 +174,38 @@ times-fine r e = head-none (r .head) _ (last-none (isAddress (r .head .address))
 
 -- ---- what the code reads of a frame
 
-abbrev kindAt : List ℕ → TimingKind
-kindAt s = timingKind (getD s 5 0) (getD s 29 0)
+-- a field before the time has its spoiled byte there
+before-time : (s : List ℕ) (at : ℕ) → eqb at 48 ≡ false → (eqb at 40 || eqb at 30) ≡ false → replyByte (kindAt s) s at ≡ headByte s at
+unfolding lookedIn
+before-time s at e f = rw e (timing-passed (kindAt s) s at (headByte s at) f)
 
 -- from the bib on
-sees-tail : (s : List ℕ) → Sees (fromBib (leastRun (getD s 5 0)) (number 3) (upTo 999) isLetter (timingKind (getD s 5 0))) 12 s
+sees-tail : (s : List ℕ) → Sees (fromBib (leastRun (getD s 5 0)) (numberTo 3 999) isLetter (timingKind (getD s 5 0))) 12 s (replyByte (kindAt s) s)
     (wrongUnless (upTo 59999 (orNone (numberAt s 12 5))) 12 (wrongUnless (upTo 199 (orNone (numberAt s 17 3))) 17
     (wrongUnless (between (leastRun (getD s 5 0)) 250 (orNone (numberAt s 20 3))) 20 (wrongUnless (upTo 999 (orNone (numberAt s 23 3))) 23
     (wrongUnless (isReplyChannel (orNone (numberAt s 26 3))) 26 (wrongUnless (isLetter (getD s 29 0)) 29 (seenIn s .wrong)))))))
     (tailOf (replyAt s))
-unfolding fromBib upTo isReplyChannel
+unfolding fromBib upTo isReplyChannel lookedIn inClass digitFrom
 sees-tail s =
-    sees-number 5 tt refl λ _.
-    sees-number 3 tt refl λ _.
-    sees-number 3 tt (none-in-range (leastRun (getD s 5 0)) 250 (omega arith)) λ _.
-    sees-number 3 tt refl λ _.
-    sees-number 3 tt refl λ _.
-    sees-byte tt λ _.
+    sees-number 5 tt refl (before-time s 12 refl refl) λ _.
+    sees-number 3 tt refl (before-time s 17 refl refl) λ _.
+    sees-number 3 tt (none-in-range (leastRun (getD s 5 0)) 250 (omega arith)) (before-time s 20 refl refl) λ _.
+    sees-number 3 tt refl (before-time s 23 refl refl) λ _.
+    sees-number 3 tt refl (before-time s 26 refl refl) λ _.
+    sees-letter tt (before-time s 29 refl refl) λ _.
     sees-within (λ t. t .times)
     (λ times. record { bib = orNone (numberAt s 12 5); group = orNone (numberAt s 17 3); run = orNone (numberAt s 20 3); physical = orNone (numberAt s 23 3); channel = orNone (numberAt s 26 3); information = getD s 29 0; times = times })
     (sees-timed (kindAt s) s) refl
 
-sees-reply : (s : List ℕ) → isAddress (getD s 2 0) ≡ true → Sees replyFields 2 s (wrongAt s) (replyAt s)
-unfolding replyFields headWrong upTo
+sees-reply : (s : List ℕ) → isAddress (getD s 2 0) ≡ true → Sees replyFields 2 s (replyByte (kindAt s) s) (wrongAt s) (replyAt s)
+unfolding replyFields headWrong upTo lookedIn inClass digitFrom
 sees-reply s =
-    sees-address
-    (sees-byte tt λ _.
-    sees-byte tt λ _.
-    sees-byte tt λ _.
-    sees-byte tt λ _.
-    sees-number 5 tt refl λ _.
+    sees-address (before-time s 2 refl refl)
+    (sees-letter tt (before-time s 3 refl refl) λ _.
+    sees-letter tt (before-time s 4 refl refl) λ _.
+    sees-letter tt (before-time s 5 refl refl) λ _.
+    sees-letter tt (before-time s 6 refl refl) λ _.
+    sees-number 5 tt refl (before-time s 7 refl refl) λ _.
     sees-within tailOf (withTail (getD s 2 0) (getD s 3 0) (getD s 4 0) (getD s 5 0) (getD s 6 0) (orNone (numberAt s 7 5))) (sees-tail s) refl)
 
 -- ---- a reply's text, as it is stored, is its frame
@@ -243,30 +260,34 @@ refused-as s h f a is e q =
     let t : refuses (readRefused f) ≡ read reply s = K.read-head reply s h f is e in
     rw q (record { told = t; beside = rw (← t) })
 
-judged-told : (r : StaticReply) (w : ℕ) → toldBy (judgedAs r w .verdict) (judgedAs r w .reply) ≡ tried (eqb w 0) (FIELD w) (gives r)
-unfolding judgedAs
-judged-told r w = go (eqb w 0)
-  where
-    go : (t : Bool) → toldBy (cond t (record { verdict = Read; reply = r }) (refusedBy (Field (record { field = w }))) .verdict) (cond t (record { verdict = Read; reply = r }) (refusedBy (Field (record { field = w }))) .reply) ≡ tried t (FIELD w) (gives r)
-    go true = refl
-    go false = refl
+module _ (r : StaticReply) (w b : ℕ) where
+  abbrev judgedBy : Bool → ReplyRead
+  judgedBy t = cond t (record { verdict = Read; reply = r }) (refusedBy (Field (record { field = w; spoiled = b })))
 
-judged-beside : (r : StaticReply) (w : ℕ) → judgedAs r w .reply ≡ orZero (tried (eqb w 0) (FIELD w) (gives r))
-unfolding judgedAs
-judged-beside r w = go (eqb w 0)
-  where
-    go : (t : Bool) → cond t (record { verdict = Read; reply = r }) (refusedBy (Field (record { field = w }))) .reply ≡ orZero (tried t (FIELD w) (gives r))
-    go true = refl
-    go false = refl
+  judged-told : toldBy (judgedAs r w b .verdict) (judgedAs r w b .reply) ≡ tried (eqb w 0) (FIELD w b) (gives r)
+  unfolding judgedAs
+  judged-told = go (eqb w 0)
+    where
+      go : (t : Bool) → toldBy (judgedBy t .verdict) (judgedBy t .reply) ≡ tried t (FIELD w b) (gives r)
+      go true = refl
+      go false = refl
 
-fields-told : (s : List ℕ) (h : ReadVerdict) → h ≡ Read → verdictTold h ≡ headTold 18 51 s → tried (eqb (wrongAt s) 0) (FIELD (wrongAt s)) (gives (replyAt s)) ≡ read reply s
-fields-told s h is e = K.read-fields reply s (wrongAt s) (replyAt s) (sees-reply s) h _ is e refl
+  judged-beside : judgedAs r w b .reply ≡ orZero (tried (eqb w 0) (FIELD w b) (gives r))
+  unfolding judgedAs
+  judged-beside = go (eqb w 0)
+    where
+      go : (t : Bool) → judgedBy t .reply ≡ orZero (tried t (FIELD w b) (gives r))
+      go true = refl
+      go false = refl
+
+fields-told : (s : List ℕ) (h : ReadVerdict) → h ≡ Read → verdictTold h ≡ headTold 18 51 s → tried (eqb (wrongAt s) 0) (FIELD (wrongAt s) (spoiledByte s)) (gives (replyAt s)) ≡ read reply s
+fields-told s h is e = K.read-fields reply s (replyByte (kindAt s) s) (wrongAt s) (replyAt s) (sees-reply s) h _ is e refl
 
 pub read-as : (s : List ℕ) (h : ReadVerdict) (a : ReplyRead) → h ≡ Read → verdictTold h ≡ headTold 18 51 s → a ≡ fieldsRead s → ReadAs s a
 unfolding fieldsRead
 read-as s h a is e q =
     let t = fields-told s h is e in
-    rw q (record { told = judged-told (replyAt s) (wrongAt s) ∙ t; beside = judged-beside (replyAt s) (wrongAt s) ∙ ap orZero t })
+    rw q (record { told = judged-told (replyAt s) (wrongAt s) (spoiledByte s) ∙ t; beside = judged-beside (replyAt s) (wrongAt s) (spoiledByte s) ∙ ap orZero t })
 
 -- ---- the check: like reading, with the label in place of the record
 
@@ -279,13 +300,13 @@ module _ (s : List ℕ) (w : ℕ) (is : w ≡ wrongAt s) where
   unfolding fieldsChecked
   checked-good h e z = rw (e, ← is, eq-eqb w 0 z)
 
-  pub checked-bad : (w ≡ 0 → ⊥) → refuses (FIELD w) ≡ fieldsChecked s
+  pub checked-bad : (w ≡ 0 → ⊥) → (b : ℕ) → b ≡ replyByte (kindAt s) s w → refuses (FIELD w b) ≡ fieldsChecked s
   unfolding fieldsChecked
-  checked-bad z = rw (← is, ne-eqb w 0 z)
+  checked-bad z b e = rw (← is, ne-eqb w 0 z, e)
 
 pub check-as : (s : List ℕ) (h : ReadVerdict) → h ≡ Read → verdictTold h ≡ headTold 18 51 s → fieldsChecked s ≡ labelled (read reply s)
 unfolding fieldsChecked
-check-as s h is e = labelled-tried (eqb (wrongAt s) 0) (FIELD (wrongAt s)) (replyAt s) ∙ ap labelled (fields-told s h is e)
+check-as s h is e = labelled-tried (eqb (wrongAt s) 0) (FIELD (wrongAt s) (spoiledByte s)) (replyAt s) ∙ ap labelled (fields-told s h is e)
 
 pub check-refused : (s : List ℕ) (h : ReadVerdict) (f : ReadRefusal) → h ≡ Refused f → verdictTold h ≡ headTold 18 51 s → refuses (readRefused f) ≡ labelled (read reply s)
 check-refused s h f is e = ap labelled (K.read-head reply s h f is e)

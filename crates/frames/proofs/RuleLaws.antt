@@ -1,6 +1,6 @@
 -- What follows for a value from a rule that takes it. Assumes nothing.
 use Prim.Native.Nat.{ℕ, _≤_, _<_}
-use mathlib.Core.Bool.{Bool, true, false, _||_, and-eq-true-iff}
+use mathlib.Core.Bool.{Bool, true, false, true≢false, _||_, and-eq-true-iff}
 use mathlib.Core.Path.{_≡_, refl}
 use native.Mathlib.Omega.{arith}
 use lib.Dec.{T, leb, eqb, leb→le}
@@ -15,6 +15,10 @@ up-to hi v e = leb-true v hi e
 pub or-cases : (a b : Bool) (P : Type 0) → (a ≡ true → P) → (b ≡ true → P) → (a || b) ≡ true → P
 or-cases true b P f g e = f refl
 or-cases false b P f g e = g e
+
+pub or-false : (a b : Bool) → (a || b) ≡ false → (a ≡ false) × (b ≡ false)
+or-false true b e = absurd (true≢false e)
+or-false false b e = (refl, e)
 
 -- a rule that takes one more number
 pub or-one : {a : Bool} (v n hi : ℕ) → T (leb n hi) → (a ≡ true → v ≤ hi) → (a || eqb v n) ≡ true → v ≤ hi

@@ -22,14 +22,17 @@ use Rattle.frames.specs.declared.timing.TimingKind.the-variants.{Clock a
 use Rattle.frames.specs.declared.timing.Timing.{Timing}
 use Rattle.frames.specs.declared.timing.Timing.the-variants.{Clock, Net, Raw}
 use Rattle.frames.specs.Shape.{bytesOf, allFrom}
+use Rattle.frames.specs.Shown.{digitFrom}
 use Rattle.frames.specs.Layout.{recordWrong, write}
-use Rattle.frames.specs.Timing.{Times, isOf, areZero, date, isDate, ticksIn, dateIn, isSign, signOf, netOf, netIn, daysIn, signedDays, areDays, timed}
+use Rattle.frames.specs.Timing.{Times, isOf, areZero, date, isDate, realDate, ticksIn, dateIn, isSign, signOf, netOf, netIn, daysIn, signedDays, areDays, netDays, timed}
 use Rattle.frames.specs.inside.Held.{orNone}
 use Rattle.frames.specs.inside.Timing.{clockWrong, netWrong, netValueWrong, timingWrong, seenClock, netTiming, seenNet, seenRaw, seenOf, clockText, netText, rawText, timingText}
-use Rattle.frames.proofs.RuleLaws.{or-cases}
+use Rattle.frames.specs.inside.Spoiled.{inClass, lookedIn, timingByte, replyByte}
+use Rattle.frames.proofs.RuleLaws.{or-cases, or-false}
 use Rattle.frames.proofs.ShapeLaws.{Inverse, digits-inverse, both-inverse, all-bytes}
-use Rattle.frames.proofs.LayoutLaws.{unless-none, Sound, field-sound, suits-sound, end-sound, byte-inverse, time-sound, run-sound, Sees, sees-suits, sees-end}
-use Rattle.frames.proofs.SeesLaws.{sees-time, sees-date, sees-days, sees-run}
+use Rattle.frames.proofs.LayoutLaws.{unless-none, Sound, field-sound, suits-sound, end-sound, byte-inverse, time-sound, raw-sound, Sees, sees-suits, sees-end}
+use Rattle.frames.proofs.ShownLaws.{date-shows, net-shows}
+use Rattle.frames.proofs.SeesLaws.{sees-time, sees-date, sees-days, sees-raw}
 
 -- ---- a turn of a loop over bytes
 
@@ -153,8 +156,8 @@ unfolding timed allFrom
 timed-sound clockKind =
     suits-sound {at = 30} (omega arith)
     (time-sound tt λ ticks _.
-    field-sound {at = 40} {n = 10} {shape = date} (omega arith) (omega arith) date-inverse (λ t whole. (tt, (tt, tt))) λ day _.
-    run-sound 2 tt (λ t whole. whole .spare) λ spare _.
+    field-sound {at = 40} {n = 10} {f = realDate} (omega arith) (omega arith) date-inverse date-shows (λ t whole. (tt, (tt, tt))) λ day _.
+    raw-sound 2 tt (λ t whole. whole .spare) λ spare _.
     suits-sound {at = 50} (omega arith)
     (end-sound (((((tt, refl), refl), refl), refl), refl)
     (λ f. record { time = refl; date = refl; spare = f .1 })
@@ -163,9 +166,9 @@ timed-sound clockKind =
     same-times (clock-of (t .timing) ticks day (h .0 .0 .0 .0 .1) (h .0 .0 .0 .1) (h .0 .0 .1)) (u .0) (u .1) (sym (h .0 .1)))))
 timed-sound netKind =
     suits-sound {at = 30} (omega arith)
-    (time-sound tt λ ticks _.
-    field-sound {at = 40} {n = 10} {shape = signedDays} (omega arith) (omega arith) (days-inverse ticks) (λ t whole. (tt, tt)) λ days good.
-    run-sound 2 tt (λ t whole. whole .spare) λ spare _.
+    (time-sound tt λ ticks time.
+    field-sound {at = 40} {n = 10} {f = netDays ticks} (omega arith) (omega arith) (days-inverse ticks) (net-shows ticks time) (λ t whole. (tt, tt)) λ days good.
+    raw-sound 2 tt (λ t whole. whole .spare) λ spare _.
     suits-sound {at = 50} (omega arith)
     (end-sound (((((tt, refl), ap (λ (p : _). p .time) (net-parts-are ticks days good)), net-days-are ticks days good), refl), refl)
     (λ f. record { time = refl; date = refl; spare = f .1 })
@@ -174,9 +177,9 @@ timed-sound netKind =
     same-times (net-of (t .timing) ticks days (h .0 .0 .0 .0 .1) (h .0 .0 .0 .1) (h .0 .0 .1)) (u .0) (u .1) (sym (h .0 .1)))))
 timed-sound rawKind =
     suits-sound {at = 30} (omega arith)
-    (run-sound 10 tt (λ t whole. whole .time) λ _ _.
-    run-sound 8 tt (λ t whole. whole .date) λ _ _.
-    run-sound 2 tt (λ t whole. whole .spare) λ _ _.
+    (raw-sound 10 tt (λ t whole. whole .time) λ _ _.
+    raw-sound 8 tt (λ t whole. whole .date) λ _ _.
+    raw-sound 2 tt (λ t whole. whole .spare) λ _ _.
     end-sound ((((tt, refl), refl), refl), refl)
     (λ f. record { time = f .0 .0 .1; date = f .0 .1; spare = f .1 })
     (λ t whole h. same-times (raw-of (t .timing) (h .0 .0 .0 .1)) (sym (h .0 .0 .1)) (sym (h .0 .1)) (sym (h .1))))
@@ -220,16 +223,26 @@ no-days ticks sign = and-false (isSign sign)
     and-false true = refl
     and-false false = refl
 
-pub sees-timed : (kind : TimingKind) (s : List ℕ) → Sees (timed kind) 30 s (seenOf kind s .wrong) (timesSeen kind s)
-unfolding timed seenClock seenNet seenRaw clockWrong netWrong
+pub sees-timed : (kind : TimingKind) (s : List ℕ) → Sees (timed kind) 30 s (replyByte kind s) (seenOf kind s .wrong) (timesSeen kind s)
+unfolding timed seenClock seenNet seenRaw clockWrong netWrong lookedIn inClass digitFrom
 sees-timed clockKind s =
-    sees-suits (sees-time tt λ _. sees-date tt λ _. sees-run 2 tt λ _. sees-suits (sees-end refl))
+    sees-suits (sees-time tt refl λ _. sees-date tt refl λ _. sees-raw 2 tt refl λ _. sees-suits (sees-end refl))
 sees-timed netKind s =
     let ticks = orNone (clock .got s 30) in
     let days = orNone (numberAt s 41 7) in
-    sees-suits (sees-time tt λ _. sees-days tt (no-days ticks (getD s 40 0)) λ good. sees-run 2 tt λ _.
+    sees-suits (sees-time tt refl λ _. sees-days ticks tt (no-days ticks (getD s 40 0)) refl λ good. sees-raw 2 tt refl λ _.
     sees-suits (sees-end (same-times (net-seen ticks (getD s 40 0) days good) refl refl refl)))
-sees-timed rawKind s = sees-suits (sees-run 10 tt λ _. sees-run 8 tt λ _. sees-run 2 tt λ _. sees-end refl)
+sees-timed rawKind s = sees-suits (sees-raw 10 tt refl λ _. sees-raw 8 tt refl λ _. sees-raw 2 tt refl λ _. sees-end refl)
+
+-- a wrong field that is not time or date has its spoiled byte elsewhere
+pub timing-passed : (kind : TimingKind) (s : List ℕ) (wrong known : ℕ) → (eqb wrong 40 || eqb wrong 30) ≡ false → timingByte kind s wrong known ≡ known
+unfolding lookedIn
+timing-passed kind s wrong known e = let q = or-false (eqb wrong 40) (eqb wrong 30) e in by-kind kind (q .0) (q .1)
+  where
+    by-kind : (kind : TimingKind) → eqb wrong 40 ≡ false → eqb wrong 30 ≡ false → timingByte kind s wrong known ≡ known
+    by-kind clockKind a b = rw (a, b)
+    by-kind netKind a b = rw (a, b)
+    by-kind rawKind a b = rw (a, b)
 
 -- ---- time and date, as they are stored, are those of the frame
 

@@ -7,7 +7,7 @@ use lib.IntN.{pos, negsuc}
 use lib.ListN.{set}
 use Rattle.digits.specs.declared.Number.the-variants.{Is}
 use Rattle.digits.specs.Text.{codes}
-use Rattle.digits.specs.Refusals.{plain, placed}
+use Rattle.digits.specs.Refusals.{plain, placed, spoiledAt}
 use Rattle.digits.specs.Told.{Told, gives, refuses}
 use Rattle.times.specs.Clock.{clock}
 use Rattle.times.specs.Running.{runningTime}
@@ -24,19 +24,19 @@ use Rattle.frames.specs.Dynamic.{dynamic}
 abbrev pub Good : {R : Type 0} → Kind R → List ℕ → Type 0
 Good {R} k s = (r : R) × (read k s ≡ gives r)
 
--- a frame is refused with FIELD, which is 5, at this offset
+-- a frame is refused with FIELD, which is 5, at this offset, and the spoiled byte is there too
 abbrev pub FieldAt : {R : Type 0} → Kind R → List ℕ → ℕ → Type 0
-FieldAt k s at = read k s ≡ refuses (placed 5 at)
+FieldAt k s at = read k s ≡ refuses (spoiledAt 5 at at)
 
 -- the answers to n frames, each of which is s with one byte made 7Fh, which no field takes: the byte at `at`, then the next, and so on
 abbrev pub damaged : {R : Type 0} → Kind R → List ℕ → ℕ → ℕ → List (Told R)
 damaged k s at zero = []
 damaged k s at (suc n) = read k (set s at 127) ∷ damaged k s (suc at) n
 
--- the answers FIELD with these offsets
-abbrev pub fieldsAt : {R : Type 0} → List ℕ → List (Told R)
-fieldsAt [] = []
-fieldsAt (at ∷ more) = refuses (placed 5 at) ∷ fieldsAt more
+-- the answers FIELD with these offsets, the spoiled byte at `spoiled`, then at the next place, and so on
+abbrev pub fieldsAt : {R : Type 0} → ℕ → List ℕ → List (Told R)
+fieldsAt spoiled [] = []
+fieldsAt spoiled (at ∷ more) = refuses (spoiledAt 5 at spoiled) ∷ fieldsAt (suc spoiled) more
 
 -- a request with this requester, letter, channel and run
 abbrev pub asking : String → String → String → String → List ℕ
@@ -121,5 +121,5 @@ pub record Worked : Type 0 where
   pub end-before-address : read request (17 ∷ (codes "S A012000411255001000S" ++ (10 ∷ []))) ≡ refuses (plain 3)
   pub end-before-byte-2 : read request (17 ∷ (codes "R-A012000411255001000S" ++ (10 ∷ []))) ≡ refuses (plain 3)
   pub address-before-field : read request (17 ∷ (codes "S [012000411255001000S" ++ (13 ∷ []))) ≡ refuses (plain 4)
-  pub first-field : read request (17 ∷ (codes "R [012000411255251000x" ++ (13 ∷ []))) ≡ refuses (placed 5 3)
+  pub first-field : read request (17 ∷ (codes "R [012000411255251000x" ++ (13 ∷ []))) ≡ refuses (spoiledAt 5 3 3)
   pub record-before-room : writeTried (wrongIn request (asked 251)) 24 0 ≡ refuses (placed 6 16)

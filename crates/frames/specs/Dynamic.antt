@@ -6,13 +6,12 @@ use mathlib.Core.Path.{_≡_}
 use lib.Dec.{leb, eqb}
 use Rattle.digits.specs.Text.{codes, oneOf}
 use Rattle.digits.specs.Told.{Told, gives, refuses}
-use Rattle.times.specs.Clock.{isTime}
 use Rattle.frames.specs.declared.dynamic.DynamicRequest.{DynamicRequest}
 use Rattle.frames.specs.declared.dynamic.DynamicRead.{DynamicRead}
 use Rattle.frames.specs.declared.dynamic.DynamicRead.the-variants.{Request, Refused}
 use Rattle.frames.specs.Refusals.{readRefused}
-use Rattle.frames.specs.Rules.{between, upTo, isAddress, isRequester, isOutput}
-use Rattle.frames.specs.Shape.{byte, number, time}
+use Rattle.frames.specs.Rules.{between, isAddress, isRequester, isOutput}
+use Rattle.frames.specs.Field.{letter, numberBy, numberTo, timeOfDay}
 use Rattle.frames.specs.Layout.{Layout, field, end}
 use Rattle.frames.specs.Kind.{Kind, read}
 
@@ -28,22 +27,22 @@ leastPeriod order = cond (oneOf (codes "AB") order) 1 0
 
 unfoldable pub dynamicFields : Layout DynamicRequest
 dynamicFields =
-    field 2 byte isAddress (λ r. r .address) λ address.
-    field 3 byte isRequester (λ r. r .requester) λ requester.
-    field 4 byte isOrder (λ r. r .order) λ order.
-    field 5 (number 5) (upTo 60000) (λ r. r .bib) λ bib.
+    field 2 (letter isAddress) (λ r. r .address) λ address.
+    field 3 (letter isRequester) (λ r. r .requester) λ requester.
+    field 4 (letter isOrder) (λ r. r .order) λ order.
+    field 5 (numberTo 5 60000) (λ r. r .bib) λ bib.
     -- logical channel
-    field 10 (number 3) isDynamicChannel (λ r. r .channel) λ channel.
-    field 13 (number 3) (upTo 250) (λ r. r .run) λ run.
-    field 16 (number 5) (between 1 60000) (λ r. r .«stop_bib») λ stopBib.
-    field 21 (number 3) isDynamicChannel (λ r. r .«stop_channel») λ stopChannel.
-    field 24 (number 3) (upTo 250) (λ r. r .«stop_run») λ stopRun.
+    field 10 (numberBy 3 255 isDynamicChannel) (λ r. r .channel) λ channel.
+    field 13 (numberTo 3 250) (λ r. r .run) λ run.
+    field 16 (numberBy 5 60000 (between 1 60000)) (λ r. r .«stop_bib») λ stopBib.
+    field 21 (numberBy 3 255 isDynamicChannel) (λ r. r .«stop_channel») λ stopChannel.
+    field 24 (numberTo 3 250) (λ r. r .«stop_run») λ stopRun.
     -- Taux: its sign (0 plus, 1 minus), its time and its days
-    field 27 (number 1) (upTo 1) (λ r. r .sign) λ sign.
-    field 28 time isTime (λ r. r .time) λ ticks.
-    field 38 (number 1) (upTo 9) (λ r. r .days) λ days.
-    field 39 (number 5) (between (leastPeriod order) 99999) (λ r. r .period) λ period.
-    field 44 byte isOutput (λ r. r .output) λ output.
+    field 27 (numberTo 1 1) (λ r. r .sign) λ sign.
+    field 28 timeOfDay (λ r. r .time) λ ticks.
+    field 38 (numberTo 1 9) (λ r. r .days) λ days.
+    field 39 (numberBy 5 99999 (between (leastPeriod order) 99999)) (λ r. r .period) λ period.
+    field 44 (letter isOutput) (λ r. r .output) λ output.
     end (record { address = address; requester = requester; order = order; bib = bib; channel = channel; run = run; «stop_bib» = stopBib; «stop_channel» = stopChannel; «stop_run» = stopRun; sign = sign; time = ticks; days = days; period = period; output = output })
 
 abbrev pub dynamic : Kind DynamicRequest

@@ -32,7 +32,7 @@ pub record DynamicWorked : Type 0 where
   pub minus-zero : read dynamic (but 27 "100000000000") ≡ gives (orders 57 67 98 34567 178 209 45678 193 214 1 0 0 8642 66)
   pub minus-zero-written : frameOf dynamic (orders 57 67 98 34567 178 209 45678 193 214 1 0 0 8642 66) ≡ but 27 "100000000000"
   -- each byte of the fields damaged in turn: requester, order, bib, channel, run; stop bib, channel and run; sign, time, days; period, output
-  pub offsets : damaged dynamic good 3 42 ≡ fieldsAt (3 ∷ 4 ∷ 5 ∷ 5 ∷ 5 ∷ 5 ∷ 5 ∷ 10 ∷ 10 ∷ 10 ∷ 13 ∷ 13 ∷ 13
+  pub offsets : damaged dynamic good 3 42 ≡ fieldsAt 3 (3 ∷ 4 ∷ 5 ∷ 5 ∷ 5 ∷ 5 ∷ 5 ∷ 10 ∷ 10 ∷ 10 ∷ 13 ∷ 13 ∷ 13
       ∷ 16 ∷ 16 ∷ 16 ∷ 16 ∷ 16 ∷ 21 ∷ 21 ∷ 21 ∷ 24 ∷ 24 ∷ 24 ∷ 27 ∷ 28 ∷ 28 ∷ 28 ∷ 28 ∷ 28 ∷ 28 ∷ 28 ∷ 28 ∷ 28 ∷ 28 ∷ 38 ∷ 39 ∷ 39 ∷ 39 ∷ 39 ∷ 39 ∷ 44 ∷ [])
   -- both sides of the rules
   pub requester-a : Good dynamic (but 3 "a")

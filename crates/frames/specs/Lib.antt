@@ -2,6 +2,8 @@ pub mod Refusals
 pub mod Rules
 pub mod Status
 pub mod Shape
+pub mod Shown
+pub mod Field
 pub mod Layout
 pub mod Kind
 pub mod Faithful
@@ -13,10 +15,12 @@ pub mod Demands
 pub mod Unique
 pub mod Keeps
 pub mod Places
+pub mod Spoiled
 pub mod Cases
 pub mod RuleCases
 pub mod RequestCases
 pub mod ReplyCases
 pub mod DynamicCases
 pub mod AddressCases
+pub mod SpoiledCases
 pub mod inside

@@ -16,7 +16,7 @@ readRefused Kind = KIND
 readRefused Length = LENGTH
 readRefused End = END
 readRefused Address = ADDRESS
-readRefused (Field p) = FIELD (p .field)
+readRefused (Field p) = FIELD (p .field) (p .spoiled)
 
 abbrev pub writeRefused : WriteRefusal → Refusal
 writeRefused (Record at) = RECORD at

@@ -18,9 +18,9 @@ use Rattle.frames.specs.declared.reply.ReplyLabel.{ReplyLabel}
 use Rattle.frames.specs.declared.reply.ReplyCheck.{ReplyCheck}
 use Rattle.frames.specs.declared.reply.ReplyCheck.the-variants.{Good, Refused as Rejected}
 use Rattle.frames.specs.Refusals.{readRefused}
-use Rattle.frames.specs.Rules.{between, upTo, isAddress, isRaw, isRequester}
+use Rattle.frames.specs.Rules.{between, isAddress, isRaw, isRequester}
 use Rattle.frames.specs.Status.{isStatus, isZ}
-use Rattle.frames.specs.Shape.{Shape, byte, number}
+use Rattle.frames.specs.Field.{Field, letter, numberBy, numberTo}
 use Rattle.frames.specs.Layout.{Layout, field, within}
 use Rattle.frames.specs.Kind.{Kind, read}
 use Rattle.frames.specs.Timing.{Times, timingKind, timed}
@@ -47,16 +47,16 @@ pub record Tail : Type 0 where
   pub information : ℕ
   pub times : Times
 
--- the layout from the bib on, by the least run, the shape and rule of the physical channel, the rule for the letter, and the kind of time and date for each letter
-unfoldable pub fromBib : ℕ → Shape ℕ → (ℕ → Bool) → (ℕ → Bool) → (ℕ → TimingKind) → Layout Tail
-fromBib least shape isPhysical letters kind =
-    field 12 (number 5) (upTo 59999) (λ t. t .bib) λ bib.
-    field 17 (number 3) (upTo 199) (λ t. t .group) λ group.
-    field 20 (number 3) (between least 250) (λ t. t .run) λ run.
-    field 23 shape isPhysical (λ t. t .physical) λ physical.
+-- the layout from the bib on, by the least run, the field of the physical channel, the rule for the letter, and the kind of time and date for each letter
+unfoldable pub fromBib : ℕ → Field ℕ → (ℕ → Bool) → (ℕ → TimingKind) → Layout Tail
+fromBib least physicalChannel letters kind =
+    field 12 (numberTo 5 59999) (λ t. t .bib) λ bib.
+    field 17 (numberTo 3 199) (λ t. t .group) λ group.
+    field 20 (numberBy 3 250 (between least 250)) (λ t. t .run) λ run.
+    field 23 physicalChannel (λ t. t .physical) λ physical.
     -- logical channel
-    field 26 (number 3) isReplyChannel (λ t. t .channel) λ channel.
-    field 29 byte letters (λ t. t .information) λ information.
+    field 26 (numberBy 3 255 isReplyChannel) (λ t. t .channel) λ channel.
+    field 29 (letter letters) (λ t. t .information) λ information.
     within (λ t. t .times)
     (λ times. record { bib = bib; group = group; run = run; physical = physical; channel = channel; information = information; times = times })
     (timed (kind information))
@@ -80,14 +80,14 @@ withTail address program mode status requester n t =
 
 unfoldable pub replyFields : Layout StaticReply
 replyFields =
-    field 2 byte isAddress (λ r. r .head .address) λ address.
-    field 3 byte isRaw (λ r. r .head .program) λ program.
-    field 4 byte isRaw (λ r. r .head .mode) λ mode.
-    field 5 byte isStatus (λ r. r .head .status) λ status.
-    field 6 byte isRequester (λ r. r .head .requester) λ requester.
-    field 7 (number 5) (upTo 99999) (λ r. r .head .number) λ n.
+    field 2 (letter isAddress) (λ r. r .head .address) λ address.
+    field 3 (letter isRaw) (λ r. r .head .program) λ program.
+    field 4 (letter isRaw) (λ r. r .head .mode) λ mode.
+    field 5 (letter isStatus) (λ r. r .head .status) λ status.
+    field 6 (letter isRequester) (λ r. r .head .requester) λ requester.
+    field 7 (numberTo 5 99999) (λ r. r .head .number) λ n.
     within tailOf (withTail address program mode status requester n)
-    (fromBib (leastRun status) (number 3) (upTo 999) isLetter (timingKind status))
+    (fromBib (leastRun status) (numberTo 3 999) isLetter (timingKind status))
 
 abbrev pub reply : Kind StaticReply
 reply = record { lead = 18; size = 51; fields = replyFields }

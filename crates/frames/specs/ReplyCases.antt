@@ -70,9 +70,9 @@ pub record ReplyWorked : Type 0 where
   -- with a refusal comes a record of zeros
   pub zeros : orZero (read reply []) ≡ tells 0 0 0 0 0 0 0 0 0 0 0 0 Raw (0 ∷ 0 ∷ 0 ∷ 0 ∷ 0 ∷ 0 ∷ 0 ∷ 0 ∷ 0 ∷ 0 ∷ []) (0 ∷ 0 ∷ 0 ∷ 0 ∷ 0 ∷ 0 ∷ 0 ∷ 0 ∷ []) (0 ∷ 0 ∷ [])
   -- each byte of the fields damaged in turn
-  pub net-offsets : damaged reply good 3 47 ≡ fieldsAt places
-  pub clock-offsets : damaged reply goodClock 3 47 ≡ fieldsAt places
-  pub raw-offsets : damaged reply goodRaw 3 47 ≡ fieldsAt places
+  pub net-offsets : damaged reply good 3 47 ≡ fieldsAt 3 places
+  pub clock-offsets : damaged reply goodClock 3 47 ≡ fieldsAt 3 places
+  pub raw-offsets : damaged reply goodRaw 3 47 ≡ fieldsAt 3 places
   -- both sides of the rules
   pub status-R : Good reply (but 5 "R")
   pub status-A : FieldAt reply (but 5 "A") 5

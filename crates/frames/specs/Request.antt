@@ -10,8 +10,8 @@ use Rattle.frames.specs.declared.request.StaticRequest.{StaticRequest}
 use Rattle.frames.specs.declared.request.RequestRead.{RequestRead}
 use Rattle.frames.specs.declared.request.RequestRead.the-variants.{Request, Refused}
 use Rattle.frames.specs.Refusals.{readRefused}
-use Rattle.frames.specs.Rules.{upTo, isAddress, isRequester, isOutput}
-use Rattle.frames.specs.Shape.{byte, number}
+use Rattle.frames.specs.Rules.{isAddress, isRequester, isOutput}
+use Rattle.frames.specs.Field.{letter, numberBy, numberTo}
 use Rattle.frames.specs.Layout.{Layout, field, end}
 use Rattle.frames.specs.Kind.{Kind, read}
 
@@ -24,16 +24,16 @@ isRequestChannel v = leb v 240 || eqb v 248 || eqb v 249 || eqb v 251 || eqb v 2
 
 unfoldable pub requestFields : Layout StaticRequest
 requestFields =
-    field 2 byte isAddress (λ r. r .address) λ address.
-    field 3 byte isRequester (λ r. r .requester) λ requester.
-    field 4 (number 3) (upTo 999) (λ r. r .number) λ n.
-    field 7 (number 5) (upTo 59999) (λ r. r .bib) λ bib.
-    field 12 byte isInformation (λ r. r .information) λ information.
+    field 2 (letter isAddress) (λ r. r .address) λ address.
+    field 3 (letter isRequester) (λ r. r .requester) λ requester.
+    field 4 (numberTo 3 999) (λ r. r .number) λ n.
+    field 7 (numberTo 5 59999) (λ r. r .bib) λ bib.
+    field 12 (letter isInformation) (λ r. r .information) λ information.
     -- logical channel
-    field 13 (number 3) isRequestChannel (λ r. r .channel) λ channel.
-    field 16 (number 3) (upTo 250) (λ r. r .run) λ run.
-    field 19 (number 3) (upTo 199) (λ r. r .group) λ group.
-    field 22 byte isOutput (λ r. r .output) λ output.
+    field 13 (numberBy 3 255 isRequestChannel) (λ r. r .channel) λ channel.
+    field 16 (numberTo 3 250) (λ r. r .run) λ run.
+    field 19 (numberTo 3 199) (λ r. r .group) λ group.
+    field 22 (letter isOutput) (λ r. r .output) λ output.
     end (record { address = address; requester = requester; number = n; bib = bib; information = information; channel = channel; run = run; group = group; output = output })
 
 abbrev pub request : Kind StaticRequest

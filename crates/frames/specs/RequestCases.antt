@@ -29,7 +29,7 @@ pub record RequestWorked : Type 0 where
   pub spelled : read request good ≡ gives (asks 55 66 123 45678 81 231 156 89 65)
   pub written : frameOf request (asks 55 66 123 45678 81 231 156 89 65) ≡ good
   -- each byte of the fields damaged in turn: requester, number, bib, information, channel, run, group, output
-  pub offsets : damaged request good 3 20 ≡ fieldsAt (3 ∷ 4 ∷ 4 ∷ 4 ∷ 7 ∷ 7 ∷ 7 ∷ 7 ∷ 7 ∷ 12 ∷ 13 ∷ 13 ∷ 13 ∷ 16 ∷ 16 ∷ 16 ∷ 19 ∷ 19 ∷ 19 ∷ 22 ∷ [])
+  pub offsets : damaged request good 3 20 ≡ fieldsAt 3 (3 ∷ 4 ∷ 4 ∷ 4 ∷ 7 ∷ 7 ∷ 7 ∷ 7 ∷ 7 ∷ 12 ∷ 13 ∷ 13 ∷ 13 ∷ 16 ∷ 16 ∷ 16 ∷ 19 ∷ 19 ∷ 19 ∷ 22 ∷ [])
   -- requesters, and the characters just outside their three ranges
   pub requester-0 : Good request (but 3 "0")
   pub requester-9 : Good request (but 3 "9")

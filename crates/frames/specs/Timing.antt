@@ -1,12 +1,11 @@
 -- Time and date of a reply, by their kind: clock, net or raw.
 use Prim.Native.Nat.{ℕ}
-use mathlib.Core.List.{List}
+use mathlib.Core.List.{List, _∷_}
 use mathlib.Core.Bool.{Bool, true, false, cond, _&&_}
 use lib.ListN.{replicate}
 use lib.Dec.{eqb}
 use Rattle.digits.specs.Text.{codes, oneOf}
 use Rattle.times.specs.declared.net.NetParts.{NetParts}
-use Rattle.times.specs.Clock.{isTime}
 use Rattle.times.specs.Day.{realDay}
 use Rattle.times.specs.Net.{isNet, netSum, netParts}
 use Rattle.frames.specs.declared.timing.TimingKind.{TimingKind}
@@ -15,7 +14,9 @@ use Rattle.frames.specs.declared.timing.Timing.{Timing}
 use Rattle.frames.specs.declared.timing.Timing.the-variants.{Clock, Net, Raw}
 use Rattle.frames.specs.Rules.{isRaw}
 use Rattle.frames.specs.Status.{isZ}
-use Rattle.frames.specs.Shape.{Shape, byte, number, time, both, run, allFrom}
+use Rattle.frames.specs.Shape.{Shape, byte, number, both, run, allFrom}
+use Rattle.frames.specs.Shown.{digitFrom, digitTo, anyDigits, anyRaw}
+use Rattle.frames.specs.Field.{Field, timeOfDay}
 use Rattle.frames.specs.Layout.{Layout, field, suits, end}
 
 -- with status Z always raw; otherwise five letters are clock, three are net and the other 25 are raw
@@ -55,6 +56,9 @@ areRaw n l = allFrom isRaw l 0 n
 abbrev pub areZero : ℕ → List ℕ → Bool
 areZero n l = allFrom (λ b. eqb b 0) l 0 n
 
+abbrev pub rawBytes : ℕ → Field (List ℕ)
+rawBytes n = record { shape = run n; rule = areRaw n; places = anyRaw n }
+
 -- the arrays of raw time and date are all zero, as they must be when the kind does not use them
 abbrev pub rawUnused : Times → Bool
 rawUnused t = areZero 10 (t .rawTime) && areZero 8 (t .rawDate)
@@ -78,6 +82,10 @@ date = both (number 2) (both (number 2) (number 4))
 
 abbrev pub isDate : ℕ × (ℕ × ℕ) → Bool
 isDate d = realDay (d .0) (d .1 .0) (d .1 .1)
+
+-- the first digit of a day is 0 to 3, that of a month 0 or 1; a year is 2000 to 2099
+abbrev pub realDate : Field (ℕ × (ℕ × ℕ))
+realDate = record { shape = date; rule = isDate; places = digitTo 3 ∷ digitTo 9 ∷ digitTo 1 ∷ digitTo 9 ∷ digitFrom 2 2 ∷ digitTo 0 ∷ anyDigits 2 }
 
 -- ---- net: a time of day, a sign and seven digits of days
 
@@ -105,26 +113,29 @@ signedDays = both byte (number 7)
 abbrev pub areDays : ℕ → ℕ × ℕ → Bool
 areDays ticks d = isSign (d .0) && isNet (netOf ticks (d .0) (d .1))
 
+abbrev pub netDays : ℕ → Field (ℕ × ℕ)
+netDays ticks = record { shape = signedDays; rule = areDays ticks; places = isSign ∷ anyDigits 7 }
+
 -- ---- the fields
 
 unfoldable pub timed : TimingKind → Layout Times
 timed clockKind =
     suits 30 (timingIs clockKind)
-    (field 30 time isTime (λ t. ticksIn (t .timing)) λ ticks.
-    field 40 date isDate (λ t. dateIn (t .timing)) λ day.
-    field 48 (run 2) (areRaw 2) (λ t. t .spare) λ spare.
+    (field 30 timeOfDay (λ t. ticksIn (t .timing)) λ ticks.
+    field 40 realDate (λ t. dateIn (t .timing)) λ day.
+    field 48 (rawBytes 2) (λ t. t .spare) λ spare.
     suits 50 rawUnused
     (end (record { timing = Clock ticks (day .0) (day .1 .0) (day .1 .1); rawTime = replicate 10 0; rawDate = replicate 8 0; spare = spare })))
 timed netKind =
     suits 30 (timingIs netKind)
-    (field 30 time isTime (λ t. netIn (t .timing) .time) λ ticks.
-    field 40 signedDays (areDays ticks) (λ t. daysIn (t .timing)) λ days.
-    field 48 (run 2) (areRaw 2) (λ t. t .spare) λ spare.
+    (field 30 timeOfDay (λ t. netIn (t .timing) .time) λ ticks.
+    field 40 (netDays ticks) (λ t. daysIn (t .timing)) λ days.
+    field 48 (rawBytes 2) (λ t. t .spare) λ spare.
     suits 50 rawUnused
     (end (record { timing = Net (netSum (netOf ticks (days .0) (days .1))); rawTime = replicate 10 0; rawDate = replicate 8 0; spare = spare })))
 timed rawKind =
     suits 30 (timingIs rawKind)
-    (field 30 (run 10) (areRaw 10) (λ t. t .rawTime) λ rawTime.
-    field 40 (run 8) (areRaw 8) (λ t. t .rawDate) λ rawDate.
-    field 48 (run 2) (areRaw 2) (λ t. t .spare) λ spare.
+    (field 30 (rawBytes 10) (λ t. t .rawTime) λ rawTime.
+    field 40 (rawBytes 8) (λ t. t .rawDate) λ rawDate.
+    field 48 (rawBytes 2) (λ t. t .spare) λ spare.
     end (record { timing = Raw; rawTime = rawTime; rawDate = rawDate; spare = spare }))

@@ -14,6 +14,8 @@ use crate::refusals::Place;
 use crate::refusals::ReadRefusal;
 use crate::refusals::ReadVerdict;
 use crate::refusals::WriteAnswer;
+use crate::spoiled::TIME_CLASSES;
+use crate::spoiled::looked_in;
 use digits::byte_at;
 use digits::put_byte;
 use digits::put_number;
@@ -26,6 +28,7 @@ ghost use Rattle.digits.specs.Told.{gives, tried};
 ghost use Rattle.digits.specs.Refusals.{FIELD};
 ghost use Rattle.frames.specs.Kind.{wrongIn, frameOf, Wrote};
 ghost use Rattle.frames.specs.inside.Held.{dynamicAt};
+ghost use Rattle.frames.specs.inside.Spoiled.{dynamicByte};
 ghost use Rattle.frames.specs.Dynamic.{isOrder, isDynamicChannel, leastPeriod, dynamic, dynamicTold, DynamicAs};
 
 pub const DYNAMIC_LEAD: u8 = 19;
@@ -93,7 +96,7 @@ pub fn read_dynamic(s: &[u8]) -> DynamicRead
     ensures { λ r. ⌜ DynamicAs (now (s .entry)) r ⌝ }
 {
     match head_of(s, DYNAMIC_LEAD, DYNAMIC_SIZE) {
-        ReadVerdict::Read => judged(dynamic_at(s)),
+        ReadVerdict::Read => judged(s, dynamic_at(s)),
         ReadVerdict::Refused(refusal) => DynamicRead::Refused(refusal),
     }
 }
@@ -133,15 +136,32 @@ fn dynamic_at(s: &[u8]) -> DynamicRequest
     }
 }
 
-fn judged(r: DynamicRequest) -> DynamicRead
-    ensures { λ a. ⌜ dynamicTold a ≡ tried (eqb (wrongIn dynamic r) 0) (FIELD (wrongIn dynamic r)) (gives r) ⌝ }
+fn judged(s: &[u8], r: DynamicRequest) -> DynamicRead
+    ensures { λ a. ⌜ dynamicTold a ≡ tried (eqb (wrongIn dynamic r) 0) (FIELD (wrongIn dynamic r) (dynamicByte (now (s .entry)) (wrongIn dynamic r))) (gives r) ⌝ }
 {
     let wrong = dynamic_wrong(r);
     if wrong == 0 {
         DynamicRead::Request(r)
     } else {
-        DynamicRead::Refused(ReadRefusal::Field(Place { field: wrong }))
+        DynamicRead::Refused(ReadRefusal::Field(Place {
+            field: wrong,
+            spoiled: dynamic_byte(s, wrong),
+        }))
     }
+}
+
+// The byte that spoils the wrong field. A field of one byte is its own.
+fn dynamic_byte(s: &[u8], wrong: u8) -> u8
+    ensures { λ r. ⌜ r ≡ dynamicByte (now (s .entry)) wrong ⌝ }
+{
+    let spoiled = looked_in(s, wrong, field::BIB, b"69999", wrong);
+    let spoiled = looked_in(s, wrong, field::CHANNEL, b"299", spoiled);
+    let spoiled = looked_in(s, wrong, field::RUN, b"299", spoiled);
+    let spoiled = looked_in(s, wrong, field::STOP_BIB, b"69999", spoiled);
+    let spoiled = looked_in(s, wrong, field::STOP_CHANNEL, b"299", spoiled);
+    let spoiled = looked_in(s, wrong, field::STOP_RUN, b"299", spoiled);
+    let spoiled = looked_in(s, wrong, field::TIME, &TIME_CLASSES, spoiled);
+    looked_in(s, wrong, field::PERIOD, b"99999", spoiled)
 }
 
 // The offset of the first wrong part, or 0 if none is wrong.

@@ -5,4 +5,5 @@ mod head;
 pub mod refusals;
 pub mod reply;
 pub mod request;
+mod spoiled;
 pub mod timing;

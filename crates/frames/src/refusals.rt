@@ -1,14 +1,16 @@
 // Why a frame or a record is refused, and the number of each refusal in the table.
 use digits::refusal as table;
 use digits::refusal::Refusal;
+use digits::refusal::of_field;
 use digits::refusal::placed;
 use digits::refusal::plain;
 ghost use mathlib.Core.Path.{_≡_};
 ghost use Rattle.frames.specs.Refusals.{readRefused, writeRefused};
 
-// The offset at which a frame's first wrong field begins.
+// The offset at which a frame's first wrong field begins, and the offset of the byte that spoils it.
 pub struct Place {
     pub field: u8,
+    pub spoiled: u8,
 }
 
 // In the order in which they are tested.
@@ -44,7 +46,7 @@ pub fn of_reading(refusal: ReadRefusal) -> Refusal
         ReadRefusal::Length => plain(table::LENGTH),
         ReadRefusal::End => plain(table::END),
         ReadRefusal::Address => plain(table::ADDRESS),
-        ReadRefusal::Field(place) => placed(table::FIELD, place.field),
+        ReadRefusal::Field(place) => of_field(place.field, place.spoiled),
     }
 }
 

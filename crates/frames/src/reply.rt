@@ -12,13 +12,16 @@ use crate::refusals::Place;
 use crate::refusals::ReadRefusal;
 use crate::refusals::ReadVerdict;
 use crate::refusals::WriteAnswer;
+use crate::spoiled::looked_in;
 use crate::timing::Seen;
 use crate::timing::Timing;
+use crate::timing::TimingKind;
 use crate::timing::is_raw;
 use crate::timing::kind_of;
 use crate::timing::put_timing;
 use crate::timing::seen_at;
 use crate::timing::spare_at;
+use crate::timing::timing_byte;
 use crate::timing::timing_wrong;
 use crate::timing::timing_wrong_at;
 use digits::byte_at;
@@ -31,6 +34,7 @@ ghost use lib.Seq.{sets};
 ghost use lib.ListN.{length, replicate};
 ghost use Rattle.frames.specs.Kind.{wrongIn, Wrote};
 ghost use Rattle.frames.specs.inside.Reply as I;
+ghost use Rattle.frames.specs.inside.Spoiled.{headByte, replyByte};
 ghost use Rattle.frames.specs.Status.{isStatus};
 ghost use Rattle.frames.specs.Reply.{isLetter, isReplyChannel, leastRun, reply, zeroHead, zeroReply, ReadAs, checkTold, CheckedAs};
 
@@ -235,9 +239,10 @@ fn fields_read(s: &[u8]) -> ReplyRead
     ensures { λ r. ⌜ r ≡ I.fieldsRead (now (s .entry)) ⌝ }
 {
     let h = head_at(s);
-    let seen = seen_at(s, kind_of(h.status, h.information));
+    let asked = kind_of(h.status, h.information);
+    let seen = seen_at(s, asked);
     let wrong = head_wrong(h, seen.wrong);
-    judged(reply_of(h, seen, spare_at(s)), wrong)
+    judged(s, asked, reply_of(h, seen, spare_at(s)), wrong)
 }
 
 fn fields_checked(s: &[u8]) -> ReplyCheck
@@ -257,11 +262,14 @@ fn fields_checked(s: &[u8]) -> ReplyCheck
             number: h.number,
         });
     }
-    ReplyCheck::Refused(ReadRefusal::Field(Place { field: wrong }))
+    ReplyCheck::Refused(ReadRefusal::Field(Place {
+        field: wrong,
+        spoiled: reply_byte(s, kind, wrong),
+    }))
 }
 
-fn judged(r: StaticReply, wrong: u8) -> ReplyRead
-    ensures { λ a. ⌜ a ≡ I.judgedAs r wrong ⌝ }
+fn judged(s: &[u8], kind: TimingKind, r: StaticReply, wrong: u8) -> ReplyRead
+    ensures { λ a. ⌜ a ≡ I.judgedAs r wrong (replyByte kind (now (s .entry)) wrong) ⌝ }
 {
     if wrong == 0 {
         return ReplyRead {
@@ -269,7 +277,29 @@ fn judged(r: StaticReply, wrong: u8) -> ReplyRead
             reply: r,
         };
     }
-    refused(ReadRefusal::Field(Place { field: wrong }))
+    refused(ReadRefusal::Field(Place {
+        field: wrong,
+        spoiled: reply_byte(s, kind, wrong),
+    }))
+}
+
+// The byte that spoils the wrong field. A field of one byte is its own.
+fn reply_byte(s: &[u8], kind: TimingKind, wrong: u8) -> u8
+    ensures { λ r. ⌜ r ≡ replyByte kind (now (s .entry)) wrong ⌝ }
+{
+    let spoiled = timing_byte(s, kind, wrong, head_byte(s, wrong));
+    looked_in(s, wrong, field::SPARE, b"  ", spoiled)
+}
+
+fn head_byte(s: &[u8], wrong: u8) -> u8
+    ensures { λ r. ⌜ r ≡ headByte (now (s .entry)) wrong ⌝ }
+{
+    let spoiled = looked_in(s, wrong, field::NUMBER, b"99999", wrong);
+    let spoiled = looked_in(s, wrong, field::BIB, b"59999", spoiled);
+    let spoiled = looked_in(s, wrong, field::GROUP, b"199", spoiled);
+    let spoiled = looked_in(s, wrong, field::RUN, b"299", spoiled);
+    let spoiled = looked_in(s, wrong, field::PHYSICAL, b"999", spoiled);
+    looked_in(s, wrong, field::CHANNEL, b"299", spoiled)
 }
 
 // The parts before time and date as they are in a frame, wrong or not.

@@ -12,6 +12,7 @@ use crate::refusals::Place;
 use crate::refusals::ReadRefusal;
 use crate::refusals::ReadVerdict;
 use crate::refusals::WriteAnswer;
+use crate::spoiled::looked_in;
 use digits::byte_at;
 use digits::in_set;
 use digits::put_byte;
@@ -23,6 +24,7 @@ ghost use Rattle.digits.specs.Told.{gives, tried};
 ghost use Rattle.digits.specs.Refusals.{FIELD};
 ghost use Rattle.frames.specs.Kind.{wrongIn, frameOf, Wrote};
 ghost use Rattle.frames.specs.inside.Held.{requestAt};
+ghost use Rattle.frames.specs.inside.Spoiled.{requestByte};
 ghost use Rattle.frames.specs.Request.{isInformation, isRequestChannel, request, requestTold, RequestAs};
 
 pub const REQUEST_LEAD: u8 = 17;
@@ -80,7 +82,7 @@ pub fn read_request(s: &[u8]) -> RequestRead
     ensures { λ r. ⌜ RequestAs (now (s .entry)) r ⌝ }
 {
     match head_of(s, REQUEST_LEAD, REQUEST_SIZE) {
-        ReadVerdict::Read => judged(request_at(s)),
+        ReadVerdict::Read => judged(s, request_at(s)),
         ReadVerdict::Refused(refusal) => RequestRead::Refused(refusal),
     }
 }
@@ -115,15 +117,29 @@ fn request_at(s: &[u8]) -> StaticRequest
     }
 }
 
-fn judged(r: StaticRequest) -> RequestRead
-    ensures { λ a. ⌜ requestTold a ≡ tried (eqb (wrongIn request r) 0) (FIELD (wrongIn request r)) (gives r) ⌝ }
+fn judged(s: &[u8], r: StaticRequest) -> RequestRead
+    ensures { λ a. ⌜ requestTold a ≡ tried (eqb (wrongIn request r) 0) (FIELD (wrongIn request r) (requestByte (now (s .entry)) (wrongIn request r))) (gives r) ⌝ }
 {
     let wrong = request_wrong(r);
     if wrong == 0 {
         RequestRead::Request(r)
     } else {
-        RequestRead::Refused(ReadRefusal::Field(Place { field: wrong }))
+        RequestRead::Refused(ReadRefusal::Field(Place {
+            field: wrong,
+            spoiled: request_byte(s, wrong),
+        }))
     }
+}
+
+// The byte that spoils the wrong field. A field of one byte is its own.
+fn request_byte(s: &[u8], wrong: u8) -> u8
+    ensures { λ r. ⌜ r ≡ requestByte (now (s .entry)) wrong ⌝ }
+{
+    let spoiled = looked_in(s, wrong, field::NUMBER, b"999", wrong);
+    let spoiled = looked_in(s, wrong, field::BIB, b"59999", spoiled);
+    let spoiled = looked_in(s, wrong, field::CHANNEL, b"299", spoiled);
+    let spoiled = looked_in(s, wrong, field::RUN, b"299", spoiled);
+    looked_in(s, wrong, field::GROUP, b"199", spoiled)
 }
 
 // The offset of the first wrong part, or 0 if none is wrong.

@@ -4,6 +4,8 @@ use crate::fields::number_or_none;
 use crate::fields::wrong_unless;
 use crate::reply::STATUS_Z;
 use crate::reply::field;
+use crate::spoiled::TIME_CLASSES;
+use crate::spoiled::looked_in;
 use digits::byte_at;
 use digits::put_byte;
 use digits::put_bytes;
@@ -25,6 +27,7 @@ ghost use Rattle.frames.specs.Rules.{isRaw};
 ghost use Rattle.frames.specs.Timing as T;
 ghost use Rattle.frames.specs.Shape as S;
 ghost use Rattle.frames.specs.inside.Timing as I;
+ghost use Rattle.frames.specs.inside.Spoiled as B;
 
 const PLUS: u8 = b'+';
 
@@ -129,7 +132,7 @@ pub(crate) fn clock_wrong(ticks: u32, day: u32, month: u32, year: u32, rest: u8)
     wrong_unless(ticks <= LAST_TICK, field::TIME, wrong)
 }
 
-fn is_sign(b: u8) -> bool
+pub(crate) fn is_sign(b: u8) -> bool
     ensures { λ r. ⌜ r ≡ T.isSign b ⌝ }
 {
     (b == PLUS) | (b == MINUS)
@@ -272,6 +275,26 @@ pub(crate) fn timing_wrong_at(s: &[u8], kind: TimingKind) -> u8
             rest,
         ),
         TimingKind::Raw => raw_wrong(raw_time_at(s), raw_date_at(s), rest),
+    }
+}
+
+// The byte that spoils time or date, if one of them is the wrong field; otherwise what is known already.
+pub(crate) fn timing_byte(s: &[u8], kind: TimingKind, wrong: u8, known: u8) -> u8
+    ensures { λ r. ⌜ r ≡ B.timingByte kind (now (s .entry)) wrong known ⌝ }
+{
+    match kind {
+        TimingKind::Clock => {
+            let spoiled = looked_in(s, wrong, field::TIME, &TIME_CLASSES, known);
+            looked_in(s, wrong, field::DATE, b"3919=099", spoiled)
+        }
+        TimingKind::Net => {
+            let spoiled = looked_in(s, wrong, field::TIME, &TIME_CLASSES, known);
+            looked_in(s, wrong, field::DATE, b"+9999999", spoiled)
+        }
+        TimingKind::Raw => {
+            let spoiled = looked_in(s, wrong, field::TIME, b"          ", known);
+            looked_in(s, wrong, field::DATE, b"        ", spoiled)
+        }
     }
 }
 

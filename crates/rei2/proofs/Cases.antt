@@ -13,6 +13,7 @@ use Rattle.times.specs.Net.{isNet}
 use Rattle.times.specs.Running.{inRange, runningTime}
 use Rattle.frames.specs.Rules.{between, upTo, isAddress, isRaw, isRequester, isOutput}
 use Rattle.frames.specs.Shape.{allFrom}
+use Rattle.frames.specs.Shown.{digitFrom, firstOff}
 use Rattle.frames.specs.Layout.{fieldsOf, recordWrong, write}
 use Rattle.frames.specs.Kind.{headTold, read, wrongIn, writeTried, frameOf}
 use Rattle.frames.specs.Status.{isStatus}
@@ -55,7 +56,7 @@ unfolding first capacityOf nextHeld
 cells-held = record { first = refl; later = refl; no-more = refl; not-held = refl }
 
 desk-calls : DeskCalls
-unfolding numberAt numberFrom oneOf between upTo isAddress isRaw isRequester isOutput allFrom fieldsOf headTold read timingKind timed Q.isInformation Q.isRequestChannel Q.requestFields isStatus P.isLetter P.isReplyChannel P.leastRun P.fromBib P.replyFields allBelow countBelow first sameKey isKey heard ends inPlace keyed seatWith lowestClear capacityOf isZero markNames lastEnds isDesk keyTried requestTried openTried opens seatTried labelTried replyTried replies resets run
+unfolding numberAt numberFrom oneOf between upTo isAddress isRaw isRequester isOutput allFrom fieldsOf headTold read timingKind timed Q.isInformation Q.isRequestChannel Q.requestFields isStatus P.isLetter P.isReplyChannel P.leastRun P.fromBib P.replyFields allBelow countBelow first sameKey isKey heard ends inPlace keyed seatWith lowestClear capacityOf isZero markNames lastEnds isDesk keyTried requestTried openTried opens seatTried labelTried replyTried replies resets run firstOff digitFrom
 desk-calls = record {
   emptied = refl;
   not-emptied = refl;
@@ -67,11 +68,13 @@ desk-calls = record {
   end = refl;
   address = refl;
   field = refl;
+  field-spoiled = refl;
   no-answer-due = refl;
   in-use = refl;
   no-seat = refl;
   no-desk-replies = refl;
   reply-field = refl;
+  reply-spoiled = refl;
   other-address = refl;
   stray-by-address = refl;
   stray = refl;
@@ -92,7 +95,7 @@ unfolding capturedBy
 captured-by m s ps a e h = ap (capturedBy m) e ∙ h
 
 good-reply : (r : StaticReply) × (read reply (replying "E") ≡ gives r)
-unfolding numberAt numberFrom oneOf between upTo isAddress isRaw isRequester allFrom fieldsOf headTold read timingKind timed isStatus P.isLetter P.isReplyChannel P.leastRun P.fromBib P.replyFields
+unfolding numberAt numberFrom oneOf between upTo isAddress isRaw isRequester allFrom fieldsOf headTold read timingKind timed isStatus P.isLetter P.isReplyChannel P.leastRun P.fromBib P.replyFields firstOff digitFrom
 good-reply = (_, refl)
 
 no-more : piecesFrom (replying "E") 51 ≡ []
@@ -112,7 +115,7 @@ unfolding oneOf isLead walk piecesFrom
 request-and-leads = refl
 
 captures-taken : CapturesTaken
-unfolding capturedBy numberAt numberFrom oneOf between upTo isAddress isRaw isRequester isOutput allFrom fieldsOf headTold read timingKind timed Q.isInformation Q.isRequestChannel Q.requestFields isStatus P.isLetter P.isReplyChannel P.leastRun P.fromBib P.replyFields D.isOrder D.isDynamicChannel D.leastPeriod D.dynamicFields ticksOf allBelow countBelow first sameKey isKey heard ends inPlace keyed seatWith lowestClear capacityOf isZero markNames lastEnds isDesk keyTried requestTried openTried opens seatTried labelTried replyTried replies meets fates afterAll howMany
+unfolding capturedBy numberAt numberFrom oneOf between upTo isAddress isRaw isRequester isOutput allFrom fieldsOf headTold read timingKind timed Q.isInformation Q.isRequestChannel Q.requestFields isStatus P.isLetter P.isReplyChannel P.leastRun P.fromBib P.replyFields D.isOrder D.isDynamicChannel D.leastPeriod D.dynamicFields ticksOf allBelow countBelow first sameKey isKey heard ends inPlace keyed seatWith lowestClear capacityOf isZero markNames lastEnds isDesk keyTried requestTried openTried opens seatTried labelTried replyTried replies meets fates afterAll howMany firstOff digitFrom
 captures-taken = record {
   asked-and-cut = captured-by bare _ _ _ request-and-leads refl;
   replied = captured-by asked _ _ _ one-reply refl;
@@ -121,10 +124,13 @@ captures-taken = record {
 }
 
 frames-read : FramesRead
-unfolding numberAt numberFrom oneOf ticksOf leap monthLength realDay isNet between upTo isAddress isRaw isRequester isOutput allFrom fieldsOf headTold read timingKind isSign timed Q.isInformation Q.isRequestChannel Q.requestFields isStatus P.isLetter P.isReplyChannel P.leastRun P.fromBib P.replyFields D.isOrder D.isDynamicChannel D.leastPeriod D.dynamicFields
+unfolding numberAt numberFrom oneOf ticksOf leap monthLength realDay isNet between upTo isAddress isRaw isRequester isOutput allFrom fieldsOf headTold read timingKind isSign timed Q.isInformation Q.isRequestChannel Q.requestFields isStatus P.isLetter P.isReplyChannel P.leastRun P.fromBib P.replyFields D.isOrder D.isDynamicChannel D.leastPeriod D.dynamicFields firstOff digitFrom
 frames-read = record {
   request-read = refl;
   request-refused = refl;
+  request-spoiled = refl;
+  reply-spoiled = refl;
+  dynamic-spoiled = refl;
   request-address = refl;
   reply-read = refl;
   reply-refused = refl;

@@ -28,11 +28,11 @@ use Rattle.rei2.specs.Reply.{shown, replyAnswer}
 -- ---- the reply
 
 module _ (s : List ℕ) (a : ReplyRead) (h : ReadAs s a) where
-  pub reply-read : a .verdict ≡ Read → _≡_ {A = ReplyAnswer} (record { refusal = 0; offset = 0; reply = shown (a .reply) }) (replyAnswer (read reply s))
+  pub reply-read : a .verdict ≡ Read → _≡_ {A = ReplyAnswer} (record { refusal = 0; offset = 0; spoiled = 0; reply = shown (a .reply) }) (replyAnswer (read reply s))
   reply-read e = ap replyAnswer (rw e at (h .told))
 
   pub reply-refused : (g : ReadRefusal) → a .verdict ≡ Refused g
-      → _≡_ {A = ReplyAnswer} (record { refusal = readRefused g .number; offset = readRefused g .offset; reply = shown zeroReply }) (replyAnswer (read reply s))
+      → _≡_ {A = ReplyAnswer} (record { refusal = readRefused g .number; offset = readRefused g .offset; spoiled = readRefused g .spoiled; reply = shown zeroReply }) (replyAnswer (read reply s))
   reply-refused g e = ap replyAnswer (rw e at (h .told))
 
 -- ---- the calls by value

@@ -6,7 +6,7 @@ use native.Mathlib.Omega.{arith}
 use lib.ListN.{length}
 use lib.Dec.{eqb, leb, ltb}
 use lib.IntN.{pos, _-ℤ_}
-use Rattle.digits.specs.Refusals.{placed, RECORD, ROOM, TIME, DESK}
+use Rattle.digits.specs.Refusals.{RECORD, ROOM, TIME, DESK}
 use Rattle.digits.specs.Told.{Told, gives, refuses, Sure}
 use Rattle.digits.proofs.Sure.{never-0, sure-gives, sure-tried}
 use Rattle.times.specs.declared.running.RunningOf.{RunningOf}
@@ -18,7 +18,7 @@ use Rattle.listing.specs.Listing.{fits, listOf}
 use Rattle.frames.specs.Kind.{writeTried}
 use Rattle.frames.proofs.Places.{sure-request, sure-reply, sure-dynamic}
 use Rattle.desk.proofs.SureLaws.{sure-resets, sure-opens, sure-replies}
-use Rattle.rei2.specs.Numbers.{numberIn, offsetIn, valueIn}
+use Rattle.rei2.specs.Numbers.{numberIn, offsetIn, spoiledIn, valueIn}
 use Rattle.rei2.specs.Tells.{NumbersTell}
 
 sure-writing : (wrong size room : ℕ) → Sure (writeTried wrong size room)
@@ -29,11 +29,11 @@ sure-running : (of : RunningOf) → Sure (runningTime of)
 unfolding runningTime
 sure-running of = sure-tried (inRange of) TIME _ (λ _. refl) (sure-gives ((pos (of .tnow) -ℤ pos (of .tev)) -ℤ taux of))
 
-told-by : {A : Type 0} (zero : A) (t t′ : Told A) → Sure t → Sure t′ → numberIn t ≡ numberIn t′ → offsetIn t ≡ offsetIn t′ → valueIn zero t ≡ valueIn zero t′ → t ≡ t′
-told-by zero (gives a) (gives b) s s′ n o v = λ i. gives (v i)
-told-by zero (gives a) (refuses f) s s′ n o v = absurd (let l = never-0 f (s′ f refl) in omega (arith, l, n))
-told-by zero (refuses f) (gives b) s s′ n o v = absurd (let l = never-0 f (s f refl) in omega (arith, l, n))
-told-by zero (refuses f) (refuses g) s s′ n o v = λ i. refuses (placed (n i) (o i))
+told-by : {A : Type 0} (zero : A) (t t′ : Told A) → Sure t → Sure t′ → numberIn t ≡ numberIn t′ → offsetIn t ≡ offsetIn t′ → spoiledIn t ≡ spoiledIn t′ → valueIn zero t ≡ valueIn zero t′ → t ≡ t′
+told-by zero (gives a) (gives b) s s′ n o p v = λ i. gives (v i)
+told-by zero (gives a) (refuses f) s s′ n o p v = absurd (let l = never-0 f (s′ f refl) in omega (arith, l, n))
+told-by zero (refuses f) (gives b) s s′ n o p v = absurd (let l = never-0 f (s f refl) in omega (arith, l, n))
+told-by zero (refuses f) (refuses g) s s′ n o p v = λ i. refuses (record { number = n i; offset = o i; spoiled = p i })
 
 pub numbers-tell : NumbersTell
 numbers-tell = record {
@@ -48,5 +48,9 @@ numbers-tell = record {
   capture = λ m s. sure-tried (isDesk m) DESK _ (λ _. refl) (sure-gives (countsOf (fates m (pieces s))));
   naming = λ name out. sure-tried (ltb (length name) (length out)) ROOM _ (λ _. refl) (sure-gives tt);
   listing = λ cells marks s out. sure-tried (fits cells marks s out) ROOM _ (λ _. refl) (sure-gives (length (listOf cells marks s)));
+  request-refused = λ f. refl;
+  reply-refused = λ f. refl;
+  dynamic-refused = λ f. refl;
+  desk-refused = λ d f. refl;
   told = told-by;
 }

@@ -55,37 +55,40 @@ pub record CellsHeld : Type 0 where
 
 -- ---- the desk's calls, on the desks and frames of the desk's own cases
 
-abbrev pub answering : ℕ → ℕ → ℕ → ℕ → ℕ → DeskAnswer
-answering bits count refusal offset seat = record { desk = record { bits = bits; count = count }; refusal = refusal; offset = offset; seat = seat }
+-- bits and count after the call; the refusal, its offset and the offset of the spoiled byte; the seat
+abbrev pub answering : ℕ → ℕ → ℕ → ℕ → ℕ → ℕ → DeskAnswer
+answering bits count refusal offset spoiled seat = record { desk = record { bits = bits; count = count }; refusal = refusal; offset = offset; spoiled = spoiled; seat = seat }
 
 -- no seats, and a state that is not empty
 abbrev pub noDesk : Memory
 noDesk = memory (record { bits = 5; count = 7 }) [] [] []
 
 pub record DeskCalls : Type 0 where
-  pub emptied : answerOf (resets asked) ≡ answering 0 0 0 0 0
-  pub not-emptied : answerOf (resets noDesk) ≡ answering 5 7 9 0 0
-  pub opened : answerOf (opens bare (asking "1" "P")) ≡ answering 1 0 0 0 0
-  pub opened-next : answerOf (opens asked (asking "A" "P")) ≡ answering 3 0 0 0 1
-  pub no-desk-opens : answerOf (opens noDesk (asking "1" "P")) ≡ answering 5 7 9 0 0
-  pub kind : answerOf (opens asked []) ≡ answering 1 0 1 0 0
-  pub length : answerOf (opens asked (17 ∷ [])) ≡ answering 1 0 2 0 0
-  pub end : answerOf (opens asked (17 ∷ (codes "R 200700000P000002000S" ++ (10 ∷ [])))) ≡ answering 1 0 3 0 0
-  pub address : answerOf (opens asked (17 ∷ (codes "R-200700000P000002000S" ++ (13 ∷ [])))) ≡ answering 1 0 4 0 0
-  pub field : answerOf (opens asked (asking "[" "P")) ≡ answering 1 0 5 3 0
-  pub no-answer-due : answerOf (opens asked (asking "2" "q")) ≡ answering 1 0 10 0 0
-  pub in-use : answerOf (opens asked (asking "1" "P")) ≡ answering 1 0 11 0 0
-  pub no-seat : answerOf (opens (run bare (openings sixteen)) (asking "B" "P")) ≡ answering 65535 0 12 0 0
-  pub no-desk-replies : answerOf (replies noDesk (replying "R")) ≡ answering 5 7 9 0 0
-  pub reply-field : answerOf (replies asked (replying "Q")) ≡ answering 1 0 5 5 0
+  pub emptied : answerOf (resets asked) ≡ answering 0 0 0 0 0 0
+  pub not-emptied : answerOf (resets noDesk) ≡ answering 5 7 9 0 0 0
+  pub opened : answerOf (opens bare (asking "1" "P")) ≡ answering 1 0 0 0 0 0
+  pub opened-next : answerOf (opens asked (asking "A" "P")) ≡ answering 3 0 0 0 0 1
+  pub no-desk-opens : answerOf (opens noDesk (asking "1" "P")) ≡ answering 5 7 9 0 0 0
+  pub kind : answerOf (opens asked []) ≡ answering 1 0 1 0 0 0
+  pub length : answerOf (opens asked (17 ∷ [])) ≡ answering 1 0 2 0 0 0
+  pub end : answerOf (opens asked (17 ∷ (codes "R 200700000P000002000S" ++ (10 ∷ [])))) ≡ answering 1 0 3 0 0 0
+  pub address : answerOf (opens asked (17 ∷ (codes "R-200700000P000002000S" ++ (13 ∷ [])))) ≡ answering 1 0 4 0 0 0
+  pub field : answerOf (opens asked (asking "[" "P")) ≡ answering 1 0 5 3 3 0
+  pub field-spoiled : answerOf (opens asked (17 ∷ (codes "R 200700000P0000x2000S" ++ (13 ∷ [])))) ≡ answering 1 0 5 16 17 0
+  pub no-answer-due : answerOf (opens asked (asking "2" "q")) ≡ answering 1 0 10 0 0 0
+  pub in-use : answerOf (opens asked (asking "1" "P")) ≡ answering 1 0 11 0 0 0
+  pub no-seat : answerOf (opens (run bare (openings sixteen)) (asking "B" "P")) ≡ answering 65535 0 12 0 0 0
+  pub no-desk-replies : answerOf (replies noDesk (replying "R")) ≡ answering 5 7 9 0 0 0
+  pub reply-field : answerOf (replies asked (replying "Q")) ≡ answering 1 0 5 5 5 0
+  pub reply-spoiled : answerOf (replies asked (replyFrom " " "R" "1" "00007" "0001x")) ≡ answering 1 0 5 12 16 0
   -- the same requester and number at another address: another seat, and another key
-  pub other-address : answerOf (opens asked (askingAt "3" "1" "P")) ≡ answering 3 0 0 0 1
-  pub stray-by-address : answerOf (replies asked (replyFrom "3" "R" "1" "00007" "00015")) ≡ answering 1 0 13 0 0
-  pub stray : answerOf (replies bare (replying "R")) ≡ answering 0 0 13 0 0
-  pub taken : answerOf (replies asked (replying "R")) ≡ answering 1 1 0 0 0
-  pub ended : answerOf (replies (replies asked (replying "E") .after) (replying "R")) ≡ answering 1 1 14 0 0
-  pub out-of-place : answerOf (replies (replies asked (replying "R") .after) (replying "Z")) ≡ answering 1 1 15 0 0
-  pub full : answerOf (replies (replies (replies asked (replying "R") .after) (replying "R") .after) (replying "R")) ≡ answering 1 2 16 0 0
+  pub other-address : answerOf (opens asked (askingAt "3" "1" "P")) ≡ answering 3 0 0 0 0 1
+  pub stray-by-address : answerOf (replies asked (replyFrom "3" "R" "1" "00007" "00015")) ≡ answering 1 0 13 0 0 0
+  pub stray : answerOf (replies bare (replying "R")) ≡ answering 0 0 13 0 0 0
+  pub taken : answerOf (replies asked (replying "R")) ≡ answering 1 1 0 0 0 0
+  pub ended : answerOf (replies (replies asked (replying "E") .after) (replying "R")) ≡ answering 1 1 14 0 0 0
+  pub out-of-place : answerOf (replies (replies asked (replying "R") .after) (replying "Z")) ≡ answering 1 1 15 0 0 0
+  pub full : answerOf (replies (replies (replies asked (replying "R") .after) (replying "R") .after) (replying "R")) ≡ answering 1 2 16 0 0 0
 
 -- a request and three lead bytes; a reply; a dynamic request; memory that is not a desk
 pub record CapturesTaken : Type 0 where
@@ -120,20 +123,23 @@ clocked net = record { kind = 1; ticks = 725400; day = 29; month = 2; year = 202
 
 pub record FramesRead : Type 0 where
   pub request-read : requestAnswer (read request (F.asking "A" "1" "255" "250"))
-      ≡ record { refusal = 0; offset = 0; request = record { address = 32; requester = 65; number = 12; bib = 41; information = 49; channel = 255; run = 250; group = 0; output = 83 } }
+      ≡ record { refusal = 0; offset = 0; spoiled = 0; request = record { address = 32; requester = 65; number = 12; bib = 41; information = 49; channel = 255; run = 250; group = 0; output = 83 } }
   pub request-refused : requestAnswer (read request (F.asking "A" "1" "255" "251"))
-      ≡ record { refusal = 5; offset = 16; request = record { address = 0; requester = 0; number = 0; bib = 0; information = 0; channel = 0; run = 0; group = 0; output = 0 } }
-  pub request-address : requestAnswer (read request Q.good) ≡ record { refusal = 0; offset = 0; request = Q.asks 55 66 123 45678 81 231 156 89 65 }
+      ≡ record { refusal = 5; offset = 16; spoiled = 16; request = record { address = 0; requester = 0; number = 0; bib = 0; information = 0; channel = 0; run = 0; group = 0; output = 0 } }
+  pub request-spoiled : requestAnswer (read request (F.asking "A" "1" "255" "25x")) .spoiled ≡ 18
+  pub reply-spoiled : replyAnswer (read reply (F.replying "00041" "255" "0" "2461000000" "29022024")) .spoiled ≡ 32
+  pub dynamic-spoiled : dynamicAnswer (read dynamic (F.running "A" "00041" "0000x")) .spoiled ≡ 43
+  pub request-address : requestAnswer (read request Q.good) ≡ record { refusal = 0; offset = 0; spoiled = 0; request = Q.asks 55 66 123 45678 81 231 156 89 65 }
   pub reply-read : replyAnswer (read reply (F.replying "00041" "255" "0" "0001125400" "29022024"))
-      ≡ record { refusal = 0; offset = 0; reply = told 41 48 (record { kind = 1; ticks = 725400; day = 29; month = 2; year = 2024; net = pos 0 }) }
+      ≡ record { refusal = 0; offset = 0; spoiled = 0; reply = told 41 48 (record { kind = 1; ticks = 725400; day = 29; month = 2; year = 2024; net = pos 0 }) }
   pub reply-refused : replyAnswer (read reply (F.replying "60000" "255" "0" "0001125400" "29022024"))
-      ≡ record { refusal = 5; offset = 12; reply = record { head = record { address = 0; program = 0; mode = 0; status = 0; requester = 0; number = 0; bib = 0; group = 0; run = 0; physical = 0; channel = 0; information = 0 }; timing = record { kind = 0; ticks = 0; day = 0; month = 0; year = 0; net = pos 0 }; «raw_time» = 0 ∷ 0 ∷ 0 ∷ 0 ∷ 0 ∷ 0 ∷ 0 ∷ 0 ∷ 0 ∷ 0 ∷ []; «raw_date» = 0 ∷ 0 ∷ 0 ∷ 0 ∷ 0 ∷ 0 ∷ 0 ∷ 0 ∷ []; spare = 0 ∷ 0 ∷ [] } }
+      ≡ record { refusal = 5; offset = 12; spoiled = 12; reply = record { head = record { address = 0; program = 0; mode = 0; status = 0; requester = 0; number = 0; bib = 0; group = 0; run = 0; physical = 0; channel = 0; information = 0 }; timing = record { kind = 0; ticks = 0; day = 0; month = 0; year = 0; net = pos 0 }; «raw_time» = 0 ∷ 0 ∷ 0 ∷ 0 ∷ 0 ∷ 0 ∷ 0 ∷ 0 ∷ 0 ∷ 0 ∷ []; «raw_date» = 0 ∷ 0 ∷ 0 ∷ 0 ∷ 0 ∷ 0 ∷ 0 ∷ 0 ∷ []; spare = 0 ∷ 0 ∷ [] } }
   pub reply-address : replyAnswer (read reply P.good) .reply .head .address ≡ 53
   pub dynamic-read : dynamicAnswer (read dynamic (F.running "A" "00041" "00001"))
-      ≡ record { refusal = 0; offset = 0; request = record { address = 32; requester = 49; order = 65; bib = 41; channel = 0; run = 1; «stop_bib» = 60000; «stop_channel» = 255; «stop_run» = 0; sign = 0; time = 0; days = 0; period = 1; output = 83 } }
-  pub dynamic-address : dynamicAnswer (read dynamic D.good) ≡ record { refusal = 0; offset = 0; request = D.orders 57 67 98 34567 178 209 45678 193 214 1 452967890 7 8642 66 }
+      ≡ record { refusal = 0; offset = 0; spoiled = 0; request = record { address = 32; requester = 49; order = 65; bib = 41; channel = 0; run = 1; «stop_bib» = 60000; «stop_channel» = 255; «stop_run» = 0; sign = 0; time = 0; days = 0; period = 1; output = 83 } }
+  pub dynamic-address : dynamicAnswer (read dynamic D.good) ≡ record { refusal = 0; offset = 0; spoiled = 0; request = D.orders 57 67 98 34567 178 209 45678 193 214 1 452967890 7 8642 66 }
   pub dynamic-refused : dynamicAnswer (read dynamic (F.running "A" "00041" "00000"))
-      ≡ record { refusal = 5; offset = 39; request = record { address = 0; requester = 0; order = 0; bib = 0; channel = 0; run = 0; «stop_bib» = 0; «stop_channel» = 0; «stop_run» = 0; sign = 0; time = 0; days = 0; period = 0; output = 0 } }
+      ≡ record { refusal = 5; offset = 39; spoiled = 39; request = record { address = 0; requester = 0; order = 0; bib = 0; channel = 0; run = 0; «stop_bib» = 0; «stop_channel» = 0; «stop_run» = 0; sign = 0; time = 0; days = 0; period = 0; output = 0 } }
 
 -- ---- frames written
 

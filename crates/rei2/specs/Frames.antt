@@ -11,7 +11,7 @@ use Rattle.frames.specs.Faithful.{outputOf}
 use Rattle.rei2.specs.declared.request.RequestAnswer.{RequestAnswer}
 use Rattle.rei2.specs.declared.request.WrittenAnswer.{WrittenAnswer}
 use Rattle.rei2.specs.declared.dynamic.DynamicAnswer.{DynamicAnswer}
-use Rattle.rei2.specs.Numbers.{numberIn, offsetIn, valueIn}
+use Rattle.rei2.specs.Numbers.{numberIn, offsetIn, spoiledIn, valueIn}
 
 -- ---- reading
 
@@ -19,14 +19,14 @@ abbrev pub zeroRequest : StaticRequest
 zeroRequest = record { address = 0; requester = 0; number = 0; bib = 0; information = 0; channel = 0; run = 0; group = 0; output = 0 }
 
 abbrev pub requestAnswer : Told StaticRequest → RequestAnswer
-requestAnswer t = record { refusal = numberIn t; offset = offsetIn t; request = valueIn zeroRequest t }
+requestAnswer t = record { refusal = numberIn t; offset = offsetIn t; spoiled = spoiledIn t; request = valueIn zeroRequest t }
 
 abbrev pub zeroDynamic : DynamicRequest
 zeroDynamic =
     record { address = 0; requester = 0; order = 0; bib = 0; channel = 0; run = 0; «stop_bib» = 0; «stop_channel» = 0; «stop_run» = 0; sign = 0; time = 0; days = 0; period = 0; output = 0 }
 
 abbrev pub dynamicAnswer : Told DynamicRequest → DynamicAnswer
-dynamicAnswer t = record { refusal = numberIn t; offset = offsetIn t; request = valueIn zeroDynamic t }
+dynamicAnswer t = record { refusal = numberIn t; offset = offsetIn t; spoiled = spoiledIn t; request = valueIn zeroDynamic t }
 
 -- ---- writing
 

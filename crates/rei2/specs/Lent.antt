@@ -12,7 +12,7 @@ use Rattle.desk.specs.Calls.{Outcome, opens, replies, resets}
 use Rattle.desk.specs.Capture.{Captured, captures}
 use Rattle.rei2.specs.declared.lent.DeskAnswer.{DeskAnswer}
 use Rattle.rei2.specs.declared.lent.CapturedAnswer.{CapturedAnswer}
-use Rattle.rei2.specs.Numbers.{numberIn, offsetIn, valueIn}
+use Rattle.rei2.specs.Numbers.{numberIn, offsetIn, spoiledIn, valueIn}
 
 abbrev pub stateIn : Memory → Desk
 stateIn m = record { bits = m .bits; count = m .count }
@@ -20,7 +20,7 @@ stateIn m = record { bits = m .bits; count = m .count }
 -- ---- answers in numbers
 
 abbrev pub deskAnswer : Desk → Told ℕ → DeskAnswer
-deskAnswer d t = record { desk = d; refusal = numberIn t; offset = offsetIn t; seat = valueIn 0 t }
+deskAnswer d t = record { desk = d; refusal = numberIn t; offset = offsetIn t; spoiled = spoiledIn t; seat = valueIn 0 t }
 
 -- an outcome in numbers, with the state that it leaves
 abbrev pub answerOf : Outcome → DeskAnswer

@@ -44,7 +44,7 @@ pub record NamesTell : Type 0 where
   pub length : nameOf (LENGTH .number) ≡ codes "LENGTH"
   pub end : nameOf (END .number) ≡ codes "END"
   pub address : nameOf (ADDRESS .number) ≡ codes "ADDRESS"
-  pub field : (at : ℕ) → nameOf (FIELD at .number) ≡ codes "FIELD"
+  pub field : (at spoiled : ℕ) → nameOf (FIELD at spoiled .number) ≡ codes "FIELD"
   pub wrong-record : (at : ℕ) → nameOf (RECORD at .number) ≡ codes "RECORD"
   pub room : nameOf (ROOM .number) ≡ codes "ROOM"
   pub time : nameOf (TIME .number) ≡ codes "TIME"

@@ -1,4 +1,4 @@
--- What an answer means, in numbers: 0 if the call was done, otherwise the number of the refusal with its offset.
+-- What an answer means, in numbers: 0 if the call was done, otherwise the number of the refusal with its offset and the offset of the spoiled byte.
 use Prim.Native.Nat.{ℕ}
 use Rattle.digits.specs.declared.refusal.Refusal.{Refusal}
 use Rattle.digits.specs.Refusals.{plain}
@@ -14,6 +14,9 @@ module _ {A : Type 0} where
 
   abbrev pub offsetIn : Told A → ℕ
   offsetIn t = refusalIn t .offset
+
+  abbrev pub spoiledIn : Told A → ℕ
+  spoiledIn t = refusalIn t .spoiled
 
   -- what is given, or the zero that comes with a refusal
   abbrev pub valueIn : A → Told A → A

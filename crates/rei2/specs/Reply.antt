@@ -16,7 +16,7 @@ use Rattle.rei2.specs.declared.reply.TimingNumbers.{TimingNumbers}
 use Rattle.rei2.specs.declared.reply.ReplyRecord.{ReplyRecord}
 use Rattle.rei2.specs.declared.reply.ReplyAnswer.{ReplyAnswer}
 use Rattle.rei2.specs.declared.request.WrittenAnswer.{WrittenAnswer}
-use Rattle.rei2.specs.Numbers.{numberIn, offsetIn}
+use Rattle.rei2.specs.Numbers.{numberIn, offsetIn, spoiledIn}
 use Rattle.rei2.specs.Frames.{writtenAnswer}
 
 -- ---- a timing in numbers: the code of its kind, and 0 for each number that the kind does not use
@@ -74,7 +74,7 @@ recordOf r =
 
 -- with a refusal comes the record of zeros
 abbrev pub replyAnswer : Told StaticReply → ReplyAnswer
-replyAnswer t = record { refusal = numberIn t; offset = offsetIn t; reply = shown (orZero t) }
+replyAnswer t = record { refusal = numberIn t; offset = offsetIn t; spoiled = spoiledIn t; reply = shown (orZero t) }
 
 -- ---- writing
 

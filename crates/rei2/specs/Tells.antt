@@ -1,21 +1,26 @@
--- What is demanded of the numbers. The refusal is 0 exactly if the call was done. Otherwise it is one of the table, and only 5 and 6 have an offset.
--- Refusal, offset and value together tell any two answers apart.
+-- What is demanded of the numbers. The refusal is 0 exactly if the call was done. Otherwise it is one of the table; only 5 and 6 have an offset, and only 5 has a spoiled byte.
+-- Refusal, offset, spoiled byte and value together tell any two answers apart.
 use Prim.Native.Nat.{ℕ}
 use mathlib.Core.List.{List}
 use mathlib.Core.Path.{_≡_}
-use Rattle.digits.specs.Told.{Told, Sure}
+use Rattle.digits.specs.declared.refusal.Refusal.{Refusal}
+use Rattle.digits.specs.Told.{Told, refuses, Sure}
 use Rattle.times.specs.declared.running.RunningOf.{RunningOf}
 use Rattle.times.specs.Running.{runningTime}
 use Rattle.frames.specs.Kind.{read, writeTried}
 use Rattle.frames.specs.Request.{request}
-use Rattle.frames.specs.Reply.{reply}
+use Rattle.frames.specs.Reply.{reply, zeroReply}
 use Rattle.frames.specs.Dynamic.{dynamic}
+use Rattle.desk.specs.declared.state.Desk.{Desk}
 use Rattle.desk.specs.Memory.{Memory}
 use Rattle.desk.specs.Calls.{resets, opens, replies}
 use Rattle.desk.specs.Capture.{captures}
 use Rattle.listing.specs.Listing.{listed}
 use Rattle.rei2.specs.Names.{nameTried}
-use Rattle.rei2.specs.Numbers.{numberIn, offsetIn, valueIn}
+use Rattle.rei2.specs.Frames.{zeroRequest, requestAnswer, zeroDynamic, dynamicAnswer}
+use Rattle.rei2.specs.Reply.{shown, replyAnswer}
+use Rattle.rei2.specs.Lent.{deskAnswer}
+use Rattle.rei2.specs.Numbers.{numberIn, offsetIn, spoiledIn, valueIn}
 
 pub record NumbersTell : Type 1 where
   pub reading-request : (s : List ℕ) → Sure (read request s)
@@ -29,5 +34,10 @@ pub record NumbersTell : Type 1 where
   pub capture : (m : Memory) (s : List ℕ) → Sure (captures m s .answer)
   pub naming : (name out : List ℕ) → Sure (nameTried name out)
   pub listing : (cells marks s out : List ℕ) → Sure (listed cells marks s out)
-  -- so number, offset and value together determine an answer
-  pub told : {A : Type 0} (zero : A) (t t′ : Told A) → Sure t → Sure t′ → numberIn t ≡ numberIn t′ → offsetIn t ≡ offsetIn t′ → valueIn zero t ≡ valueIn zero t′ → t ≡ t′
+  -- with a refusal all its numbers are handed on, and the rest of the answer is zero
+  pub request-refused : (f : Refusal) → requestAnswer (refuses f) ≡ record { refusal = f .number; offset = f .offset; spoiled = f .spoiled; request = zeroRequest }
+  pub reply-refused : (f : Refusal) → replyAnswer (refuses f) ≡ record { refusal = f .number; offset = f .offset; spoiled = f .spoiled; reply = shown zeroReply }
+  pub dynamic-refused : (f : Refusal) → dynamicAnswer (refuses f) ≡ record { refusal = f .number; offset = f .offset; spoiled = f .spoiled; request = zeroDynamic }
+  pub desk-refused : (d : Desk) (f : Refusal) → deskAnswer d (refuses f) ≡ record { desk = d; refusal = f .number; offset = f .offset; spoiled = f .spoiled; seat = 0 }
+  -- so number, offset, spoiled byte and value together determine an answer
+  pub told : {A : Type 0} (zero : A) (t t′ : Told A) → Sure t → Sure t′ → numberIn t ≡ numberIn t′ → offsetIn t ≡ offsetIn t′ → spoiledIn t ≡ spoiledIn t′ → valueIn zero t ≡ valueIn zero t′ → t ≡ t′

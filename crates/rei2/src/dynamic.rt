@@ -17,6 +17,7 @@ ghost use Rattle.rei2.specs.Frames.{dynamicAnswer, zeroDynamic, WroteLen
 pub struct DynamicAnswer {
     pub refusal: u32,
     pub offset: u32,
+    pub spoiled: u32,
     pub request: DynamicRequest,
 }
 
@@ -29,6 +30,7 @@ pub extern "C" fn rei2_read_dynamic(frame: &[u8]) -> DynamicAnswer
         DynamicRead::Request(r) => DynamicAnswer {
             refusal: 0,
             offset: 0,
+            spoiled: 0,
             request: DynamicRequest {
                 address: r.address,
                 requester: r.requester,
@@ -51,6 +53,7 @@ pub extern "C" fn rei2_read_dynamic(frame: &[u8]) -> DynamicAnswer
             DynamicAnswer {
                 refusal: said.number,
                 offset: said.offset,
+                spoiled: said.spoiled,
                 request: no_dynamic(),
             }
         }

@@ -23,12 +23,13 @@ ghost use Rattle.desk.specs.Capture.{captureTold};
 ghost use Rattle.rei2.specs.Lent.{deskAnswer, captureAnswer, ResetLent, OpenLent, ReplyLent, CaptureLent};
 ghost use Rattle.rei2.specs.inside.Core.{CoreReset, CoreOpen, CoreReply, CoreCapture};
 
-// The state after the call; the refusal by its number, 0 if the call was done, and its offset; the seat, 0 if the call was refused.
+// The state after the call; the refusal by its number, 0 if the call was done, its offset, and the offset of the spoiled byte; the seat, 0 if the call was refused.
 #[repr(C)]
 pub struct DeskAnswer {
     pub desk: Desk,
     pub refusal: u32,
     pub offset: u32,
+    pub spoiled: u32,
     pub seat: u32,
 }
 
@@ -87,6 +88,7 @@ pub(crate) fn no_desk(desk: Desk) -> DeskAnswer
         desk,
         refusal: table::DESK,
         offset: 0,
+        spoiled: 0,
         seat: 0,
     }
 }
@@ -114,6 +116,7 @@ fn open_answer(desk: Desk, answer: OpenAnswer) -> DeskAnswer
             desk,
             refusal: 0,
             offset: 0,
+            spoiled: 0,
             seat,
         },
         OpenAnswer::Refused(refusal) => {
@@ -122,6 +125,7 @@ fn open_answer(desk: Desk, answer: OpenAnswer) -> DeskAnswer
                 desk,
                 refusal: said.number,
                 offset: said.offset,
+                spoiled: said.spoiled,
                 seat: 0,
             }
         }
@@ -136,6 +140,7 @@ fn reply_answer(desk: Desk, answer: ReplyAnswer) -> DeskAnswer
             desk,
             refusal: 0,
             offset: 0,
+            spoiled: 0,
             seat,
         },
         ReplyAnswer::Refused(refusal) => {
@@ -144,6 +149,7 @@ fn reply_answer(desk: Desk, answer: ReplyAnswer) -> DeskAnswer
                 desk,
                 refusal: said.number,
                 offset: said.offset,
+                spoiled: said.spoiled,
                 seat: 0,
             }
         }
@@ -177,6 +183,7 @@ pub(crate) fn reset_row(row: [Seat; SEATS], desk: Desk) -> Out
             desk: empty,
             refusal: 0,
             offset: 0,
+            spoiled: 0,
             seat: 0,
         },
     }

@@ -52,6 +52,7 @@ pub struct ReplyRecord {
 pub struct ReplyAnswer {
     pub refusal: u32,
     pub offset: u32,
+    pub spoiled: u32,
     pub reply: ReplyRecord,
 }
 
@@ -66,6 +67,7 @@ pub extern "C" fn rei2_read_reply(frame: &[u8]) -> ReplyAnswer
         ReadVerdict::Read => ReplyAnswer {
             refusal: 0,
             offset: 0,
+            spoiled: 0,
             reply: shown(record),
         },
         ReadVerdict::Refused(refusal) => {
@@ -73,6 +75,7 @@ pub extern "C" fn rei2_read_reply(frame: &[u8]) -> ReplyAnswer
             ReplyAnswer {
                 refusal: said.number,
                 offset: said.offset,
+                spoiled: said.spoiled,
                 reply: no_reply(),
             }
         }

@@ -18,6 +18,7 @@ ghost use Rattle.rei2.specs.Frames.{requestAnswer, zeroRequest, writtenA
 pub struct RequestAnswer {
     pub refusal: u32,
     pub offset: u32,
+    pub spoiled: u32,
     pub request: StaticRequest,
 }
 
@@ -38,6 +39,7 @@ pub extern "C" fn rei2_read_request(frame: &[u8]) -> RequestAnswer
         RequestRead::Request(r) => RequestAnswer {
             refusal: 0,
             offset: 0,
+            spoiled: 0,
             request: StaticRequest {
                 address: r.address,
                 requester: r.requester,
@@ -55,6 +57,7 @@ pub extern "C" fn rei2_read_request(frame: &[u8]) -> RequestAnswer
             RequestAnswer {
                 refusal: said.number,
                 offset: said.offset,
+                spoiled: said.spoiled,
                 request: no_request(),
             }
         }

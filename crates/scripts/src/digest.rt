@@ -18,10 +18,8 @@ pub fn take_small(digest: u64, x: u32) -> u64 {
 
 pub fn take_said(digest: u64, said: Said) -> u64 {
     let told = said.told;
-    take_small(
-        take_small(take_small(digest, told.number), told.offset),
-        said.seat,
-    )
+    let placed = take_small(take_small(digest, told.number), told.offset);
+    take_small(take_small(placed, told.spoiled), said.seat)
 }
 
 pub fn take_row(digest: u64, row: [Seat; SEATS]) -> u64 {

@@ -18,10 +18,11 @@ month-most m y = by-cases (eqb m 2) (leap y) (eqb m 4 || eqb m 6 || eqb m 9 || e
     by-cases false b true = omega arith
     by-cases false b false = omega arith
 
--- the highest day, month and year
+-- the highest day and month, and the least and the highest year
 pub record Bounds (d m y : ℕ) : Type 0 where
   pub day : d ≤ 31
   pub month : m ≤ 12
+  pub least : 2000 ≤ y
   pub year : y ≤ 2099
 
 pub day-bounds : (d m y : ℕ) → realDay d m y ≡ true → Bounds d m y
@@ -31,11 +32,13 @@ day-bounds d m y e =
     let b = and-eq-true-iff _ (leb 1 d) .0 (a .0) in
     let c = and-eq-true-iff _ (leb m 12) .0 (b .0) in
     let f = and-eq-true-iff (leb 2000 y && leb y 2099) (leb 1 m) .0 (c .0) in
+    let g = and-eq-true-iff (leb 2000 y) (leb y 2099) .0 (f .0) in
     let most = month-most m y in
     record {
       day = omega (arith, leb-true d (monthLength m y) (a .1));
       month = leb-true m 12 (c .1);
-      year = leb-true y 2099 (and-eq-true-iff (leb 2000 y) (leb y 2099) .0 (f .0) .1);
+      least = leb-true 2000 y (g .0);
+      year = leb-true y 2099 (g .1);
     }
 
 pub calendar-worked : CalendarWorked

@@ -198,8 +198,11 @@ impl Digest {
 
     fn take_call(&mut self, outcome: Result<usize, Refusal>) {
         let numbers = match outcome {
-            Ok(seat) => [0, 0, seat],
-            Err(refusal) => [refusal.number().into(), refusal.offset(), 0],
+            Ok(seat) => [0, 0, 0, seat],
+            Err(refusal) => {
+                let number = refusal.number().into();
+                [number, refusal.offset(), refusal.spoiled(), 0]
+            }
         };
         for number in numbers {
             self.take(number as u64);
@@ -334,18 +337,18 @@ mod tests {
         assert_eq!(digest, Digest(1_000_008));
         digest.take(u64::MAX);
         assert_eq!(digest, Digest(digest_of(&[5, u64::MAX])));
-        digest.take_call(Err(Refusal::Field(30)));
+        digest.take_call(Err(Refusal::Field(30, 32)));
         digest.take_call(Ok(15));
         assert_eq!(
             digest,
-            Digest(digest_of(&[5, u64::MAX, 5, 30, 0, 0, 0, 15]))
+            Digest(digest_of(&[5, u64::MAX, 5, 30, 32, 0, 0, 0, 0, 15]))
         );
     }
 
     #[test]
     fn two_words_without_letters() {
         for (pair, second) in [(BY_REQUESTER, [32, 65, 7]), (BY_ADDRESS, [48, 49, 7])] {
-            let mut numbers = vec![0, 0, 0, 0, 0, 1, 3, 0];
+            let mut numbers = vec![0, 0, 0, 0, 0, 0, 0, 1, 3, 0];
             numbers.extend([32, 49, 7, 0, 0]);
             numbers.extend(second);
             numbers.extend([0; 2 + 5 * 14]);
@@ -363,9 +366,9 @@ mod tests {
             (BY_REQUESTER, [32, 65, 7], by_requester),
             (BY_ADDRESS, [48, 49, 7], by_address),
         ] {
-            let mut numbers = vec![0, 0, 0, 0, 0, 1];
+            let mut numbers = vec![0, 0, 0, 0, 0, 0, 0, 1];
             // The stray, the damaged one, and the reply itself.
-            numbers.extend([13, 0, 0, 3, 0, 0, 0, 0, 1]);
+            numbers.extend([13, 0, 0, 0, 3, 0, 0, 0, 0, 0, 0, 1]);
             numbers.extend([3, 1, 32, 49, 7, 0, 0]);
             numbers.extend(second);
             numbers.extend([1, 1]);

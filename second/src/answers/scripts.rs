@@ -118,42 +118,42 @@ mod tests {
         check(&[
             ("used", "0"),
             ("held 0 0", "none"),
-            ("reset", "0 0 0 0 0"),
-            ("open -", "1 0 0 0 0"),
-            (OPEN, "0 0 0 1 0 seat 0 32 49 7 0 0"),
-            (OPEN, "11 0 0 1 0"),
-            (REPLY, "16 0 0 1 0"),
+            ("reset", "0 0 0 0 0 0"),
+            ("open -", "1 0 0 0 0 0"),
+            (OPEN, "0 0 0 0 1 0 seat 0 32 49 7 0 0"),
+            (OPEN, "11 0 0 0 1 0"),
+            (REPLY, "16 0 0 0 1 0"),
             ("used", "1"),
-            ("reset", "0 0 0 0 0 seat 0 0 0 0 0 0"),
-            (REPLY, "13 0 0 0 0"),
+            ("reset", "0 0 0 0 0 0 seat 0 0 0 0 0 0"),
+            (REPLY, "13 0 0 0 0 0"),
         ]);
     }
 
     #[test]
     fn a_taken_reply_shows_what_differs() {
         let frame = REPLY.strip_prefix("reply ").expect("a reply");
-        let taken = format!("0 0 0 1 1 seat 0 32 49 7 1 0 cells 0 {frame} marks 0 0");
-        let again = format!("0 0 0 1 2 seat 0 32 49 7 2 0 cells 51 {frame} marks 1 0");
+        let taken = format!("0 0 0 0 1 1 seat 0 32 49 7 1 0 cells 0 {frame} marks 0 0");
+        let again = format!("0 0 0 0 1 2 seat 0 32 49 7 2 0 cells 51 {frame} marks 1 0");
         check(&[
             ("lend 103 2", "2"),
-            (OPEN, "0 0 0 1 0 seat 0 32 49 7 0 0"),
+            (OPEN, "0 0 0 0 1 0 seat 0 32 49 7 0 0"),
             (REPLY, &taken),
             (REPLY, &again),
-            (REPLY, "16 0 0 1 2"),
+            (REPLY, "16 0 0 0 1 2"),
             ("held 0 0", "0"),
             ("held 0 1", "1"),
             ("held 0 2", "none"),
             ("held 1 0", "none"),
-            ("reset", "0 0 0 0 0 seat 0 0 0 0 0 0"),
-            (OPEN, "0 0 0 1 0 seat 0 32 49 7 0 0"),
+            ("reset", "0 0 0 0 0 0 seat 0 0 0 0 0 0"),
+            (OPEN, "0 0 0 0 1 0 seat 0 32 49 7 0 0"),
             // The cell and its mark hold these bytes already.
-            (REPLY, "0 0 0 1 1 seat 0 32 49 7 1 0"),
+            (REPLY, "0 0 0 0 1 1 seat 0 32 49 7 1 0"),
             ("cell 102 ff", "set"),
             ("cell 54 0102", "set"),
             ("mark 1 9", "set"),
             (
                 REPLY,
-                "0 0 0 1 2 seat 0 32 49 7 2 0 cells 54 534f marks 1 0",
+                "0 0 0 0 1 2 seat 0 32 49 7 2 0 cells 54 534f marks 1 0",
             ),
         ]);
     }
@@ -165,13 +165,13 @@ mod tests {
             ("lend 50 1", "0"),
             ("bits 9223372036854775807", "set"),
             ("used", "63"),
-            (OPEN, "9 0 0 9223372036854775807 0"),
+            (OPEN, "9 0 0 0 9223372036854775807 0"),
             ("bits 2", "set"),
             ("seat 1 53 48 5 0 0", "set"),
-            (OPEN, "0 0 0 3 0 seat 0 32 49 7 0 0"),
+            (OPEN, "0 0 0 0 3 0 seat 0 32 49 7 0 0"),
             ("count 1", "set"),
-            ("open 13", "9 0 0 3 1"),
-            ("reset", "0 0 0 0 0 seat 0 0 0 0 0 0 seat 1 0 0 0 0 0"),
+            ("open 13", "9 0 0 0 3 1"),
+            ("reset", "0 0 0 0 0 0 seat 0 0 0 0 0 0 seat 1 0 0 0 0 0"),
         ]);
     }
 
@@ -180,7 +180,7 @@ mod tests {
         for (word, pair) in [("mixes", BY_REQUESTER), ("mixes-by-address", BY_ADDRESS)] {
             let (played, digest) = pair.play(b"R", b"ZE");
             check(&[
-                (OPEN, "0 0 0 1 0 seat 0 32 49 7 0 0"),
+                (OPEN, "0 0 0 0 1 0 seat 0 32 49 7 0 0"),
                 (&format!("{word} R ZE"), &format!("{played} {digest}")),
                 ("used", "0"),
                 ("mark 7 1", "set"),

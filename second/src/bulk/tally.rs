@@ -37,7 +37,7 @@ impl Tally {
         }
     }
 
-    /// Takes one line of a damage answer: `PLACE COUNT*NUMBER.OFFSET COUNT*NUMBER.OFFSET ..`
+    /// Takes one line of a damage answer: `PLACE COUNT*NUMBER.OFFSET.SPOILED ..`
     fn take_damage(&mut self, line: &str) {
         for run in line.split(' ').skip(1) {
             if let Some((frames, outcome)) = run.split_once('*') {

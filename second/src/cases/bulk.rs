@@ -6,6 +6,7 @@ mod damages;
 mod reads;
 
 use super::frames::Number;
+use super::spoiled::{self, Field};
 use super::{dynamic, reply, request};
 use crate::random::Random;
 
@@ -24,6 +25,8 @@ struct Maker {
     numbers: &'static [Number],
     /// The offsets of the address and of the fields that are one letter each.
     letters: &'static [usize],
+    /// The fields of several bytes.
+    fields: &'static [Field],
     /// A good frame.
     good: fn(&mut Random) -> Vec<u8>,
     /// A frame with no, one or several random changes.
@@ -44,6 +47,7 @@ const REQUEST: Maker = Maker {
         crate::request::at::INFORMATION,
         crate::request::at::OUTPUT,
     ],
+    fields: &spoiled::request::FIELDS,
     good: |random| request::frame_of(&request::random_record(random)),
     befallen: request::random_frame,
     put_times: bounds::put_times_of_request,
@@ -61,6 +65,7 @@ const REPLY: Maker = Maker {
         crate::reply::at::REQUESTER,
         crate::reply::at::INFORMATION,
     ],
+    fields: &spoiled::reply::FIELDS,
     good: |random| reply::frame_of(&reply::random_record(random)),
     befallen: reply::random_frame,
     put_times: bounds::put_times_of_reply,
@@ -76,6 +81,7 @@ const DYNAMIC: Maker = Maker {
         crate::dynamic::at::ORDER,
         crate::dynamic::at::OUTPUT,
     ],
+    fields: &spoiled::dynamic::FIELDS,
     good: |random| dynamic::frame_of(&dynamic::random_record(random)),
     befallen: dynamic::random_frame,
     put_times: bounds::put_times_of_dynamic,

@@ -12,6 +12,7 @@ mod openings;
 mod random;
 mod replies;
 mod script;
+mod spoiled;
 
 use super::Cases;
 use crate::random::Random;
@@ -24,6 +25,7 @@ pub fn add_all(cases: &mut Cases, seed: u64) {
     clauses::add_all(cases);
     memory::add_all(cases);
     looks::add_all(cases);
+    spoiled::add_all(cases, &mut Random::new(seed, "desk spoiled"));
     random::add_all(cases, &mut Random::new(seed, "desk"));
     mixes::add_all(cases);
 }

@@ -396,7 +396,8 @@ mod tests {
     fn each_fault_is_refused_at_its_offset() {
         for (offset, wrong) in WRONG_FIELDS {
             let frame = replaced(PLUS, offset, wrong);
-            assert_eq!(Dynamic::read(&frame), Err(Refusal::Field(offset)));
+            let refusal = Dynamic::read(&frame).expect_err("a wrong field");
+            assert_eq!((refusal.number(), refusal.offset()), (5, offset));
         }
         for (offset, spoil) in SPOILS {
             let mut record = record_of(MINUS);

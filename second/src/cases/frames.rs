@@ -280,7 +280,7 @@ mod tests {
             assert_eq!(count(refusal), 2, "{refusal:?}");
         }
         assert_eq!(count(Refusal::Address), 5 + 2);
-        assert_eq!(count(Refusal::Field(3)), 3);
+        assert_eq!(count(Refusal::Field(3, 3)), 3);
     }
 
     #[test]

@@ -149,7 +149,7 @@ fn sixteen_seats_and_no_seventeenth() {
     check_refused(&desk, Refusal::NoAnswerDue, |desk| {
         desk.open(&request_for(b'P', 7, b'q'))
     });
-    check_refused(&desk, Refusal::Field(4), |desk| {
+    check_refused(&desk, Refusal::Field(4, 6), |desk| {
         desk.open(b"\x11R P00x00000q000000000S\r")
     });
 }
@@ -309,7 +309,7 @@ fn on_a_full_desk_the_other_refusals_go_first() {
         (reply(R, b'1', 7), Refusal::Full),
         (reply(E, b'1', 7), Refusal::Full),
         (reply(Z, b'z', 7), Refusal::Full),
-        (reply(b'X', b'z', 8), Refusal::Field(5)),
+        (reply(b'X', b'z', 8), Refusal::Field(5, 5)),
     ] {
         check_refused(&desk, refusal, |desk| desk.reply(&frame));
     }

@@ -58,10 +58,10 @@ impl Spec {
         single(self.numbers().into_iter().filter(|(name, _)| name == of).map(|(_, value)| value))
     }
 
-    /// Each refusal: `NAME = plain NUMBER` without an offset, or `NAME = placed NUMBER` with one.
+    /// Each refusal: `NAME = plain NUMBER` without an offset, `NAME = placed NUMBER` with one, or `NAME = spoiledAt NUMBER` with two.
     fn refused(&self) -> Vec<(String, u64)> {
         let number = |item: Vec<&str>| match item.as_slice() {
-            [name, "=", "plain" | "placed", value] => Some((name.to_string(), lex::number(value)?)),
+            [name, "=", "plain" | "placed" | "spoiledAt", value] => Some((name.to_string(), lex::number(value)?)),
             _ => None,
         };
         self.items().filter_map(number).collect()

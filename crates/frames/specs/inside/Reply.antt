@@ -14,6 +14,7 @@ use Rattle.frames.specs.declared.reply.ReplyHead.{ReplyHead}
 use Rattle.frames.specs.declared.reply.StaticReply.{StaticReply}
 use Rattle.frames.specs.declared.reply.ReplyRead.{ReplyRead}
 use Rattle.frames.specs.declared.reply.ReplyLabel.{ReplyLabel}
+use Rattle.frames.specs.declared.timing.TimingKind.{TimingKind}
 use Rattle.frames.specs.declared.timing.Seen.{Seen}
 use Rattle.frames.specs.Rules.{between, upTo, isRaw, isRequester}
 use Rattle.frames.specs.Status.{isStatus}
@@ -24,12 +25,13 @@ use Rattle.frames.specs.Timing.{timingKind}
 use Rattle.frames.specs.Reply.{isLetter, isReplyChannel, leastRun, zeroReply, labelOf}
 use Rattle.frames.specs.inside.Held.{orNone}
 use Rattle.frames.specs.inside.Timing.{seenOf, timingText}
+use Rattle.frames.specs.inside.Spoiled.{replyByte}
 
 abbrev pub refusedBy : ReadRefusal → ReplyRead
 refusedBy f = record { verdict = Refused f; reply = zeroReply }
 
-unfoldable pub judgedAs : StaticReply → ℕ → ReplyRead
-judgedAs r wrong = cond (eqb wrong 0) (record { verdict = Read; reply = r }) (refusedBy (Field (record { field = wrong })))
+unfoldable pub judgedAs : StaticReply → ℕ → ℕ → ReplyRead
+judgedAs r wrong spoiled = cond (eqb wrong 0) (record { verdict = Read; reply = r }) (refusedBy (Field (record { field = wrong; spoiled = spoiled })))
 
 -- the parts before time and date, as they are in a frame
 abbrev pub headAt : List ℕ → ReplyHead
@@ -46,9 +48,12 @@ headWrong h rest =
     (wrongUnless (between (leastRun (h .status)) 250 (h .run)) 20 (wrongUnless (upTo 999 (h .physical)) 23 (wrongUnless (isReplyChannel (h .channel)) 26
     (wrongUnless (isLetter (h .information)) 29 rest))))))))))
 
--- what the fields of a frame hold, wrong or not, and the offset of the first wrong one
+-- what the fields of a frame hold, wrong or not, and the offsets of the first wrong one and of the byte that spoils it
+abbrev pub kindAt : List ℕ → TimingKind
+kindAt s = timingKind (getD s 5 0) (getD s 29 0)
+
 abbrev pub seenIn : List ℕ → Seen
-seenIn s = seenOf (timingKind (getD s 5 0) (getD s 29 0)) s
+seenIn s = seenOf (kindAt s) s
 
 abbrev pub replyAt : List ℕ → StaticReply
 replyAt s = replyOf (headAt s) (seenIn s) (bytesOf s 48 2)
@@ -56,11 +61,14 @@ replyAt s = replyOf (headAt s) (seenIn s) (bytesOf s 48 2)
 abbrev pub wrongAt : List ℕ → ℕ
 wrongAt s = headWrong (headAt s) (seenIn s .wrong)
 
+abbrev pub spoiledByte : List ℕ → ℕ
+spoiledByte s = replyByte (kindAt s) s (wrongAt s)
+
 unfoldable pub fieldsRead : List ℕ → ReplyRead
-fieldsRead s = judgedAs (replyAt s) (wrongAt s)
+fieldsRead s = judgedAs (replyAt s) (wrongAt s) (spoiledByte s)
 
 unfoldable pub fieldsChecked : List ℕ → Told ReplyLabel
-fieldsChecked s = tried (eqb (wrongAt s) 0) (FIELD (wrongAt s)) (gives (labelOf (replyAt s)))
+fieldsChecked s = tried (eqb (wrongAt s) 0) (FIELD (wrongAt s) (spoiledByte s)) (gives (labelOf (replyAt s)))
 
 abbrev pub headText : ReplyHead → List ℕ
 headText h =

@@ -150,7 +150,7 @@ mod tests {
             let offset = match Record::read(&frame(maker, &mut random)) {
                 Ok(_) => 0,
                 Err(Refusal::Address) => ADDRESS,
-                Err(Refusal::Field(offset)) => offset,
+                Err(Refusal::Field(offset, _)) => offset,
                 Err(refusal) => panic!("{refusal:?}"),
             };
             *offsets.entry(offset).or_default() += 1;

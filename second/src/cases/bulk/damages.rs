@@ -1,6 +1,7 @@
 //! Damage cases: in a frame, each byte is changed to each value.
 
 use super::{bounds, frames_asked, Maker, MAKERS};
+use crate::cases::spoiled::change_field;
 use crate::random::Random;
 use crate::spelling::bytes_text;
 
@@ -27,7 +28,7 @@ fn case(maker: &Maker, random: &mut Random) -> String {
 }
 
 /// Usually a good frame or one with fields at their bounds. Once in eight times a byte of the frame
-/// is changed before it is damaged.
+/// is changed before it is damaged, and twice in eight times one of its fields.
 fn frame(maker: &Maker, random: &mut Random) -> Vec<u8> {
     match random.below(8) {
         0 => {
@@ -35,9 +36,17 @@ fn frame(maker: &Maker, random: &mut Random) -> Vec<u8> {
             change_byte(&mut frame, random);
             frame
         }
-        1..=3 => bounds::frame(maker, random),
+        1 | 2 => with_changed_field(maker, random),
+        3 | 4 => bounds::frame(maker, random),
         _ => (maker.good)(random),
     }
+}
+
+/// A good frame in which one to three bytes of one field are changed.
+pub fn with_changed_field(maker: &Maker, random: &mut Random) -> Vec<u8> {
+    let mut frame = (maker.good)(random);
+    change_field(&mut frame, maker.fields, random);
+    frame
 }
 
 /// Changes the byte at some place: to any byte, to a neighbour, by one bit, to a digit, or by
@@ -56,7 +65,14 @@ pub fn change_byte(frame: &mut [u8], random: &mut Random) {
 
 #[cfg(test)]
 mod tests {
+    use super::super::{DYNAMIC, REPLY, REQUEST};
     use super::*;
+    use crate::dynamic::Dynamic;
+    use crate::frame::Kind;
+    use crate::refusal::Refusal;
+    use crate::reply::Reply;
+    use crate::request::Request;
+    use std::collections::BTreeMap;
 
     #[test]
     fn they_are_as_many_as_fit() {
@@ -73,6 +89,36 @@ mod tests {
         let mut random = Random::new(1, "test");
         for (maker, length) in MAKERS.into_iter().zip([24, 51, 46]) {
             assert!((0..200).all(|_| frame(maker, &mut random).len() == length));
+        }
+    }
+
+    /// How many frames are refused for each pair of a field and its spoiled byte.
+    fn refused<Record: Kind>(maker: &Maker) -> BTreeMap<(usize, usize), usize> {
+        let mut random = Random::new(1, "test");
+        let mut counts = BTreeMap::new();
+        for _ in 0..6000 {
+            match Record::read(&with_changed_field(maker, &mut random)) {
+                Ok(_) => {}
+                Err(Refusal::Field(offset, spoiled)) => {
+                    *counts.entry((offset, spoiled)).or_default() += 1;
+                }
+                Err(refusal) => panic!("{refusal:?}"),
+            }
+        }
+        counts
+    }
+
+    /// Every byte of every field is the spoiled one, and often.
+    #[test]
+    fn every_byte_of_every_field_is_spoiled() {
+        for (maker, counts) in [
+            (&REQUEST, refused::<Request>(&REQUEST)),
+            (&REPLY, refused::<Reply>(&REPLY)),
+            (&DYNAMIC, refused::<Dynamic>(&DYNAMIC)),
+        ] {
+            let places = maker.fields.iter().map(|&(_, width)| width).sum();
+            assert_eq!(counts.len(), places, "{counts:?}");
+            assert!(counts.values().all(|&count| count > 10), "{counts:?}");
         }
     }
 }

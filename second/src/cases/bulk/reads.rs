@@ -1,6 +1,6 @@
 //! Plain reads. Each asks about one frame.
 
-use super::damages::change_byte;
+use super::damages::{change_byte, with_changed_field};
 use super::{bounds, Maker, MAKERS};
 use crate::frame::Kind;
 use crate::random::Random;
@@ -20,13 +20,14 @@ pub fn case(random: &mut Random) -> String {
 }
 
 fn frame(maker: &Maker, random: &mut Random) -> Vec<u8> {
-    match random.below(16) {
+    match random.below(20) {
         0..=2 => (maker.good)(random),
         3..=6 => bounds::frame(maker, random),
-        7..=9 => slightly_damaged(maker, random),
-        10..=12 => (maker.befallen)(random),
-        13 => of_any_length(maker, random),
-        14 => of_any_bytes(maker, random),
+        7..=10 => with_changed_field(maker, random),
+        11..=13 => slightly_damaged(maker, random),
+        14..=16 => (maker.befallen)(random),
+        17 => of_any_length(maker, random),
+        18 => of_any_bytes(maker, random),
         _ => of_any_kind(random),
     }
 }

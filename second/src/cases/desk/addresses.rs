@@ -238,36 +238,38 @@ mod tests {
     use super::*;
     use crate::cases::desk::script::tests::outcomes;
 
-    const IN_USE: &str = "11 0 0";
-    const STRAY: &str = "13 0 0";
-    const NO_DESK: [&str; 2] = ["9 0 0"; 2];
+    const IN_USE: &str = "11 0 0 0";
+    const STRAY: &str = "13 0 0 0";
+    const NO_DESK: [&str; 2] = ["9 0 0 0"; 2];
     const DESK: [&str; 2] = [IN_USE, STRAY];
 
     #[test]
     fn eleven_requests_have_eleven_seats() {
         let answers = outcomes(add_eleven);
         for (seat, pair) in answers[1..23].chunks(2).enumerate() {
-            assert_eq!(pair, [format!("0 0 {seat}"), IN_USE.to_string()]);
+            assert_eq!(pair, [format!("0 0 0 {seat}"), IN_USE.to_string()]);
         }
         assert_eq!(answers[23], "11");
         for (reply, answer) in answers[24..34].iter().enumerate() {
-            assert_eq!(answer, &format!("0 0 {}", 10 - reply));
+            assert_eq!(answer, &format!("0 0 0 {}", 10 - reply));
         }
         for (seat, answer) in answers[35..45].iter().enumerate() {
-            assert_eq!(answer, &format!("0 0 {seat}"));
+            assert_eq!(answer, &format!("0 0 0 {seat}"));
         }
-        assert_eq!(answers[45], "16 0 0");
-        let ended = ["14 0 0", IN_USE, "10 0 0"];
-        let held = ["15 0 0", IN_USE, "10 0 0"];
+        assert_eq!(answers[45], "16 0 0 0");
+        let ended = ["14 0 0 0", IN_USE, "10 0 0 0"];
+        let held = ["15 0 0 0", IN_USE, "10 0 0 0"];
         assert_eq!(answers[46..55], [ended, ended, held].concat());
         assert_eq!(answers[55..61], ["10", "11", "9", "12", "0", "none"]);
-        assert_eq!(answers[61..], ["0 0 0", STRAY]);
+        assert_eq!(answers[61..], ["0 0 0 0", STRAY]);
     }
 
     #[test]
     fn a_space_is_not_a_zero() {
         let answers = outcomes(add_space_and_zero);
-        let expected = ["3", "0 0 0", STRAY, "0 0 1", "0 0 1", "0 0 0", "14 0 0"];
+        let expected = [
+            "3", "0 0 0 0", STRAY, "0 0 0 1", "0 0 0 1", "0 0 0 0", "14 0 0 0",
+        ];
         assert_eq!(answers, [expected, expected].concat());
     }
 
@@ -275,20 +277,20 @@ mod tests {
     fn other_addresses_are_strays_or_refused() {
         let answers = outcomes(add_other_addresses);
         assert_eq!(answers[3..12], [STRAY; 9]);
-        assert_eq!(answers[12..22], ["4 0 0"; 10]);
-        assert_eq!(answers[22..], ["0 0 0", "0 0 1"]);
+        assert_eq!(answers[12..22], ["4 0 0 0"; 10]);
+        assert_eq!(answers[22..], ["0 0 0 0", "0 0 0 1"]);
     }
 
     #[test]
     fn sixteen_seats_are_in_use() {
         let answers = outcomes(add_sixteen);
-        let calls = ["12 0 0", "12 0 0", IN_USE, IN_USE, IN_USE, STRAY, STRAY];
+        let calls = ["12 0 0 0", "12 0 0 0", IN_USE, IN_USE, IN_USE, STRAY, STRAY];
         assert_eq!(answers[17], "16");
         assert_eq!(answers[18..25], calls);
         for (reply, answer) in answers[25..41].iter().enumerate() {
-            assert_eq!(answer, &format!("0 0 {}", 15 - reply));
+            assert_eq!(answer, &format!("0 0 0 {}", 15 - reply));
         }
-        assert_eq!(answers[41..], ["0 0 0", "0"]);
+        assert_eq!(answers[41..], ["0 0 0 0", "0"]);
     }
 
     #[test]
@@ -318,9 +320,9 @@ mod tests {
         let answers = outcomes(add_unused_seats);
         let (spoiled, rest) = answers[2..].split_at(4 * 5);
         for lines in spoiled.chunks(4) {
-            assert_eq!(lines, ["set", "9 0 0", "9 0 0", "set"]);
+            assert_eq!(lines, ["set", "9 0 0 0", "9 0 0 0", "set"]);
         }
-        assert_eq!(rest, [IN_USE, STRAY, "set", "0 0 0", "0 0 0"]);
+        assert_eq!(rest, [IN_USE, STRAY, "set", "0 0 0 0", "0 0 0 0"]);
     }
 
     #[test]
@@ -329,13 +331,13 @@ mod tests {
         let after: Vec<bool> = answers[5..]
             .windows(2)
             .filter(|pair| pair[0] == "set" && pair[1] != "set")
-            .map(|pair| pair[1] != "9 0 0")
+            .map(|pair| pair[1] != "9 0 0 0")
             .collect();
         let mended = [
             false, true, false, false, false, true, false, false, false, false,
         ];
         assert_eq!(after[..10], mended);
         let rest = &answers[answers.len() - 3..];
-        assert_eq!(rest, [IN_USE, STRAY, "0 0 0"]);
+        assert_eq!(rest, [IN_USE, STRAY, "0 0 0 0"]);
     }
 }

@@ -14,6 +14,7 @@ use super::frames::{
 };
 use super::script::Script;
 use crate::cases::frames::{befall_at_random, random_address};
+use crate::cases::spoiled::{self, change_field};
 use crate::cases::{reply, request, Cases};
 use crate::desk::{Seat, CELL};
 use crate::random::Random;
@@ -116,21 +117,25 @@ fn add_call(script: &mut Script, keys: &[Key], random: &mut Random) {
 /// A request with something wrong. Sometimes it is still good.
 fn wrong_request(random: &mut Random, own: Key) -> Vec<u8> {
     let mut frame = random_request(random, own);
-    if random.once_in(2) {
-        return patched(&frame, random.pick(&REQUEST_DAMAGES));
+    match random.below(3) {
+        0 => return patched(&frame, random.pick(&REQUEST_DAMAGES)),
+        1 => change_field(&mut frame, &spoiled::request::FIELDS, random),
+        _ => befall_at_random(&mut frame, &request::NUMBERS, random),
     }
-    befall_at_random(&mut frame, &request::NUMBERS, random);
     frame
 }
 
 /// A reply with something wrong. Sometimes it is still good.
 fn wrong_reply(random: &mut Random, own: Key) -> Vec<u8> {
-    if random.once_in(2) {
-        let frame = reply_with_bib(R, own, random.place(60_000));
-        return patched(&frame, random.pick(&REPLY_DAMAGES));
-    }
     let mut frame = random_reply(random, R, own);
-    befall_at_random(&mut frame, &reply::NUMBERS, random);
+    match random.below(3) {
+        0 => {
+            let frame = reply_with_bib(R, own, random.place(60_000));
+            return patched(&frame, random.pick(&REPLY_DAMAGES));
+        }
+        1 => change_field(&mut frame, &spoiled::reply::FIELDS, random),
+        _ => befall_at_random(&mut frame, &reply::NUMBERS, random),
+    }
     frame
 }
 

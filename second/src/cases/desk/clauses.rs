@@ -186,10 +186,10 @@ mod tests {
         assert_eq!(after_laying.len(), 4 * breaks.len());
         for (spoils, calls) in breaks.iter().zip(after_laying.chunks(4)) {
             let expected = [
-                (false, "9 0 0"),
-                (true, "9 0 0"),
-                (false, "0 0 4"),
-                (true, "0 0 1"),
+                (false, "9 0 0 0"),
+                (true, "9 0 0 0"),
+                (false, "0 0 0 4"),
+                (true, "0 0 0 1"),
             ];
             let expected = expected.map(|(is_reply, answer)| (is_reply, answer.to_string()));
             assert_eq!(calls, expected, "{spoils:?}");
@@ -202,7 +202,7 @@ mod tests {
         let after_laying = &calls[KEYS.len() + RECORDS.len()..];
         assert_eq!(after_laying.len(), 2 * harmless().len());
         for (_, answer) in after_laying {
-            assert!(answer.starts_with("0 0 "), "{answer}");
+            assert!(answer.starts_with("0 0 0 "), "{answer}");
         }
     }
 
@@ -211,10 +211,10 @@ mod tests {
         let calls = calls(add_no_desk_and_more);
         let answers: Vec<&str> = calls.iter().map(|(_, answer)| answer.as_str()).collect();
         let (laid, rest) = answers.split_at(KEYS.len() + RECORDS.len());
-        assert!(laid.iter().all(|answer| answer.starts_with("0 0 ")));
+        assert!(laid.iter().all(|answer| answer.starts_with("0 0 0 ")));
         let (refused, last) = rest.split_at(6 + 7 + 2);
-        assert!(refused.iter().all(|answer| *answer == "9 0 0"));
-        assert_eq!(last, ["12 0 0", "16 0 0"]);
+        assert!(refused.iter().all(|answer| *answer == "9 0 0 0"));
+        assert_eq!(last, ["12 0 0 0", "16 0 0 0"]);
     }
 
     #[test]
@@ -222,9 +222,9 @@ mod tests {
         let calls = calls(add_short_memory);
         for script in calls.chunks(9) {
             let answers: Vec<&str> = script.iter().map(|(_, answer)| answer.as_str()).collect();
-            assert_eq!(answers[..3], ["0 0 0"; 3]);
-            assert_eq!(answers[3..7], ["9 0 0"; 4]);
-            assert_eq!(answers[7..], ["0 0 1", "16 0 0"]);
+            assert_eq!(answers[..3], ["0 0 0 0"; 3]);
+            assert_eq!(answers[3..7], ["9 0 0 0"; 4]);
+            assert_eq!(answers[7..], ["0 0 0 1", "16 0 0 0"]);
         }
     }
 
@@ -232,6 +232,6 @@ mod tests {
     fn keys_far_apart() {
         let calls = calls(add_shared_keys_far_apart);
         let answers: Vec<&str> = calls.iter().map(|(_, answer)| answer.as_str()).collect();
-        assert_eq!(answers, ["0 0 1", "0 0 15", "9 0 0", "9 0 0"]);
+        assert_eq!(answers, ["0 0 0 1", "0 0 0 15", "9 0 0 0", "9 0 0 0"]);
     }
 }

@@ -164,9 +164,9 @@ mod tests {
     #[test]
     fn a_desk_without_cells() {
         let expected = [
-            "0", "none", "none", "0 0 0", "1 0 0", "13 0 0", "0 0 0", "11 0 0", "10 0 0", "16 0 0",
-            "16 0 0", "16 0 0", "5 5 0", "1", "set", "none", "9 0 0", "9 0 0", "set", "0 0 1",
-            "0 0 0", "0",
+            "0", "none", "none", "0 0 0 0", "1 0 0 0", "13 0 0 0", "0 0 0 0", "11 0 0 0",
+            "10 0 0 0", "16 0 0 0", "16 0 0 0", "16 0 0 0", "5 5 5 0", "1", "set", "none",
+            "9 0 0 0", "9 0 0 0", "set", "0 0 0 1", "0 0 0 0", "0",
         ];
         assert_eq!(outcomes(add_nothing_lent), expected);
     }
@@ -185,10 +185,10 @@ mod tests {
     #[test]
     fn small_desks_are_full_at_their_capacity() {
         let answers = outcomes(add_small_desks);
-        let fulls = answers.iter().filter(|answer| *answer == "16 0 0");
+        let fulls = answers.iter().filter(|answer| *answer == "16 0 0 0");
         assert_eq!(fulls.count(), 12);
         // Capacities 0, 1 and 2 occur five, four and three times.
-        let taken = answers.iter().filter(|answer| *answer == "0 0 0");
+        let taken = answers.iter().filter(|answer| *answer == "0 0 0 0");
         assert_eq!(taken.count(), 12 + 4 + 2 * 3);
     }
 
@@ -196,21 +196,21 @@ mod tests {
     fn a_filled_desk() {
         let answers = outcomes(add_filled_desk);
         let (filling, rest) = answers[4..].split_at(MOST_CELLS);
-        assert!(filling.iter().all(|answer| answer.starts_with("0 0 ")));
+        assert!(filling.iter().all(|answer| answer.starts_with("0 0 0 ")));
         assert_eq!(
             rest[..7],
-            ["13 0 0", "14 0 0", "14 0 0", "15 0 0", "16 0 0", "16 0 0", "11 0 0"]
+            ["13 0 0 0", "14 0 0 0", "14 0 0 0", "15 0 0 0", "16 0 0 0", "16 0 0 0", "11 0 0 0"]
         );
         assert_eq!(
             rest[7..16],
             ["0", "3", "254", "255", "none", "253", "none", "20", "none"]
         );
-        assert_eq!(rest[20..23], ["9 0 0", "9 0 0", "none"]);
+        assert_eq!(rest[20..23], ["9 0 0 0", "9 0 0 0", "none"]);
         assert_eq!(
             rest[25..],
             [
-                "0 0 3", "16 0 0", "set", "9 0 0", "set", "set", "9 0 0", "set", "16 0 0", "0 0 0",
-                "none", "0 0 0", "0 0 0",
+                "0 0 0 3", "16 0 0 0", "set", "9 0 0 0", "set", "set", "9 0 0 0", "set",
+                "16 0 0 0", "0 0 0 0", "none", "0 0 0 0", "0 0 0 0",
             ]
         );
     }

@@ -101,7 +101,9 @@ mod tests {
                 cases.add_to_script(mixes);
                 add_desk_afterwards(cases);
             });
-            let expected = ["0", "0 0 0", "0 0 0", "set", "1", "7", "none", "0 0 0"];
+            let expected = [
+                "0", "0 0 0 0", "0 0 0 0", "set", "1", "7", "none", "0 0 0 0",
+            ];
             assert_eq!(answers[2..], expected);
         }
     }

@@ -153,12 +153,14 @@ mod tests {
     #[test]
     fn keys_are_free_once() {
         let answers = outcomes(add_keys);
-        let seats: Vec<String> = (0..9).map(|seat| format!("0 0 {seat}")).collect();
+        let seats: Vec<String> = (0..9).map(|seat| format!("0 0 0 {seat}")).collect();
         assert_eq!(answers[1..10], seats);
-        assert!(answers[11..20].iter().all(|answer| answer == "11 0 0"));
-        let rest = ["0 0 1", "11 0 0", "0 0 2", "11 0 0", "0 0 0", "11 0 0"];
+        assert!(answers[11..20].iter().all(|answer| answer == "11 0 0 0"));
+        let rest = [
+            "0 0 0 1", "11 0 0 0", "0 0 0 2", "11 0 0 0", "0 0 0 0", "11 0 0 0",
+        ];
         assert_eq!(answers[20..26], rest);
-        assert_eq!(answers[26], "0 0 9");
+        assert_eq!(answers[26], "0 0 0 9");
     }
 
     #[test]
@@ -166,16 +168,20 @@ mod tests {
         let answers = outcomes(add_letters);
         let (letters, rest) = answers[1..].split_at(2 * INFORMATION.len());
         for (&letter, answers) in INFORMATION.iter().zip(letters.chunks(2)) {
-            let expected = if letter == b'q' { "10 0 0" } else { "0 0 0" };
-            assert_eq!(answers, [expected, "0 0 0"]);
+            let expected = if letter == b'q' {
+                "10 0 0 0"
+            } else {
+                "0 0 0 0"
+            };
+            assert_eq!(answers, [expected, "0 0 0 0"]);
         }
-        assert_eq!(rest, ["0 0 0", "10 0 0", "10 0 0"]);
+        assert_eq!(rest, ["0 0 0 0", "10 0 0 0", "10 0 0 0"]);
     }
 
     #[test]
     fn other_fields_do_not_tell_requests_apart() {
         let answers = outcomes(add_other_fields);
-        assert_eq!(answers[1..], ["0 0 0", "11 0 0", "0 0 1", "0 0 2"]);
+        assert_eq!(answers[1..], ["0 0 0 0", "11 0 0 0", "0 0 0 1", "0 0 0 2"]);
     }
 
     #[test]
@@ -185,12 +191,18 @@ mod tests {
         let (first, rest) = answers[2..].split_at(refused);
         let (second, rest) = rest.split_at(refused);
         assert_eq!(first, second);
-        assert_eq!(rest[..3], ["1 0 0", "1 0 0", "0 0 1"]);
+        assert_eq!(rest[..3], ["1 0 0 0", "1 0 0 0", "0 0 0 1"]);
         let (third, last) = rest[3 + 1 + SEATS + 1..].split_at(refused);
         assert_eq!(first, third);
-        assert_eq!(last, ["12 0 0"]);
+        assert_eq!(last, ["12 0 0 0"]);
         for expected in [
-            "1 0 0", "2 0 0", "3 0 0", "4 0 0", "5 3 0", "5 13 0", "5 22 0",
+            "1 0 0 0",
+            "2 0 0 0",
+            "3 0 0 0",
+            "4 0 0 0",
+            "5 3 3 0",
+            "5 13 13 0",
+            "5 22 22 0",
         ] {
             assert!(first.iter().any(|answer| answer == expected), "{expected}");
         }
@@ -200,8 +212,9 @@ mod tests {
     fn the_seventeenth_is_refused_last() {
         let answers = outcomes(add_seventeen);
         let expected = [
-            "12 0 0", "11 0 0", "10 0 0", "11 0 0", "10 0 0", "11 0 0", "10 0 0", "10 0 0",
-            "0 0 15", "0 0 0", "11 0 0", "12 0 0", "0 0 0", "0", "0 0 0", "0 0 1",
+            "12 0 0 0", "11 0 0 0", "10 0 0 0", "11 0 0 0", "10 0 0 0", "11 0 0 0", "10 0 0 0",
+            "10 0 0 0", "0 0 0 15", "0 0 0 0", "11 0 0 0", "12 0 0 0", "0 0 0 0", "0", "0 0 0 0",
+            "0 0 0 1",
         ];
         assert_eq!(answers[1 + 2 * SEATS..], expected);
     }
@@ -210,13 +223,13 @@ mod tests {
     fn gaps_are_filled_from_below() {
         let answers = outcomes(add_gaps);
         // Seats 0, 2 and 3 are in use.
-        assert_eq!(answers[5..9], ["0 0 1", "0 0 4", "0 0 5", "0 0 6"]);
+        assert_eq!(answers[5..9], ["0 0 0 1", "0 0 0 4", "0 0 0 5", "0 0 0 6"]);
         // Six of the desks have at most eight gaps. On each of them the last request finds no seat.
         let of_many: Vec<&String> = answers
             .iter()
-            .filter(|answer| *answer == "12 0 0")
+            .filter(|answer| *answer == "12 0 0 0")
             .collect();
         assert_eq!(of_many.len(), 6);
-        assert!(answers.contains(&"0 0 15".to_string()));
+        assert!(answers.contains(&"0 0 0 15".to_string()));
     }
 }

@@ -152,12 +152,12 @@ pub mod tests {
     use crate::answers;
     use crate::cases::desk::frames::{reply, R};
 
-    /// The answers to these cases. Of calls only the number, the offset and the seat.
+    /// The answers to these cases. Of calls only the refusal, which is three numbers, and the seat.
     pub fn outcomes(add: impl FnOnce(&mut Cases)) -> Vec<String> {
         let mut cases = Cases::default();
         add(&mut cases);
         let answers = answers::file(cases.text.as_bytes()).expect("cases");
-        let outcome = |line: &str| line.split(' ').take(3).collect::<Vec<_>>().join(" ");
+        let outcome = |line: &str| line.split(' ').take(4).collect::<Vec<_>>().join(" ");
         answers.lines().map(outcome).collect()
     }
 

@@ -4,6 +4,7 @@ use Rattle.frames.proofs.dynamic.read_dynamic.Statement.{statement}
 use Rattle.frames.proofs.dynamic.read_dynamic.Tie as tie
 use Rattle.frames.specs.Dynamic.{dynamic}
 use Rattle.frames.specs.inside.Held.{dynamicAt}
+use Rattle.frames.specs.inside.Spoiled.{dynamicByte}
 use Rattle.frames.proofs.KindLaws.{read-head, read-record}
 use Rattle.frames.proofs.DynamicLaws.{sees-dynamic}
 
@@ -24,7 +25,7 @@ enum-known-refusal c = search needs
 
 returns : tie.Need-returns
 returns c =
-    read-record dynamic dynamicAt sees-dynamic _ _ (c .before .dynamic-at .ensures) _ _ (c .before .before .enum-told .given .1) (c .before .before .before .before .head-of .ensures) (c .judged .ensures)
+    read-record dynamic dynamicAt dynamicByte sees-dynamic _ _ (c .before .dynamic-at .ensures) _ _ (c .before .before .enum-told .given .1) (c .before .before .before .before .head-of .ensures) (c .judged .ensures)
 
 returns-2 : tie.Need-returns-2
 returns-2 c = read-head dynamic _ _ _ (c .before .refusal .given .1) (c .before .before .before .head-of .ensures)

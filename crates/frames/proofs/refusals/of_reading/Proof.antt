@@ -31,8 +31,8 @@ plain-requires-4 c κs = search needs
 enum-known-refusal : tie.Need-enum-known-refusal
 enum-known-refusal c = search needs
 
-placed-requires : tie.Need-placed-requires
-placed-requires c κs = search needs
+of-field-requires : tie.Need-of-field-requires
+of-field-requires c κs = search needs
 
 returns : tie.Need-returns
 returns c = rw (c .plain .ensures, c .before .enum-told .given .1) refl
@@ -47,7 +47,7 @@ returns-4 : tie.Need-returns-4
 returns-4 c = rw (c .plain4 .ensures, c .before .enum-told4 .given .1) refl
 
 returns-5 : tie.Need-returns-5
-returns-5 c = rw (c .placed .ensures, c .before .before .refusal .given .1) refl
+returns-5 c = rw (c .of-field .ensures, c .before .before .refusal .given .1) refl
 
 pub of-reading-spec : {M : Type 1} → statement M
 of-reading-spec =
@@ -62,7 +62,7 @@ of-reading-spec =
     enum-told-4
     plain-requires-4
     enum-known-refusal
-    placed-requires
+    of-field-requires
     returns
     returns-2
     returns-3

@@ -148,7 +148,7 @@ same-length-6 : tie.Need-same-length-6
 same-length-6 c = search needs
 
 returns-6 : tie.Need-returns-6
-returns-6 c = named _ _ _ _ _ (ap nameOf (c .before .before .before .before .before .match .keys6) ∙ names-tell .field 0) (c .before .before .put-name6 .ensures)
+returns-6 c = named _ _ _ _ _ (ap nameOf (c .before .before .before .before .before .match .keys6) ∙ names-tell .field 0 0) (c .before .before .put-name6 .ensures)
 
 same-length-7 : tie.Need-same-length-7
 same-length-7 c = search needs

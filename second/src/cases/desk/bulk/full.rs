@@ -74,8 +74,8 @@ mod tests {
     fn desks_are_full_and_seats_are_few() {
         let mut random = Random::new(1, "test");
         let answers = outcomes(|cases| (0..60).for_each(|_| add(cases, &mut random)));
-        assert!(often("12 0 ", &answers), "NO SEAT");
-        assert!(often("16 0 ", &answers), "FULL");
+        assert!(often("12 0 0 ", &answers), "NO SEAT");
+        assert!(often("16 0 0 ", &answers), "FULL");
     }
 
     #[test]

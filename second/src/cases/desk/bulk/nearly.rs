@@ -163,7 +163,7 @@ mod tests {
         let first_calls =
             (1..lines.len()).filter(|&place| is_call(lines[place]) && answers[place - 1] == "set");
         let (no_desk, desk): (Vec<usize>, Vec<usize>) =
-            first_calls.partition(|&place| answers[place] == "9 0 0");
+            first_calls.partition(|&place| answers[place] == "9 0 0 0");
         let all = no_desk.len() + desk.len();
         assert!(all > 500, "{all}");
         assert!(

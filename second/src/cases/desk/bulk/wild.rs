@@ -98,7 +98,7 @@ mod tests {
         let mut random = Random::new(1, "test");
         let answers = outcomes(|cases| (0..200).for_each(|_| add(cases, &mut random)));
         let count = |outcome: &str| answers.iter().filter(|&answer| answer == outcome).count();
-        assert!(count("9 0 0") > 200);
+        assert!(count("9 0 0 0") > 200);
         assert!(count("none") > 100);
         // Looks that find a cell.
         assert!(count("0") + count("1") + count("2") > 100);
