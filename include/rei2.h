@@ -90,7 +90,7 @@ enum rei2_refusal {
     REI2_LENGTH = 2,         /* the frame does not have the length of its kind */
     REI2_END = 3,            /* the last byte is not CR */
     REI2_ADDRESS = 4,        /* byte 1 is not R, or byte 2 is neither a space nor 0 to 9 */
-    REI2_FIELD = 5,          /* a field is wrong; offset: where the first wrong one begins; spoiled: its spoiled byte */
+    REI2_FIELD = 5,          /* a field is wrong; offset: where the first one begins; spoiled: where it is spoiled */
     REI2_RECORD = 6,         /* a part of the record is wrong; offset: where the first wrong part would be written */
     REI2_ROOM = 7,           /* the output is too short */
     REI2_TIME = 8,           /* a number of the running time is out of range */

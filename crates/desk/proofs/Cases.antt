@@ -5,7 +5,7 @@ use Rattle.digits.specs.Text.{oneOf}
 use Rattle.frames.specs.Rules.{between, upTo, isAddress, isRaw, isRequester, isOutput}
 use Rattle.frames.specs.Status.{isStatus}
 use Rattle.frames.specs.Shape.{allFrom}
-use Rattle.frames.specs.Shown.{digitFrom, firstOff}
+use Rattle.frames.specs.Classes.{digitFrom, firstOff}
 use Rattle.frames.specs.Layout.{fieldsOf}
 use Rattle.frames.specs.Kind.{headTold, read}
 use Rattle.frames.specs.Timing.{timingKind, timed}

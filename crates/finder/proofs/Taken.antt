@@ -19,7 +19,7 @@ use Rattle.frames.specs.declared.reply.StaticReply.{StaticReply}
 use Rattle.frames.specs.Rules.{between, space, isAddress, isRaw, isRequester, isOutput}
 use Rattle.frames.specs.Status.{isStatus}
 use Rattle.frames.specs.Shape.{number, bytesOf, allFrom}
-use Rattle.frames.specs.Shown.{Places}
+use Rattle.frames.specs.Classes.{Classes}
 use Rattle.frames.specs.Field.{Field, letter, numberTo, timeOfDay}
 use Rattle.frames.specs.Layout.{Layout, field, suits, end, recordWrong, write, within}
 use Rattle.frames.specs.Kind.{Kind, CR, letterR, read, wrongIn, frameOf, writeTried}
@@ -111,7 +111,7 @@ module _ {R : Type 0} {at : ℕ} where
     letter-printed : T (ltb 0 at) → ((v : ℕ) → rule v ≡ true → isRaw v ≡ true) → ((v : ℕ) → rule v ≡ true → Printed (next v)) → Printed (field at (letter rule) part next)
     letter-printed some raw rest = printed some (λ v q. and-true (raw v q) refl) rest
 
-    number-printed : {places : Places} (w : ℕ) → T (ltb 0 at) → ((v : ℕ) → rule v ≡ true → Printed (next v)) → Printed (field at (record { shape = number w; rule = rule; places = places }) part next)
+    number-printed : {classes : Classes} (w : ℕ) → T (ltb 0 at) → ((v : ℕ) → rule v ≡ true → Printed (next v)) → Printed (field at (record { shape = number w; rule = rule; classes = classes }) part next)
     number-printed w some rest = printed some (λ v _. digits-raw w v) rest
 
   time-printed : {part : R → ℕ} {next : ℕ → Layout R} → T (ltb 0 at) → ((v : ℕ) → isTime v ≡ true → Printed (next v)) → Printed (field at timeOfDay part next)

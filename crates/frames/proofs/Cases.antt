@@ -11,7 +11,7 @@ use Rattle.frames.specs.Layout.{fieldsOf, recordWrong, write}
 use Rattle.frames.specs.Kind.{headTold, read, wrongIn, frameOf, writeTried}
 use Rattle.frames.specs.Status.{isStatus}
 use Rattle.frames.specs.Shape.{allFrom}
-use Rattle.frames.specs.Shown.{digitFrom, firstOff}
+use Rattle.frames.specs.Classes.{digitFrom, firstOff}
 use Rattle.frames.specs.Request as Q
 use Rattle.frames.specs.Timing.{timingKind, isSign, timed}
 use Rattle.frames.specs.Reply as P

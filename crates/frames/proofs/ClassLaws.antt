@@ -1,6 +1,6 @@
 -- The search for the byte that spoils a field, as the code makes it: class by class. Assumes nothing.
 use Prim.Native.Nat.{ℕ, suc, _+_, _≤_, _<_}
-use mathlib.Core.List.{List, [], _∷_}
+use mathlib.Core.List.{List}
 use mathlib.Core.Bool.{Bool, true, false, true≢false, false≢true, cond, not}
 use mathlib.Core.Path.{_≡_, refl, sym, ap, _∙_}
 use native.Mathlib.Omega.{arith}
@@ -11,8 +11,8 @@ use lib.ListN.{length, getD, drop, drop-of-length-le}
 use lib.Seq.{drop-cons}
 use Rattle.digits.proofs.Tests.{by-less}
 use Rattle.frames.specs.Rules.{between}
-use Rattle.frames.specs.Shown.{Places, firstOff}
-use Rattle.frames.specs.inside.Spoiled.{inClass, classes}
+use Rattle.frames.specs.Classes.{firstOff}
+use Rattle.frames.specs.inside.Spoiled.{inClass, classesOf}
 
 -- a range of one number
 pub alone : (n b : ℕ) → eqb b n ≡ between n n b
@@ -24,15 +24,15 @@ alone n b =
 
 -- what is left to look at from place i of the field on
 abbrev pub left : List ℕ → ℕ → List ℕ → ℕ → ℕ
-left s at text i = firstOff (classes (drop i text)) s (at + i) at
+left s at text i = firstOff (classesOf (drop i text)) s (at + i) at
 
-pub look-first : (s : List ℕ) (at : ℕ) (text : List ℕ) → firstOff (classes text) s at at ≡ left s at text 0
+pub look-first : (s : List ℕ) (at : ℕ) (text : List ℕ) → firstOff (classesOf text) s at at ≡ left s at text 0
 look-first s at text = rw (add-zero at)
 
 module _ (s : List ℕ) (at : ℕ) (text : List ℕ) (i : ℕ) where
-  look : (n p : ℕ) → n ≡ suc i → p ≡ suc (at + i) → i < length text → left s at text i ≡ cond (inClass (getD text i 0) (getD s (at + i) 0)) (firstOff (classes (drop n text)) s p at) (at + i)
+  look : (n p : ℕ) → n ≡ suc i → p ≡ suc (at + i) → i < length text → left s at text i ≡ cond (inClass (getD text i 0) (getD s (at + i) 0)) (firstOff (classesOf (drop n text)) s p at) (at + i)
   unfolding firstOff
-  look n p e f h = rw (e, f) (ap (λ (t : List ℕ). firstOff (classes t) s (at + i) at) (drop-cons text i 0 h))
+  look n p e f h = rw (e, f) (ap (λ (t : List ℕ). firstOff (classesOf t) s (at + i) at) (drop-cons text i 0 h))
 
   module _ (class b : ℕ) (t : Bool) (is-class : class ≡ getD text i 0) (is-b : b ≡ getD s (at + i) 0) (is-t : t ≡ inClass class b) where
     pub look-on : i < length text → not t ≡ false → left s at text i ≡ left s at text (i + 1)

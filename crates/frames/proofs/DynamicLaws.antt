@@ -12,7 +12,7 @@ use Rattle.digits.proofs.Writing.{sets-append, length-digits}
 use Rattle.times.specs.Clock.{clock}
 use Rattle.frames.specs.declared.dynamic.DynamicRequest.{DynamicRequest}
 use Rattle.frames.specs.Rules.{between, upTo, isAddress, isRequester, isOutput}
-use Rattle.frames.specs.Shown.{digitFrom}
+use Rattle.frames.specs.Classes.{digitFrom}
 use Rattle.frames.specs.Field.{numberBy}
 use Rattle.frames.specs.Layout.{recordWrong, write}
 use Rattle.frames.specs.Kind.{letterR, CR, wrongIn, frameOf}
@@ -30,7 +30,7 @@ channel-bound : (v : ℕ) → isDynamicChannel v ≡ true → v ≤ 255
 unfolding isDynamicChannel
 channel-bound v = or-one v _ 255 tt (or-one v _ 255 tt (to-240 v))
 
-channel-shows : Shows (numberBy 3 255 isDynamicChannel) (λ _. Unit {0})
+channel-shows : Shows (numberBy 3 2 isDynamicChannel) (λ _. Unit {0})
 unfolding isDynamicChannel digitFrom between digits
 channel-shows = number-shows 2 2 255 isDynamicChannel (least 2) channel-bound (λ v q. q) refl
 

@@ -14,9 +14,9 @@ use Rattle.digits.proofs.Forms.{byte-lawful}
 use Rattle.digits.proofs.Sure.{not-refused}
 use Rattle.times.specs.Clock.{isTime}
 use Rattle.times.proofs.ClockLaws.{clock-inverse}
-use Rattle.frames.specs.Shape.{Value, is, none, byte}
-use Rattle.frames.specs.Shown.{spoiledIn}
-use Rattle.frames.specs.Field.{Field, letter, numberBy, timeOfDay}
+use Rattle.frames.specs.Shape.{Value, is, none, byte, number}
+use Rattle.frames.specs.Classes.{Classes, spoiledPlace}
+use Rattle.frames.specs.Field.{Field, letter, timeOfDay}
 use Rattle.frames.specs.Layout.{Layout, field, suits, end, wrongUnless, taken, fieldsOf, recordWrong, write, within}
 use Rattle.frames.specs.Timing.{areRaw, rawBytes}
 use Rattle.frames.proofs.ShapeLaws.{both-hold, Inverse, one-inverse, digits-inverse, run-inverse, join}
@@ -48,7 +48,7 @@ module _ {R A : Type 0} where
 
 -- P is what is known of a record from the values so far, F says that these values fit, and W that a record is whole
 pub data Sound {R : Type 0} (W : R → Type 0) : Layout R → (R → Type 0) → Type 0 → ℕ → Type 1 where
-  -- an offset that is not 0, a shape that fits and that reads and writes what the rule takes, places that are what good values show, and a sound rest after each such value
+  -- an offset that is not 0, a shape that fits and that reads and writes what the rule takes, classes that are what good values show, and a sound rest after each such value
   field-sound : {A : Type 0} {at n : ℕ} {f : Field A} {part : R → A} {next : A → Layout R} {P : R → Type 0} {F : Type 0} {Fit : A → Type 0}
       → 0 < at → f .shape .width ≤ n → Inverse (f .shape) (f .rule) Fit → Shows f Fit → ((r : R) → W r → Fit (part r))
       → ((v : A) → f .rule v ≡ true → Sound W (next v) (λ r. P r × (part r ≡ v)) (F × Fit v) (n - f .shape .width))
@@ -159,7 +159,7 @@ HeldAs rule none v = rule v ≡ false
 -- the code's offset of the first wrong field (0 for none), and its record; `spoils` is the byte that the code names if the field at an offset is wrong
 pub data Sees {R : Type 0} : Layout R → ℕ → List ℕ → (ℕ → ℕ) → ℕ → R → Type 1 where
   sees-field : {A : Type 0} {at p w : ℕ} {s : List ℕ} {spoils : ℕ → ℕ} {r : R} {f : Field A} {part : R → A} {next : A → Layout R}
-      → (v : A) → T (ltb 0 at) → HeldAs (f .rule) (f .shape .got s p) v → spoils at ≡ spoiledIn (f .places) s at → (f .rule v ≡ true → Sees (next v) (p + f .shape .width) s spoils w r)
+      → (v : A) → T (ltb 0 at) → HeldAs (f .rule) (f .shape .got s p) v → spoils at ≡ spoiledPlace (f .classes) s at → (f .rule v ≡ true → Sees (next v) (p + f .shape .width) s spoils w r)
       → Sees (field at f part next) p s spoils (wrongUnless (f .rule v) at w) r
   sees-suits : {at p w : ℕ} {s : List ℕ} {spoils : ℕ → ℕ} {r : R} {test : R → Bool} {rest : Layout R} → Sees rest p s spoils w r → Sees (suits at test rest) p s spoils w r
   sees-end : {p : ℕ} {s : List ℕ} {spoils : ℕ → ℕ} {q r : R} → q ≡ r → Sees (end q) p s spoils 0 r
@@ -177,12 +177,12 @@ module _ {R : Type 0} where
       by-value (λ good. seen-is (rest good)) (f .shape .got s p) holds
     where
       by-rule : (f .rule v ≡ true → fieldsOf (next v) (p + f .shape .width) s ≡ judged spoils w r) → (t : Bool) → f .rule v ≡ t
-          → tried t (FIELD at (spoiledIn (f .places) s at)) (fieldsOf (next v) (p + f .shape .width) s) ≡ judged spoils (wrongUnless t at w) r
+          → tried t (FIELD at (spoiledPlace (f .classes) s at)) (fieldsOf (next v) (p + f .shape .width) s) ≡ judged spoils (wrongUnless t at w) r
       by-rule more true q = more q
       by-rule more false q = wrong-at spoils at _ r some spoiled
 
       by-value : (f .rule v ≡ true → fieldsOf (next v) (p + f .shape .width) s ≡ judged spoils w r) → (x : Value A) → HeldAs (f .rule) x v
-          → taken (f .rule) (FIELD at (spoiledIn (f .places) s at)) x (λ u. fieldsOf (next u) (p + f .shape .width) s) ≡ judged spoils (wrongUnless (f .rule v) at w) r
+          → taken (f .rule) (FIELD at (spoiledPlace (f .classes) s at)) x (λ u. fieldsOf (next u) (p + f .shape .width) s) ≡ judged spoils (wrongUnless (f .rule v) at w) r
       by-value more (is u) e = rw e (by-rule more (f .rule v) refl)
       by-value more none e = rw e (wrong-at spoils at _ r some spoiled)
   seen-is (sees-suits rest) = seen-is rest
@@ -206,8 +206,9 @@ module _ {R : Type 0} {W : R → Type 0} {at n : ℕ} {P : R → Type 0} {F : Ty
         let q = both-hold (ltb 0 at) (leb 1 n) t in
         field-sound (ltb→lt 0 at (q .0)) (leb→le 1 n (q .1)) byte-inverse (letter-shows some good) (λ r whole. tt) rest
 
-    pub number-sound : {rule : ℕ → Bool} (w hi : ℕ) → T (ltb 0 at && leb w n && (leb 1 w && leb w 10) && ltb hi (10 ^ w)) → ((v : ℕ) → rule v ≡ true → v ≤ hi) → Shows (numberBy w hi rule) (λ _. Unit {0})
-        → ((v : ℕ) → rule v ≡ true → Sound W (next v) (λ r. P r × (part r ≡ v)) (F × Unit {0}) (n - w)) → Sound W (field at (numberBy w hi rule) part next) P F n
+    pub number-sound : {rule : ℕ → Bool} {classes : Classes} (w hi : ℕ) → T (ltb 0 at && leb w n && (leb 1 w && leb w 10) && ltb hi (10 ^ w)) → ((v : ℕ) → rule v ≡ true → v ≤ hi)
+        → Shows (record { shape = number w; rule = rule; classes = classes }) (λ _. Unit {0})
+        → ((v : ℕ) → rule v ≡ true → Sound W (next v) (λ r. P r × (part r ≡ v)) (F × Unit {0}) (n - w)) → Sound W (field at (record { shape = number w; rule = rule; classes = classes }) part next) P F n
     number-sound w hi t below shown rest =
         let a = both-hold (ltb 0 at && leb w n && (leb 1 w && leb w 10)) (ltb hi (10 ^ w)) t in
         let b = both-hold (ltb 0 at && leb w n) (leb 1 w && leb w 10) (a .0) in

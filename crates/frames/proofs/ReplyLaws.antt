@@ -5,7 +5,7 @@ use mathlib.Core.Bool.{Bool, true, false, cond, _||_}
 use mathlib.Core.Path.{_≡_, refl, sym, ap, _∙_}
 use native.Mathlib.Omega.{arith}
 use lib.Dec.{T, eqb, ltb, ltb→lt}
-use borrow.Author.Tests.{eqb-true, eq-eqb, ne-eqb}
+use borrow.Author.Tests.{eq-eqb, ne-eqb}
 use lib.ListN.{length, getD, set, length-append}
 use lib.Seq.{sets}
 use Rattle.digits.specs.Text.{oneOf}
@@ -28,7 +28,7 @@ use Rattle.frames.specs.Refusals.{readRefused, verdictTold}
 use Rattle.frames.specs.Rules.{between, upTo, isAddress, isRaw, isRequester}
 use Rattle.frames.specs.Status.{isStatus, isZ}
 use Rattle.frames.specs.Shape.{bytesOf}
-use Rattle.frames.specs.Shown.{digitFrom}
+use Rattle.frames.specs.Classes.{digitFrom}
 use Rattle.frames.specs.Field.{numberTo}
 use Rattle.frames.specs.Layout.{wrongUnless, recordWrong, write, within}
 use Rattle.frames.specs.Kind.{letterR, CR, headTold, read, wrongIn, frameOf}

@@ -4,7 +4,7 @@ use mathlib.Core.List.{List, [], _∷_, append-assoc}
 use mathlib.Core.Bool.{true}
 use mathlib.Core.Path.{_≡_, refl, sym}
 use native.Mathlib.Omega.{arith}
-use lib.ListN.{length, getD, set}
+use lib.ListN.{length, set}
 use lib.Seq.{sets}
 use Rattle.digits.specs.Text.{oneOf}
 use Rattle.digits.specs.Digits.{digits}
@@ -12,7 +12,7 @@ use Rattle.digits.specs.Told.{gives}
 use Rattle.digits.proofs.Writing.{sets-append, length-digits}
 use Rattle.frames.specs.declared.request.StaticRequest.{StaticRequest}
 use Rattle.frames.specs.Rules.{between, upTo, isAddress, isRequester, isOutput}
-use Rattle.frames.specs.Shown.{digitFrom}
+use Rattle.frames.specs.Classes.{digitFrom}
 use Rattle.frames.specs.Layout.{recordWrong, write}
 use Rattle.frames.specs.Kind.{letterR, CR, read, wrongIn, frameOf}
 use Rattle.frames.specs.Faithful.{Faithful}

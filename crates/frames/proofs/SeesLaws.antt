@@ -1,4 +1,4 @@
--- What the code reads of a field, by its shape. Assumes nothing.
+-- What the code reads of a field, by what the field is, and the byte that it names if the field is wrong. Assumes nothing.
 use Prim.Native.Nat.{ℕ, _+_}
 use mathlib.Core.List.{List, [], _∷_}
 use mathlib.Core.Bool.{Bool, true, false, cond}
@@ -13,7 +13,7 @@ use Rattle.times.specs.Clock.{clock, isTime}
 use Rattle.times.specs.Day.{realDay}
 use Rattle.times.proofs.DayLaws.{day-bounds}
 use Rattle.frames.specs.Shape.{value, number, pair, bytesOf}
-use Rattle.frames.specs.Shown.{Places, firstOff, spoiledIn}
+use Rattle.frames.specs.Classes.{Classes, firstOff, spoiledPlace}
 use Rattle.frames.specs.Field.{letter, timeOfDay}
 use Rattle.frames.specs.Layout.{Layout, field, wrongUnless}
 use Rattle.frames.specs.Timing.{isDate, realDate, areDays, netDays, areRaw, rawBytes}
@@ -47,7 +47,7 @@ abbrev daysAt : List ℕ → ℕ → ℕ × ℕ
 daysAt s p = (getD s p 0, orNone (numberAt s (p + 1) 7))
 
 -- a field of one byte is its own spoiled byte
-one-byte : (test : ℕ → Bool) (s : List ℕ) (at : ℕ) → spoiledIn (test ∷ []) s at ≡ at
+one-byte : (test : ℕ → Bool) (s : List ℕ) (at : ℕ) → spoiledPlace (test ∷ []) s at ≡ at
 unfolding firstOff
 one-byte test s at = go (test (getD s at 0))
   where
@@ -61,31 +61,31 @@ module _ {R : Type 0} {at p w : ℕ} {s : List ℕ} {spoils : ℕ → ℕ} {r : 
         → Sees (field at (letter rule) part next) p s spoils (wrongUnless (rule (getD s p 0)) at w) r
     sees-letter some own rest = sees-field (getD s p 0) some refl (own ∙ sym (one-byte rule s at)) rest
 
-    pub sees-number : {places : Places} (n : ℕ) → T (ltb 0 at) → rule noNumber ≡ false → spoils at ≡ spoiledIn places s at
+    pub sees-number : {classes : Classes} (n : ℕ) → T (ltb 0 at) → rule noNumber ≡ false → spoils at ≡ spoiledPlace classes s at
         → (rule (orNone (numberAt s p n)) ≡ true → Sees (next (orNone (numberAt s p n))) (p + n) s spoils w r)
-        → Sees (field at (record { shape = number n; rule = rule; places = places }) part next) p s spoils (wrongUnless (rule (orNone (numberAt s p n))) at w) r
+        → Sees (field at (record { shape = number n; rule = rule; classes = classes }) part next) p s spoils (wrongUnless (rule (orNone (numberAt s p n))) at w) r
     sees-number n some none spoiled rest = sees-field (orNone (numberAt s p n)) some (held-number rule none (numberAt s p n)) spoiled rest
 
     -- a single digit is its own spoiled byte too
     pub sees-digit : {test : ℕ → Bool} → T (ltb 0 at) → rule noNumber ≡ false → spoils at ≡ at
         → (rule (orNone (numberAt s p 1)) ≡ true → Sees (next (orNone (numberAt s p 1))) (p + 1) s spoils w r)
-        → Sees (field at (record { shape = number 1; rule = rule; places = test ∷ [] }) part next) p s spoils (wrongUnless (rule (orNone (numberAt s p 1))) at w) r
+        → Sees (field at (record { shape = number 1; rule = rule; classes = test ∷ [] }) part next) p s spoils (wrongUnless (rule (orNone (numberAt s p 1))) at w) r
     sees-digit {test} some none own rest = sees-number 1 some none (own ∙ sym (one-byte test s at)) rest
 
-  pub sees-time : {part : R → ℕ} {next : ℕ → Layout R} → T (ltb 0 at) → spoils at ≡ spoiledIn (timeOfDay .places) s at
+  pub sees-time : {part : R → ℕ} {next : ℕ → Layout R} → T (ltb 0 at) → spoils at ≡ spoiledPlace (timeOfDay .classes) s at
       → (isTime (orNone (clock .got s p)) ≡ true → Sees (next (orNone (clock .got s p))) (p + 10) s spoils w r)
       → Sees (field at timeOfDay part next) p s spoils (wrongUnless (isTime (orNone (clock .got s p))) at w) r
   sees-time some spoiled rest = sees-field (orNone (clock .got s p)) some (held-number isTime refl (clock .got s p)) spoiled rest
 
-  pub sees-raw : {part : R → List ℕ} {next : List ℕ → Layout R} (n : ℕ) → T (ltb 0 at) → spoils at ≡ spoiledIn (rawBytes n .places) s at
+  pub sees-raw : {part : R → List ℕ} {next : List ℕ → Layout R} (n : ℕ) → T (ltb 0 at) → spoils at ≡ spoiledPlace (rawBytes n .classes) s at
       → (areRaw n (bytesOf s p n) ≡ true → Sees (next (bytesOf s p n)) (p + n) s spoils w r)
       → Sees (field at (rawBytes n) part next) p s spoils (wrongUnless (areRaw n (bytesOf s p n)) at w) r
   sees-raw n some spoiled rest = sees-field (bytesOf s p n) some refl spoiled rest
 
-  pub sees-date : {part : R → ℕ × (ℕ × ℕ)} {next : ℕ × (ℕ × ℕ) → Layout R} → T (ltb 0 at) → spoils at ≡ spoiledIn (realDate .places) s at
+  pub sees-date : {part : R → ℕ × (ℕ × ℕ)} {next : ℕ × (ℕ × ℕ) → Layout R} → T (ltb 0 at) → spoils at ≡ spoiledPlace (realDate .classes) s at
       → (isDate (dateAt s p) ≡ true → Sees (next (dateAt s p)) (p + 8) s spoils w r) → Sees (field at realDate part next) p s spoils (wrongUnless (isDate (dateAt s p)) at w) r
   sees-date some spoiled rest = sees-field (dateAt s p) some (held-date (numberAt s p 2) (numberAt s (p + 2) 2) (numberAt s (p + 2 + 2) 4)) spoiled rest
 
-  pub sees-days : {part : R → ℕ × ℕ} {next : ℕ × ℕ → Layout R} (ticks : ℕ) → T (ltb 0 at) → areDays ticks (getD s p 0, noNumber) ≡ false → spoils at ≡ spoiledIn (netDays ticks .places) s at
+  pub sees-days : {part : R → ℕ × ℕ} {next : ℕ × ℕ → Layout R} (ticks : ℕ) → T (ltb 0 at) → areDays ticks (getD s p 0, noNumber) ≡ false → spoils at ≡ spoiledPlace (netDays ticks .classes) s at
       → (areDays ticks (daysAt s p) ≡ true → Sees (next (daysAt s p)) (p + 8) s spoils w r) → Sees (field at (netDays ticks) part next) p s spoils (wrongUnless (areDays ticks (daysAt s p)) at w) r
   sees-days ticks some none spoiled rest = sees-field (daysAt s p) some (held-days (areDays ticks) (getD s p 0) none (numberAt s (p + 1) 7)) spoiled rest

@@ -1,8 +1,8 @@
--- What the good values of a field show, place by place: its places are right for a byte, a number, a time, raw bytes, a date, and a sign with days. Assumes nothing.
+-- What the good values of a field show, place by place: its classes are right for a byte, a number, a time, raw bytes, a sign with days, and a date. Assumes nothing.
 use Prim.Native.Nat.{ℕ, zero, suc, _+_, _-_, _*_, _/_, _%_, _^_, _≤_, _<_}
 use mathlib.Core.List.{List, [], _∷_, _++_}
 use mathlib.Core.Bool.{Bool, true, false, false≢true, cond, not, _&&_, _||_, and-eq-true-iff}
-use mathlib.Core.Path.{_≡_, refl, sym, ap, _∙_}
+use mathlib.Core.Path.{_≡_, refl, ap, _∙_}
 use native.Mathlib.Omega.{arith}
 use native.Mathlib.Nat.{div-lt-iff-lt-mul}
 use lib.Dec.{T, eqb, leb, ltb, leb→le}
@@ -21,21 +21,21 @@ use Rattle.times.specs.Net.{isNet}
 use Rattle.times.proofs.DayLaws.{day-bounds}
 use Rattle.frames.specs.Rules.{between, upTo, isRaw}
 use Rattle.frames.specs.Shape.{number, bytesOf, allFrom}
-use Rattle.frames.specs.Shown.{Places, digitFrom, digitTo, anyDigits, anyRaw}
-use Rattle.frames.specs.Field.{Field, letter, numberBy, numberTo, timeOfDay}
+use Rattle.frames.specs.Classes.{Classes, digitFrom, digitTo, anyDigits, anyRaw}
+use Rattle.frames.specs.Field.{Field, letter, timeOfDay}
 use Rattle.frames.specs.Timing.{date, isDate, realDate, isSign, areDays, netDays, areRaw, rawBytes}
 use Rattle.frames.proofs.RuleLaws.{up-to}
 use Rattle.frames.proofs.ShapeLaws.{all-bytes}
 
--- whether byte b passes the test of place j
-abbrev pub shows : Places → ℕ → ℕ → Bool
+-- whether byte b is in the class of place j
+abbrev pub shows : Classes → ℕ → ℕ → Bool
 shows [] j b = false
-shows (test ∷ places) zero b = test b
-shows (test ∷ places) (suc j) b = shows places j b
+shows (test ∷ classes) zero b = test b
+shows (test ∷ classes) (suc j) b = shows classes j b
 
--- each byte passes the test of its place
-abbrev pub Fits : Places → List ℕ → Type 0
-Fits places xs = (j : ℕ) → j < length places → shows places j (getD xs j 0) ≡ true
+-- each byte is in the class of its place
+abbrev pub Fits : Classes → List ℕ → Type 0
+Fits classes xs = (j : ℕ) → j < length classes → shows classes j (getD xs j 0) ≡ true
 
 module _ {A : Type 0} (f : Field A) (Fit : A → Type 0) where
   -- a good value, and one that shows the byte b at place j
@@ -50,19 +50,19 @@ module _ {A : Type 0} (f : Field A) (Fit : A → Type 0) where
     pub fit : Fit value
     pub there : getD (f .shape .put value) j 0 ≡ b
 
-  -- the places say exactly what the good values show, and there is a good value
+  -- the classes are exactly what the good values show, and there is a good value
   pub record Shows : Type 0 where
-    pub wide : length (f .places) ≡ f .shape .width
-    pub only : (v : A) → f .rule v ≡ true → Fits (f .places) (f .shape .put v)
-    pub some : (j b : ℕ) → shows (f .places) j b ≡ true → Showing j b
+    pub wide : length (f .classes) ≡ f .shape .width
+    pub only : (v : A) → f .rule v ≡ true → Fits (f .classes) (f .shape .put v)
+    pub some : (j b : ℕ) → shows (f .classes) j b ≡ true → Showing j b
     pub good : Good
 
-pub shown-inside : (places : Places) (j b : ℕ) → shows places j b ≡ true → j < length places
+pub shown-inside : (classes : Classes) (j b : ℕ) → shows classes j b ≡ true → j < length classes
 shown-inside [] j b e = absurd (false≢true e)
-shown-inside (test ∷ places) zero b e = omega arith
-shown-inside (test ∷ places) (suc j) b e = let h = shown-inside places j b e in omega arith
+shown-inside (test ∷ classes) zero b e = omega arith
+shown-inside (test ∷ classes) (suc j) b e = let h = shown-inside classes j b e in omega arith
 
-fits-append : (cs ds : Places) (xs ys : List ℕ) → length xs ≡ length cs → Fits cs xs → Fits ds ys → Fits (cs ++ ds) (xs ++ ys)
+fits-append : (cs ds : Classes) (xs ys : List ℕ) → length xs ≡ length cs → Fits cs xs → Fits ds ys → Fits (cs ++ ds) (xs ++ ys)
 fits-append [] ds [] ys l f g j h = g j h
 fits-append [] ds (x ∷ xs) ys l f g j h = absurd (omega arith)
 fits-append (c ∷ cs) ds [] ys l f g j h = absurd (omega arith)
@@ -88,12 +88,12 @@ front : (w n : ℕ) → digits (suc w) n ≡ (48 + n / 10 ^ w % 10) ∷ digits w
 unfolding digits
 front w n = let e : suc w ≡ 1 + w = omega arith in ap (λ (x : ℕ). digits x n) e ∙ written-in-parts 1 w n
 
--- each digit of n passes the test of its place
-data Each : Places → ℕ → ℕ → Type 0 where
+-- each digit of n is in the class of its place
+data Each : Classes → ℕ → ℕ → Type 0 where
   none : {n : ℕ} → Each [] 0 n
-  more : {test : ℕ → Bool} {places : Places} {w n : ℕ} → test (48 + n / 10 ^ w % 10) ≡ true → Each places w n → Each (test ∷ places) (suc w) n
+  more : {test : ℕ → Bool} {classes : Classes} {w n : ℕ} → test (48 + n / 10 ^ w % 10) ≡ true → Each classes w n → Each (test ∷ classes) (suc w) n
 
-each-fits : {places : Places} {w n : ℕ} → Each places w n → Fits places (digits w n)
+each-fits : {classes : Classes} {w n : ℕ} → Each classes w n → Fits classes (digits w n)
 each-fits none j h = absurd (omega arith)
 each-fits (more {w = w} {n = n} q e) zero h = rw (front w n) q
 each-fits (more {w = w} {n = n} q e) (suc j) h = rw (front w n) (each-fits e j (omega arith))
@@ -116,17 +116,17 @@ length-any : (w : ℕ) → length (anyDigits w) ≡ w
 length-any zero = refl
 length-any (suc w) = ap suc (length-any w)
 
--- ---- places that show digits alone: a value for each digit at each place, tried out
+-- ---- classes of digits alone: a value for each digit at each place, tried out
 
-data Digital : Places → Type 0 where
+data Digital : Classes → Type 0 where
   no-more : Digital []
-  digit : {places : Places} (lo hi : ℕ) → T (leb hi 9) → Digital places → Digital (digitFrom lo hi ∷ places)
+  digit : {classes : Classes} (lo hi : ℕ) → T (leb hi 9) → Digital classes → Digital (digitFrom lo hi ∷ classes)
 
 digital-any : (w : ℕ) → Digital (anyDigits w)
 digital-any zero = no-more
 digital-any (suc w) = digit 0 9 tt (digital-any w)
 
-digit-shown : {places : Places} → Digital places → (j b : ℕ) → shows places j b ≡ true → (48 ≤ b) × (b ≤ 57)
+digit-shown : {classes : Classes} → Digital classes → (j b : ℕ) → shows classes j b ≡ true → (48 ≤ b) × (b ≤ 57)
 unfolding digitFrom between
 digit-shown no-more j b e = absurd (false≢true e)
 digit-shown (digit lo hi h f) zero b e = let q = range (48 + lo) (48 + hi) b e in let k = leb→le hi 9 h in (omega arith, omega arith)
@@ -140,20 +140,20 @@ tested-at : (test : ℕ → ℕ → Bool) (w : ℕ) → tested test w ≡ true �
 tested-at test w e j d h k = agreed (test j) (λ _. true) 10 (agreed (λ i. agree (test i) (λ _. true) 10) (λ _. true) w e j h) d k
 
 -- if digit d can be at place j, a value is good and shows it there
-abbrev witnessed : Places → (ℕ → ℕ → Bool) → (ℕ → ℕ → List ℕ) → ℕ → ℕ → Bool
-witnessed places good text j d = not (shows places j (48 + d)) || (good j d && eqb (getD (text j d) j 0) (48 + d))
+abbrev witnessed : Classes → (ℕ → ℕ → Bool) → (ℕ → ℕ → List ℕ) → ℕ → ℕ → Bool
+witnessed classes good text j d = not (shows classes j (48 + d)) || (good j d && eqb (getD (text j d) j 0) (48 + d))
 
 record Witness (good : Bool) (text : List ℕ) (j b : ℕ) : Type 0 where
   fine : good ≡ true
   there : getD text j 0 ≡ b
 
-witness : (places : Places) (good : ℕ → ℕ → Bool) (text : ℕ → ℕ → List ℕ) → Digital places → tested (witnessed places good text) (length places) ≡ true
-    → (j b : ℕ) → shows places j b ≡ true → Witness (good j (b - 48)) (text j (b - 48)) j b
-witness places good text digital e j b s =
+witness : (classes : Classes) (good : ℕ → ℕ → Bool) (text : ℕ → ℕ → List ℕ) → Digital classes → tested (witnessed classes good text) (length classes) ≡ true
+    → (j b : ℕ) → shows classes j b ≡ true → Witness (good j (b - 48)) (text j (b - 48)) j b
+witness classes good text digital e j b s =
     let q = digit-shown digital j b s in
     let is : 48 + (b - 48) ≡ b = omega arith in
-    let t = tested-at (witnessed places good text) (length places) e j (b - 48) (shown-inside places j b s) (omega arith) in
-    let s′ : shows places j (48 + (b - 48)) ≡ true = rw is s in
+    let t = tested-at (witnessed classes good text) (length classes) e j (b - 48) (shown-inside classes j b s) (omega arith) in
+    let s′ : shows classes j (48 + (b - 48)) ≡ true = rw is s in
     let f = and-eq-true-iff (good j (b - 48)) (eqb (getD (text j (b - 48)) j 0) (48 + (b - 48))) .0 (rw s′ at t) in
     record { fine = f .0; there = eqb-true _ _ (f .1) ∙ is }
 
@@ -166,7 +166,7 @@ least w j d = d * 10 ^ (w - j)
 abbrev pub leastPositive : ℕ → ℕ → ℕ → ℕ
 leastPositive w j d = cond (eqb d 0) (cond (eqb j w) 10 1) (least w j d)
 
--- the places of a number of w + 1 digits, the first of them at most `top`, are right by these tests: each digit is tried out with a value, by a rule that takes no more than the field's
+-- the classes of a number of w + 1 digits, the first of them at most `top`, are right if these tests pass: each digit is tried out in a value, by a rule that takes no more than the field's
 abbrev pub triedOut : ℕ → ℕ → ℕ → (ℕ → Bool) → (ℕ → ℕ → ℕ) → Bool
 triedOut w top hi strict value =
     ltb hi (suc top * 10 ^ w) && leb top 9 && strict (value 0 1)
@@ -177,7 +177,7 @@ module _ (w top hi : ℕ) {rule : ℕ → Bool} (strict : ℕ → Bool) (value :
   abbrev table : Bool
   table = tested (witnessed (digitTo top ∷ anyDigits w) (λ j d. strict (value j d)) (λ j d. digits (suc w) (value j d))) (length (digitTo top ∷ anyDigits w))
 
-  pub number-shows : Shows (record { shape = number (suc w); rule = rule; places = digitTo top ∷ anyDigits w }) (λ _. Unit {0})
+  pub number-shows : Shows (record { shape = number (suc w); rule = rule; classes = digitTo top ∷ anyDigits w }) (λ _. Unit {0})
   number-shows =
       let a = and-eq-true-iff (ltb hi (suc top * 10 ^ w) && leb top 9 && strict (value 0 1)) table .0 e in
       let b = and-eq-true-iff (ltb hi (suc top * 10 ^ w) && leb top 9) (strict (value 0 1)) .0 (a .0) in
@@ -195,7 +195,7 @@ module _ (w top hi : ℕ) {rule : ℕ → Bool} (strict : ℕ → Bool) (value :
       is-leb h = rw h tt
 
 -- a number of at most hi
-pub to-shows : (w top hi : ℕ) → triedOut w top hi (upTo hi) (least w) ≡ true → Shows (record { shape = number (suc w); rule = upTo hi; places = digitTo top ∷ anyDigits w }) (λ _. Unit {0})
+pub to-shows : (w top hi : ℕ) → triedOut w top hi (upTo hi) (least w) ≡ true → Shows (record { shape = number (suc w); rule = upTo hi; classes = digitTo top ∷ anyDigits w }) (λ _. Unit {0})
 to-shows w top hi e = number-shows w top hi (upTo hi) (least w) (up-to hi) (λ v q. q) e
 
 -- a number from 1 to hi is one from `lowest` to hi, where that is 0 or 1
@@ -205,7 +205,7 @@ from-one lowest hi h v e = let q = range 1 hi v e in inside lowest hi v (omega a
 
 -- ---- a time
 
-clock-each : (h m s f n : ℕ) → h ≤ 23 → m ≤ 59 → s ≤ 59 → f ≤ 9999 → n ≡ ((h * 100 + m) * 100 + s) * 10000 + f → Each (timeOfDay .places) 10 n
+clock-each : (h m s f n : ℕ) → h ≤ 23 → m ≤ 59 → s ≤ 59 → f ≤ 9999 → n ≡ ((h * 100 + m) * 100 + s) * 10000 + f → Each (timeOfDay .classes) 10 n
 clock-each h m s f n a b c d e =
     more (digit-in 0 2 (n / 10 ^ 9 % 10) (omega arith) (omega arith))
     (more (digit-in 0 9 (n / 10 ^ 8 % 10) (omega arith) (omega arith))
@@ -228,7 +228,7 @@ time-shows = record {
       let h = leb-true v lastTick q in
       each-fits (clock-each (v / 36000000) (v / 600000 % 60) (v / 10000 % 60) (v % 10000) (clockNumber v) (omega arith) (omega arith) (omega arith) (omega arith) refl);
   some = λ j b e.
-      let x = witness (timeOfDay .places) (λ j d. isTime (ticksWith j d)) (λ j d. clock .put (ticksWith j d))
+      let x = witness (timeOfDay .classes) (λ j d. isTime (ticksWith j d)) (λ j d. clock .put (ticksWith j d))
       (digit 0 2 tt (digit 0 9 tt (digit 0 5 tt (digit 0 9 tt (digit 0 5 tt (digital-any 5)))))) refl j b e in
       record { value = ticksWith j (b - 48); fine = x .fine; fit = tt; there = x .there };
   good = record { value = 0; fine = refl; fit = tt };
@@ -294,11 +294,11 @@ net-shows ticks time = record { wide = refl; only = λ v q. in-days v q; some = 
         no-minus true = refl
         no-minus false = refl
 
-    in-days : (v : ℕ × ℕ) → areDays ticks v ≡ true → Fits (netDays ticks .places) (netDays ticks .shape .put v)
+    in-days : (v : ℕ × ℕ) → areDays ticks v ≡ true → Fits (netDays ticks .classes) (netDays ticks .shape .put v)
     in-days v q zero h = and-l (isSign (v .0)) _ q
     in-days v q (suc j) h = each-fits (each-any 7 (v .1)) j (omega arith)
 
-    from-days : (j b : ℕ) → shows (netDays ticks .places) j b ≡ true → Showing (netDays ticks) (λ _. Unit {0} × Unit {0}) j b
+    from-days : (j b : ℕ) → shows (netDays ticks .classes) j b ≡ true → Showing (netDays ticks) (λ _. Unit {0} × Unit {0}) j b
     from-days zero b e = record { value = (b, 1); fine = one-day b e; fit = (tt, tt); there = refl }
     from-days (suc j) b e =
         let x = witness (anyDigits 7) (λ j d. leb (least 6 j d) 9999999) (λ j d. digits 7 (least 6 j d)) (digital-any 7) refl j b e in
@@ -324,13 +324,13 @@ date-shows = record {
   wide = refl;
   only = in-date;
   some = λ j b e.
-      let x = witness (realDate .places) (λ j d. isDate (dateWith j d)) (λ j d. date .put (dateWith j d))
+      let x = witness (realDate .classes) (λ j d. isDate (dateWith j d)) (λ j d. date .put (dateWith j d))
       (digit 0 3 tt (digit 0 9 tt (digit 0 1 tt (digit 0 9 tt (digit 2 2 tt (digit 0 0 tt (digital-any 2))))))) refl j b e in
       record { value = dateWith j (b - 48); fine = x .fine; fit = (tt, (tt, tt)); there = x .there };
   good = record { value = (1, (1, 2000)); fine = refl; fit = (tt, (tt, tt)) };
 }
   where
-    in-date : (v : ℕ × (ℕ × ℕ)) → isDate v ≡ true → Fits (realDate .places) (date .put v)
+    in-date : (v : ℕ × (ℕ × ℕ)) → isDate v ≡ true → Fits (realDate .classes) (date .put v)
     in-date v e =
         let b = day-bounds (v .0) (v .1 .0) (v .1 .1) e in
         let d = b .day in

@@ -1,22 +1,23 @@
 -- The spoiled byte, once over every kind with a sound layout: FIELD names the first wrong field and the byte that spoils it, and no other byte. Assumes nothing.
 use Prim.Native.Nat.{ℕ, zero, suc, _+_, _-_, _≤_, _<_}
 use mathlib.Core.List.{List, [], _∷_, _++_, append-assoc}
-use mathlib.Core.Bool.{Bool, true, false, true≢false, cond, _&&_}
+use mathlib.Core.Bool.{Bool, true, false, true≢false, false≢true, cond, _&&_, or-true}
 use mathlib.Core.Path.{_≡_, refl, sym, ap, subst, _∙_}
 use native.Mathlib.Omega.{arith}
 use native.Mathlib.Nat.{add-zero}
-use lib.Dec.{T, eqb, ltb, ltb→lt}
-use borrow.Author.Tests.{lt-ltb, le-ltb}
+use lib.Dec.{eqb}
+use borrow.Author.Tests.{eqb-true, eq-eqb, lt-ltb, le-ltb}
 use lib.ListN.{length, getD, take, drop, take-append-drop, length-append, length-drop, List·getD-append}
 use lib.Seq.{getD-at, take-at, take-add, take-take, drop-at, getD-take, getD-drop, getD-append-add, length-take-le}
 use Rattle.digits.specs.declared.refusal.Refusal.{Refusal}
+use Rattle.digits.specs.Text.{oneOf}
 use Rattle.digits.specs.Refusals.{KIND, LENGTH, END, ADDRESS, FIELD}
 use Rattle.digits.specs.Told.{Told, gives, refuses, tried}
-use Rattle.digits.proofs.Tests.{by-less}
+use Rattle.digits.proofs.Tests.{by-test, by-less}
 use Rattle.digits.proofs.Sure.{same-refusal, not-refused}
 use Rattle.frames.specs.Rules.{isAddress}
 use Rattle.frames.specs.Shape.{Value, is, none, Shape}
-use Rattle.frames.specs.Shown.{Places, firstOff, spoiledIn}
+use Rattle.frames.specs.Classes.{Classes, firstOff, spoiledPlace}
 use Rattle.frames.specs.Field.{Field}
 use Rattle.frames.specs.Layout.{Layout, field, taken, fieldsOf, recordWrong, write, Placed, stands, besides, ends}
 use Rattle.frames.specs.Kind.{Kind, leadIs, letterR, CR, fieldsBegin, headTold, andThen, read, wrongIn, frameOf}
@@ -28,27 +29,27 @@ use Rattle.frames.proofs.KindLaws.{Passed, passed, SoundKind, whole-fra
 
 -- ---- the first place that is off
 
-data Scan (places : Places) (s : List ℕ) (p last : ℕ) : ℕ → Type 0 where
-  off : (j : ℕ) → j < length places → ((i : ℕ) → i < j → shows places i (getD s (p + i) 0) ≡ true) → shows places j (getD s (p + j) 0) ≡ false → Scan places s p last (p + j)
-  nothing : ((i : ℕ) → i < length places → shows places i (getD s (p + i) 0) ≡ true) → Scan places s p last last
+data Scan (classes : Classes) (s : List ℕ) (p last : ℕ) : ℕ → Type 0 where
+  off : (j : ℕ) → j < length classes → ((i : ℕ) → i < j → shows classes i (getD s (p + i) 0) ≡ true) → shows classes j (getD s (p + j) 0) ≡ false → Scan classes s p last (p + j)
+  nothing : ((i : ℕ) → i < length classes → shows classes i (getD s (p + i) 0) ≡ true) → Scan classes s p last last
 
-scan : (places : Places) (s : List ℕ) (p last : ℕ) → Scan places s p last (firstOff places s p last)
+scan : (classes : Classes) (s : List ℕ) (p last : ℕ) → Scan classes s p last (firstOff classes s p last)
 unfolding firstOff
 scan [] s p last = nothing (λ i h. absurd (omega arith))
-scan (test ∷ places) s p last = by-first (test (getD s p 0)) refl (firstOff places s (suc p) last) (scan places s (suc p) last)
+scan (test ∷ classes) s p last = by-first (test (getD s p 0)) refl (firstOff classes s (suc p) last) (scan classes s (suc p) last)
   where
-    later : test (getD s p 0) ≡ true → (n : ℕ) → ((i : ℕ) → i < n → shows places i (getD s (suc p + i) 0) ≡ true) → (i : ℕ) → i < suc n → shows (test ∷ places) i (getD s (p + i) 0) ≡ true
+    later : test (getD s p 0) ≡ true → (n : ℕ) → ((i : ℕ) → i < n → shows classes i (getD s (suc p + i) 0) ≡ true) → (i : ℕ) → i < suc n → shows (test ∷ classes) i (getD s (p + i) 0) ≡ true
     later q n f zero h = rw (add-zero p) q
     later q n f (suc i) h = let e : p + suc i ≡ suc p + i = omega arith in rw e (f i (omega arith))
 
-    by-first : (t : Bool) → test (getD s p 0) ≡ t → (r : ℕ) → Scan places s (suc p) last r → Scan (test ∷ places) s p last (cond t r p)
+    by-first : (t : Bool) → test (getD s p 0) ≡ t → (r : ℕ) → Scan classes s (suc p) last r → Scan (test ∷ classes) s p last (cond t r p)
     by-first false q r x =
         let e : p + 0 ≡ p = add-zero p in
-        subst (λ (n : ℕ). Scan (test ∷ places) s p last n) e (off 0 (omega arith) (λ i h. absurd (omega arith)) (rw e q))
+        subst (λ (n : ℕ). Scan (test ∷ classes) s p last n) e (off 0 (omega arith) (λ i h. absurd (omega arith)) (rw e q))
     by-first true q r (off j h f g) =
         let e : p + suc j ≡ suc p + j = omega arith in
-        subst (λ (n : ℕ). Scan (test ∷ places) s p last n) e (off (suc j) (omega arith) (later q j f) (rw e g))
-    by-first true q r (nothing f) = nothing (later q (length places) f)
+        subst (λ (n : ℕ). Scan (test ∷ classes) s p last n) e (off (suc j) (omega arith) (later q j f) (rw e g))
+    by-first true q r (nothing f) = nothing (later q (length classes) f)
 
 -- ---- every good beginning can be completed
 
@@ -160,7 +161,7 @@ module _ {R : Type 0} {k : Kind R} {Whole : R → Type 0} (sure : SoundKind k Wh
   module _ {A : Type 0} {n p : ℕ} {f : Field A} {part : R → A} {next : A → Layout R} {P : R → Type 0} {F : Type 0} {Fit : A → Type 0}
       (some : 0 < p) (fits : f .shape .width ≤ n) (inverse : Inverse (f .shape) (f .rule) Fit) (shown : Shows f Fit) (fit : (r : R) → Whole r → Fit (part r))
       (rest : (v : A) → f .rule v ≡ true → Sound Whole (next v) (λ r. P r × (part r ≡ v)) (F × Fit v) (n - f .shape .width))
-      (facts : F) (least : 2 ≤ p) (all : p + n + 1 ≡ length s) (link : Link p (field p f part next)) (ending : endOf offsets p ≡ p + f .shape .width)
+      (facts : F) (least : 2 ≤ p) (all : p + n + 1 ≡ length s) (link : Link p (field p f part next)) (begins : oneOf offsets p ≡ true) (ending : endOf offsets p ≡ p + f .shape .width)
       (bad : (v : A) → f .shape .got s p ≡ is v → f .rule v ≡ true → ⊥) where
     sound : Sound Whole (field p f part next) P F n
     sound = field-sound some fits inverse shown fit rest
@@ -175,7 +176,7 @@ module _ {R : Type 0} {k : Kind R} {Whole : R → Type 0} (sure : SoundKind k Wh
     unfolding fieldsOf
     there-in g w e =
         let r = reads g w in
-        let q = kept (f .rule) (FIELD p (spoiledIn (f .places) g p)) (f .shape .got g p) (λ v. fieldsOf (next v) (p + f .shape .width) g) (r .of) (sym (link g (r .long) e) ∙ r .told) in
+        let q = kept (f .rule) (FIELD p (spoiledPlace (f .classes) g p)) (f .shape .got g p) (λ v. fieldsOf (next v) (p + f .shape .width) g) (r .of) (sym (link g (r .long) e) ∙ r .told) in
         record { value = q .of; got = q .there; good = q .good }
 
     begun : Begun k Whole offsets s p
@@ -189,7 +190,7 @@ module _ {R : Type 0} {k : Kind R} {Whole : R → Type 0} (sure : SoundKind k Wh
         bad (t .value) (sym (same-got (f .shape) (inverse .lawful) g s p (reads g (b .formed) .long) (omega arith) e) ∙ t .got) (t .good)
 
     -- what occurs is shown, and what is shown occurs
-    occurs-shown : (j : ℕ) → j < length (f .places) → Occurs k Whole offsets s p (p + j) → shows (f .places) j (getD s (p + j) 0) ≡ true
+    occurs-shown : (j : ℕ) → j < length (f .classes) → Occurs k Whole offsets s p (p + j) → shows (f .classes) j (getD s (p + j) 0) ≡ true
     occurs-shown j h o =
         let g = o .frame in
         let t = there-in g (o .formed) (o .before) in
@@ -197,13 +198,13 @@ module _ {R : Type 0} {k : Kind R} {Whole : R → Type 0} (sure : SoundKind k Wh
         let text = inverse .lawful .again g p (t .value) (omega arith) (t .got) in
         let byte : getD (f .shape .put (t .value)) j 0 ≡ getD s (p + j) 0 =
         ap (λ (x : List ℕ). getD x j 0) (sym text) ∙ getD-take (f .shape .width) (drop p g) j 0 (omega (arith, shown .wide)) ∙ getD-drop p g j 0 ∙ o .there in
-        subst (λ (x : ℕ). shows (f .places) j x ≡ true) byte (shown .only (t .value) (t .good) j h)
+        subst (λ (x : ℕ). shows (f .classes) j x ≡ true) byte (shown .only (t .value) (t .good) j h)
 
-    shown-occurs : (j : ℕ) → shows (f .places) j (getD s (p + j) 0) ≡ true → Occurs k Whole offsets s p (p + j)
+    shown-occurs : (j : ℕ) → shows (f .classes) j (getD s (p + j) 0) ≡ true → Occurs k Whole offsets s p (p + j)
     unfolding write with-value
     shown-occurs j e =
         let v = shown .some j (getD s (p + j) 0) e in
-        let h = shown-inside (f .places) j (getD s (p + j) 0) e in
+        let h = shown-inside (f .classes) j (getD s (p + j) 0) e in
         let d = completed (rest (v .value) (v .fine)) (facts, v .fit) in
         let m = made sound least all link (with-value (v .value) (v .fine) d) in
         let long = inverse .lawful .long (part (d .of)) in
@@ -217,18 +218,18 @@ module _ {R : Type 0} {k : Kind R} {Whole : R → Type 0} (sure : SoundKind k Wh
         record { frame = m .frame; formed = m .formed; before = m .before; there = m .there j in-text ∙ byte }
 
     -- a place of the field, counted from its first byte
-    occurs-at : (i : ℕ) → p ≤ i → shows (f .places) (i - p) (getD s (p + (i - p)) 0) ≡ true → Occurs k Whole offsets s p i
+    occurs-at : (i : ℕ) → p ≤ i → shows (f .classes) (i - p) (getD s (p + (i - p)) 0) ≡ true → Occurs k Whole offsets s p i
     occurs-at i h e = let q : p + (i - p) ≡ i = omega arith in subst (λ (x : ℕ). Occurs k Whole offsets s p x) q (shown-occurs (i - p) e)
 
-    by-scan : (q : ℕ) → Scan (f .places) s p p q → Spoiled k Whole offsets s p q
+    by-scan : (q : ℕ) → Scan (f .classes) s p p q → Spoiled k Whole offsets s p q
     by-scan q (off j h before e) =
         let l = shown .wide in
         first (omega arith) (rw ending (omega arith)) (λ i a b. occurs-at i a (before (i - p) (omega arith))) (λ o. true≢false (sym (occurs-shown j h o) ∙ e))
     by-scan q (nothing each) =
         let l = shown .wide in own refl (λ i a b. occurs-at i a (each (i - p) (let b′ : i < p + f .shape .width = rw ending at b in omega arith)))
 
-    named-here : Named k Whole offsets s p (spoiledIn (f .places) s p)
-    named-here = record { begun = begun; wrong = wrong; spoiled = by-scan (spoiledIn (f .places) s p) (scan (f .places) s p p) }
+    named-here : Named k Whole offsets s p (spoiledPlace (f .classes) s p)
+    named-here = record { begins = begins; begun = begun; wrong = wrong; spoiled = by-scan (spoiledPlace (f .classes) s p) (scan (f .classes) s p p) }
 
   -- ---- the walk to the first wrong field
 
@@ -237,33 +238,33 @@ module _ {R : Type 0} {k : Kind R} {Whole : R → Type 0} (sure : SoundKind k Wh
       subst (λ (x : ℕ). Named k Whole offsets s x r) (ap (λ (f : Refusal). f .offset) e) (subst (λ (x : ℕ). Named k Whole offsets s p x) (ap (λ (f : Refusal). f .spoiled) e) w)
 
   walk : {L : Layout R} {P : R → Type 0} {F : Type 0} {n p size : ℕ} {more : List ℕ} → Sound Whole L P F n → Placed L (p ∷ more) size → F → 2 ≤ p → p + n + 1 ≡ length s → Link p L
-      → ((o : ℕ) → p ≤ o → endOf offsets o ≡ endOf (p ∷ more) o) → (o q : ℕ) → fieldsOf L p s ≡ refuses (FIELD o q) → Named k Whole offsets s o q
-  unfolding fieldsOf
-  walk (field-sound {A} {at} {n} {f} {part} {next} {P} {F} {Fit} some fits inverse shown fit rest) (stands {p = p} {q = e} {size = size} {offsets = more} lt place after) facts least all link ending o q told =
+      → ((o : ℕ) → oneOf (p ∷ more) o ≡ true → oneOf offsets o ≡ true) → ((o : ℕ) → p ≤ o → endOf offsets o ≡ endOf (p ∷ more) o)
+      → (o q : ℕ) → fieldsOf L p s ≡ refuses (FIELD o q) → Named k Whole offsets s o q
+  unfolding fieldsOf oneOf
+  walk (field-sound {A} {at} {n} {f} {part} {next} {P} {F} {Fit} some fits inverse shown fit rest) (stands {p = p} {q = e} {size = size} {offsets = more} lt place after) facts least all link begins ending o q told =
       by-value (f .shape .got s p) refl
       (λ v there good t.
-      let l = ltb→lt p e lt in
       walk (rest v good) (subst (λ (i : ℕ). Placed (next v) (i ∷ more) size) place (after v good)) (facts, inverse .fit s p v there) (omega arith) (omega arith)
       (λ g long a. link g long (fewer g s p (p + f .shape .width) (omega arith) a) ∙ rw (same-got (f .shape) (inverse .lawful) g s p long (omega arith) a, there, good))
-      (λ i h. ending i (omega arith) ∙ rw (le-ltb i p (omega arith), place)) o q t) told
+      (λ i h. begins i (rw (subst (λ (j : ℕ). oneOf (j ∷ more) i ≡ true) (sym place) h) (or-true (eqb i p)))) (λ i h. ending i (omega arith) ∙ rw (le-ltb i p (omega arith), place)) o q t) told
     where
-      here : ((v : A) → f .shape .got s p ≡ is v → f .rule v ≡ true → ⊥) → _≡_ {A = Told R} (refuses (FIELD p (spoiledIn (f .places) s p))) (refuses (FIELD o q)) → Named k Whole offsets s o q
+      here : ((v : A) → f .shape .got s p ≡ is v → f .rule v ≡ true → ⊥) → _≡_ {A = Told R} (refuses (FIELD p (spoiledPlace (f .classes) s p))) (refuses (FIELD o q)) → Named k Whole offsets s o q
       here bad t =
-          named-at (named-here some fits inverse shown fit rest facts least all link
-          (ending p (omega arith) ∙ rw (le-ltb p p (omega arith), lt-ltb p e (ltb→lt p e lt)) place) bad) (same-refusal _ _ t)
+          named-at (named-here some fits inverse shown fit rest facts least all link (begins p (rw (eq-eqb p p refl)))
+          (ending p (omega arith) ∙ rw (le-ltb p p (omega arith), lt-ltb p e lt) place) bad) (same-refusal _ _ t)
 
       by-rule : (v : A) → f .shape .got s p ≡ is v → (f .rule v ≡ true → fieldsOf (next v) (p + f .shape .width) s ≡ refuses (FIELD o q) → Named k Whole offsets s o q)
-          → (t : Bool) → f .rule v ≡ t → tried t (FIELD p (spoiledIn (f .places) s p)) (fieldsOf (next v) (p + f .shape .width) s) ≡ refuses (FIELD o q) → Named k Whole offsets s o q
+          → (t : Bool) → f .rule v ≡ t → tried t (FIELD p (spoiledPlace (f .classes) s p)) (fieldsOf (next v) (p + f .shape .width) s) ≡ refuses (FIELD o q) → Named k Whole offsets s o q
       by-rule v there on true good t = on good t
       by-rule v there on false good t = here (λ u is-u fine. absurd (let z : is v ≡ is u = sym there ∙ is-u in let w : v ≡ u = cc in true≢false (sym (rw w fine) ∙ good))) t
 
       by-value : (x : Value A) → f .shape .got s p ≡ x
           → ((v : A) → f .shape .got s p ≡ is v → f .rule v ≡ true → fieldsOf (next v) (p + f .shape .width) s ≡ refuses (FIELD o q) → Named k Whole offsets s o q)
-          → taken (f .rule) (FIELD p (spoiledIn (f .places) s p)) x (λ v. fieldsOf (next v) (p + f .shape .width) s) ≡ refuses (FIELD o q) → Named k Whole offsets s o q
+          → taken (f .rule) (FIELD p (spoiledPlace (f .classes) s p)) x (λ v. fieldsOf (next v) (p + f .shape .width) s) ≡ refuses (FIELD o q) → Named k Whole offsets s o q
       by-value (is v) there on t = by-rule v there (on v there) (f .rule v) refl t
       by-value none there on t = here (λ u is-u fine. absurd (let z : none ≡ is u = sym there ∙ is-u in let w : _≡_ {A = ℕ} 0 1 = cc in omega arith)) t
-  walk (suits-sound some sound) (besides placed) facts least all link ending o q told = walk sound placed facts least all link ending o q told
-  walk (end-sound known fits one) (ends {r = r}) facts least all link ending o q told = absurd (not-refused r (FIELD o q) told)
+  walk (suits-sound some sound) (besides placed) facts least all link begins ending o q told = walk sound placed facts least all link begins ending o q told
+  walk (end-sound known fits one) (ends {r = r}) facts least all link begins ending o q told = absurd (not-refused r (FIELD o q) told)
 
 -- ---- a frame that is refused with FIELD has passed the tests of the head
 
@@ -287,6 +288,8 @@ after-head : {A : Type 0} (h : Told (Unit {0})) (rest : Told A) (o q : ℕ) → 
 after-head (gives x) rest o q below e = (refl, e)
 after-head (refuses f) rest o q below e = absurd (let h = below f refl in let n : f .number ≡ 5 = ap (λ (g : Refusal). g .number) (same-refusal _ _ e) in omega arith)
 
+-- ---- no other two numbers say this of a frame
+
 -- no second byte spoils a field
 one-spoiled : {R : Type 0} (k : Kind R) (Whole : R → Type 0) (offsets s : List ℕ) (o p q : ℕ) → Spoiled k Whole offsets s o p → Spoiled k Whole offsets s o q → p ≡ q
 one-spoiled k Whole offsets s o p q (first a b f x) (first c d g y) =
@@ -295,12 +298,54 @@ one-spoiled k Whole offsets s o p q (first a b f x) (own e g) = absurd (x (g p a
 one-spoiled k Whole offsets s o p q (own e f) (first c d g y) = absurd (y (f q c d))
 one-spoiled k Whole offsets s o p q (own e f) (own h g) = e ∙ sym h
 
+-- offsets in rising order, the first of them p
+data Rising : ℕ → List ℕ → Type 0 where
+  last : {p : ℕ} → Rising p (p ∷ [])
+  then : {p q : ℕ} {offsets : List ℕ} → p < q → Rising q (q ∷ offsets) → Rising p (p ∷ q ∷ offsets)
+
+rising : {R : Type 0} {L : Layout R} {W : R → Type 0} {P : R → Type 0} {F : Type 0} {n p size : ℕ} {offsets : List ℕ} → Sound W L P F n → Placed L (p ∷ offsets) size → Rising p (p ∷ offsets)
+rising (field-sound some fits inverse shown fit rest) (stands lt place after) = let g = shown .good in then lt (rising (rest (g .value) (g .fine)) (after (g .value) (g .fine)))
+rising (suits-sound some sound) (besides placed) = rising sound placed
+rising (end-sound known fits one) ends = last
+
+data In (q : ℕ) : List ℕ → Type 0 where
+  here : {offsets : List ℕ} → In q (q ∷ offsets)
+  there : {p : ℕ} {offsets : List ℕ} → In q offsets → In q (p ∷ offsets)
+
+member : (offsets : List ℕ) (q : ℕ) → oneOf offsets q ≡ true → In q offsets
+unfolding oneOf
+member [] q e = absurd (false≢true e)
+member (p ∷ offsets) q e = by-test (eqb q p) (λ t. subst (λ (x : ℕ). In q (x ∷ offsets)) (eqb-true q p t) here) (λ t. there (member offsets q (rw t at e)))
+
+first-least : {p q : ℕ} {offsets : List ℕ} → Rising p offsets → In q offsets → p ≤ q
+first-least last here = omega arith
+first-least (then lt more) here = omega arith
+first-least (then lt more) (there i) = let h = first-least more i in omega arith
+
+-- a field that begins after another one begins at its end or later
+not-before : {p q : ℕ} {offsets : List ℕ} → Rising p offsets → In q offsets → (o : ℕ) → o < q → endOf offsets o ≤ q
+not-before {q = q} last here o h = rw (lt-ltb o q h) (omega arith)
+not-before {q = q} (then lt more) here o h = rw (lt-ltb o q h) (omega arith)
+not-before (then {p} lt more) (there i) o h =
+    let l = first-least more i in by-less o p (λ k. rw (lt-ltb o p k) (omega arith)) (λ k. rw (le-ltb o p k) (not-before more i o h))
+
+module _ {R : Type 0} (k : Kind R) (Whole : R → Type 0) (offsets s : List ℕ) (p₀ : ℕ) (up : Rising p₀ offsets) where
+  no-later : (o p o′ p′ : ℕ) → Named k Whole offsets s o p → Named k Whole offsets s o′ p′ → o < o′ → ⊥
+  no-later o p o′ p′ a b h =
+      let g = b .begun in
+      a .wrong (record { frame = g .frame; formed = g .formed; before = fewer (g .frame) s (endOf offsets o) o′ (not-before up (member offsets o′ (b .begins)) o h) (g .before) })
+
+  one-named : (o p o′ p′ : ℕ) → Named k Whole offsets s o p → Named k Whole offsets s o′ p′ → (o ≡ o′) × (p ≡ p′)
+  one-named o p o′ p′ a b =
+      let e : o ≡ o′ = by-less o o′ (λ h. absurd (no-later o p o′ p′ a b h)) (λ h. by-less o′ o (λ i. absurd (no-later o′ p′ o p b a i)) (λ i. omega arith)) in
+      (e, one-spoiled k Whole offsets s o p p′ (a .spoiled) (subst (λ (x : ℕ). Spoiled k Whole offsets s x p′) (sym e) (b .spoiled)))
+
 pub names-spoiled : {R : Type 0} {k : Kind R} {Whole : R → Type 0} {offsets : List ℕ} → SoundKind k Whole → Placed (k .fields) (fieldsBegin ∷ offsets) (k .size) → NamesSpoiled k Whole (fieldsBegin ∷ offsets)
 unfolding read
 names-spoiled {R} {k} {Whole} {offsets} sure placed = record {
   named = λ s o p e.
       let a = after-head (headTold (k .lead) (k .size) s) (fieldsOf (k .fields) 2 s) o p (head-below (k .lead) (k .size) s) e in
       let head = passed (k .lead) (k .size) s (a .0) in
-      walk sure (fieldsBegin ∷ offsets) s head (sure .sound) placed tt (omega arith) (let l = head .long in omega (arith, sure .size)) (λ g l x. refl) (λ i h. refl) o p (a .1);
-  once = one-spoiled k Whole (fieldsBegin ∷ offsets);
+      walk sure (fieldsBegin ∷ offsets) s head (sure .sound) placed tt (omega arith) (let l = head .long in omega (arith, sure .size)) (λ g l x. refl) (λ i h. h) (λ i h. refl) o p (a .1);
+  once = λ s. one-named k Whole (fieldsBegin ∷ offsets) s fieldsBegin (rising (sure .sound) placed);
 }

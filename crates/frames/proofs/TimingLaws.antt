@@ -22,7 +22,7 @@ use Rattle.frames.specs.declared.timing.TimingKind.the-variants.{Clock a
 use Rattle.frames.specs.declared.timing.Timing.{Timing}
 use Rattle.frames.specs.declared.timing.Timing.the-variants.{Clock, Net, Raw}
 use Rattle.frames.specs.Shape.{bytesOf, allFrom}
-use Rattle.frames.specs.Shown.{digitFrom}
+use Rattle.frames.specs.Classes.{digitFrom}
 use Rattle.frames.specs.Layout.{recordWrong, write}
 use Rattle.frames.specs.Timing.{Times, isOf, areZero, date, isDate, realDate, ticksIn, dateIn, isSign, signOf, netOf, netIn, daysIn, signedDays, areDays, netDays, timed}
 use Rattle.frames.specs.inside.Held.{orNone}

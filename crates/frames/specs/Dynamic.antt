@@ -32,16 +32,16 @@ dynamicFields =
     field 4 (letter isOrder) (λ r. r .order) λ order.
     field 5 (numberTo 5 60000) (λ r. r .bib) λ bib.
     -- logical channel
-    field 10 (numberBy 3 255 isDynamicChannel) (λ r. r .channel) λ channel.
+    field 10 (numberBy 3 2 isDynamicChannel) (λ r. r .channel) λ channel.
     field 13 (numberTo 3 250) (λ r. r .run) λ run.
-    field 16 (numberBy 5 60000 (between 1 60000)) (λ r. r .«stop_bib») λ stopBib.
-    field 21 (numberBy 3 255 isDynamicChannel) (λ r. r .«stop_channel») λ stopChannel.
+    field 16 (numberBy 5 6 (between 1 60000)) (λ r. r .«stop_bib») λ stopBib.
+    field 21 (numberBy 3 2 isDynamicChannel) (λ r. r .«stop_channel») λ stopChannel.
     field 24 (numberTo 3 250) (λ r. r .«stop_run») λ stopRun.
     -- Taux: its sign (0 plus, 1 minus), its time and its days
     field 27 (numberTo 1 1) (λ r. r .sign) λ sign.
     field 28 timeOfDay (λ r. r .time) λ ticks.
     field 38 (numberTo 1 9) (λ r. r .days) λ days.
-    field 39 (numberBy 5 99999 (between (leastPeriod order) 99999)) (λ r. r .period) λ period.
+    field 39 (numberBy 5 9 (between (leastPeriod order) 99999)) (λ r. r .period) λ period.
     field 44 (letter isOutput) (λ r. r .output) λ output.
     end (record { address = address; requester = requester; order = order; bib = bib; channel = channel; run = run; «stop_bib» = stopBib; «stop_channel» = stopChannel; «stop_run» = stopRun; sign = sign; time = ticks; days = days; period = period; output = output })
 

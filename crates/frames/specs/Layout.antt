@@ -1,14 +1,13 @@
 -- A layout: the fields of a kind of frame in order, and the parts of its record R that hold their values. The fields after a field may depend on its value.
-use Prim.Native.Nat.{ℕ, zero, suc, _+_}
+use Prim.Native.Nat.{ℕ, zero, suc, _+_, _<_}
 use mathlib.Core.List.{List, [], _∷_, _++_}
 use mathlib.Core.Bool.{Bool, true, false}
 use mathlib.Core.Path.{_≡_}
-use lib.Dec.{T, ltb}
 use Rattle.digits.specs.declared.refusal.Refusal.{Refusal}
 use Rattle.digits.specs.Refusals.{FIELD}
 use Rattle.digits.specs.Told.{Told, gives, refuses, tried}
 use Rattle.frames.specs.Shape.{Value, is, none}
-use Rattle.frames.specs.Shown.{spoiledIn}
+use Rattle.frames.specs.Classes.{spoiledPlace}
 use Rattle.frames.specs.Field.{Field}
 
 pub data Layout (R : Type 0) : Type 1 where
@@ -34,7 +33,7 @@ module _ {R : Type 0} where
 
   -- the record that the fields hold, or FIELD with the offsets of the first wrong one and of the byte that spoils it
   unfoldable pub fieldsOf : Layout R → ℕ → List ℕ → Told R
-  fieldsOf (field at f part next) p s = taken (f .rule) (FIELD at (spoiledIn (f .places) s at)) (f .shape .got s p) λ v. fieldsOf (next v) (p + f .shape .width) s
+  fieldsOf (field at f part next) p s = taken (f .rule) (FIELD at (spoiledPlace (f .classes) s at)) (f .shape .got s p) λ v. fieldsOf (next v) (p + f .shape .width) s
   fieldsOf (suits at test rest) p s = fieldsOf rest p s
   fieldsOf (end r) p s = gives r
 
@@ -66,7 +65,7 @@ module _ {Q R : Type 0} (of : R → Q) (whole : Q → R) where
 pub data Placed {R : Type 0} : Layout R → List ℕ → ℕ → Type 1 where
   -- a field's stated offset is its place, and the next field is right after its bytes, of which there is at least one
   stands : {A : Type 0} {p q size : ℕ} {offsets : List ℕ} {f : Field A} {part : R → A} {next : A → Layout R}
-      → T (ltb p q) → q ≡ p + f .shape .width → ((v : A) → f .rule v ≡ true → Placed (next v) (q ∷ offsets) size) → Placed (field p f part next) (p ∷ q ∷ offsets) size
+      → p < q → q ≡ p + f .shape .width → ((v : A) → f .rule v ≡ true → Placed (next v) (q ∷ offsets) size) → Placed (field p f part next) (p ∷ q ∷ offsets) size
   -- a further test reports the place that the fields have reached
   besides : {p size : ℕ} {offsets : List ℕ} {test : R → Bool} {rest : Layout R} → Placed rest (p ∷ offsets) size → Placed (suits p test rest) (p ∷ offsets) size
   -- after the last field only the CR is left, the frame's last byte

@@ -2,7 +2,7 @@ pub mod Refusals
 pub mod Rules
 pub mod Status
 pub mod Shape
-pub mod Shown
+pub mod Classes
 pub mod Field
 pub mod Layout
 pub mod Kind

@@ -52,10 +52,10 @@ unfoldable pub fromBib : ℕ → Field ℕ → (ℕ → Bool) → (ℕ → Timin
 fromBib least physicalChannel letters kind =
     field 12 (numberTo 5 59999) (λ t. t .bib) λ bib.
     field 17 (numberTo 3 199) (λ t. t .group) λ group.
-    field 20 (numberBy 3 250 (between least 250)) (λ t. t .run) λ run.
+    field 20 (numberBy 3 2 (between least 250)) (λ t. t .run) λ run.
     field 23 physicalChannel (λ t. t .physical) λ physical.
     -- logical channel
-    field 26 (numberBy 3 255 isReplyChannel) (λ t. t .channel) λ channel.
+    field 26 (numberBy 3 2 isReplyChannel) (λ t. t .channel) λ channel.
     field 29 (letter letters) (λ t. t .information) λ information.
     within (λ t. t .times)
     (λ times. record { bib = bib; group = group; run = run; physical = physical; channel = channel; information = information; times = times })

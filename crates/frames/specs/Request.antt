@@ -30,7 +30,7 @@ requestFields =
     field 7 (numberTo 5 59999) (λ r. r .bib) λ bib.
     field 12 (letter isInformation) (λ r. r .information) λ information.
     -- logical channel
-    field 13 (numberBy 3 255 isRequestChannel) (λ r. r .channel) λ channel.
+    field 13 (numberBy 3 2 isRequestChannel) (λ r. r .channel) λ channel.
     field 16 (numberTo 3 250) (λ r. r .run) λ run.
     field 19 (numberTo 3 199) (λ r. r .group) λ group.
     field 22 (letter isOutput) (λ r. r .output) λ output.

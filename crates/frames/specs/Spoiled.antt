@@ -1,10 +1,11 @@
 -- What FIELD says of a frame: its first wrong field, and the first byte of that field that no well formed frame with the same fields before it has at that place.
 use Prim.Native.Nat.{ℕ, _≤_, _<_}
 use mathlib.Core.List.{List, [], _∷_}
-use mathlib.Core.Bool.{cond}
+use mathlib.Core.Bool.{true, cond}
 use mathlib.Core.Path.{_≡_}
 use lib.Dec.{ltb}
 use lib.ListN.{getD, take}
+use Rattle.digits.specs.Text.{oneOf}
 use Rattle.digits.specs.Refusals.{FIELD}
 use Rattle.digits.specs.Told.{refuses}
 use Rattle.frames.specs.Kind.{Kind, read, wrongIn, frameOf}
@@ -49,6 +50,8 @@ module _ {R : Type 0} (k : Kind R) (Whole : R → Type 0) (offsets : List ℕ) w
 
   -- what FIELD o p says of the frame s
   pub record Named (s : List ℕ) (o p : ℕ) : Type 0 where
+    -- a field begins at o
+    pub begins : oneOf offsets o ≡ true
     -- some well formed frame has the same fields before o, and none has the field at o as well
     pub begun : Begun s o
     pub wrong : Begun s (endOf offsets o) → ⊥
@@ -56,8 +59,8 @@ module _ {R : Type 0} (k : Kind R) (Whole : R → Type 0) (offsets : List ℕ) w
 
   pub record NamesSpoiled : Type 0 where
     pub named : (s : List ℕ) (o p : ℕ) → read k s ≡ refuses (FIELD o p) → Named s o p
-    -- no second byte spoils a field
-    pub once : (s : List ℕ) (o p q : ℕ) → Spoiled s o p → Spoiled s o q → p ≡ q
+    -- no other two numbers say this of a frame
+    pub once : (s : List ℕ) (o p o′ p′ : ℕ) → Named s o p → Named s o′ p′ → (o ≡ o′) × (p ≡ p′)
 
 pub record SpoiledBytesAreNamed : Type 0 where
   pub of-request : NamesSpoiled request (λ _. Unit {0}) requestOffsets

@@ -15,7 +15,7 @@ use Rattle.frames.specs.declared.timing.Timing.the-variants.{Clock, Net,
 use Rattle.frames.specs.Rules.{isRaw}
 use Rattle.frames.specs.Status.{isZ}
 use Rattle.frames.specs.Shape.{Shape, byte, number, both, run, allFrom}
-use Rattle.frames.specs.Shown.{digitFrom, digitTo, anyDigits, anyRaw}
+use Rattle.frames.specs.Classes.{digitFrom, digitTo, anyDigits, anyRaw}
 use Rattle.frames.specs.Field.{Field, timeOfDay}
 use Rattle.frames.specs.Layout.{Layout, field, suits, end}
 
@@ -57,7 +57,7 @@ abbrev pub areZero : ℕ → List ℕ → Bool
 areZero n l = allFrom (λ b. eqb b 0) l 0 n
 
 abbrev pub rawBytes : ℕ → Field (List ℕ)
-rawBytes n = record { shape = run n; rule = areRaw n; places = anyRaw n }
+rawBytes n = record { shape = run n; rule = areRaw n; classes = anyRaw n }
 
 -- the arrays of raw time and date are all zero, as they must be when the kind does not use them
 abbrev pub rawUnused : Times → Bool
@@ -85,7 +85,7 @@ isDate d = realDay (d .0) (d .1 .0) (d .1 .1)
 
 -- the first digit of a day is 0 to 3, that of a month 0 or 1; a year is 2000 to 2099
 abbrev pub realDate : Field (ℕ × (ℕ × ℕ))
-realDate = record { shape = date; rule = isDate; places = digitTo 3 ∷ digitTo 9 ∷ digitTo 1 ∷ digitTo 9 ∷ digitFrom 2 2 ∷ digitTo 0 ∷ anyDigits 2 }
+realDate = record { shape = date; rule = isDate; classes = digitTo 3 ∷ digitTo 9 ∷ digitTo 1 ∷ digitTo 9 ∷ digitFrom 2 2 ∷ digitTo 0 ∷ anyDigits 2 }
 
 -- ---- net: a time of day, a sign and seven digits of days
 
@@ -114,7 +114,7 @@ abbrev pub areDays : ℕ → ℕ × ℕ → Bool
 areDays ticks d = isSign (d .0) && isNet (netOf ticks (d .0) (d .1))
 
 abbrev pub netDays : ℕ → Field (ℕ × ℕ)
-netDays ticks = record { shape = signedDays; rule = areDays ticks; places = isSign ∷ anyDigits 7 }
+netDays ticks = record { shape = signedDays; rule = areDays ticks; classes = isSign ∷ anyDigits 7 }
 
 -- ---- the fields
 

@@ -5,8 +5,8 @@ use digits::byte_at;
 ghost use mathlib.Core.Path.{_≡_};
 ghost use Prim.Native.Nat.{_+_, _<_};
 ghost use lib.ListN.{length};
-ghost use Rattle.frames.specs.Shown.{firstOff};
-ghost use Rattle.frames.specs.inside.Spoiled.{inClass, classes, lookedIn};
+ghost use Rattle.frames.specs.Classes.{firstOff};
+ghost use Rattle.frames.specs.inside.Spoiled.{inClass, classesOf, lookedIn};
 
 // The classes of HHMMSSdddd.
 pub(crate) const TIME_CLASSES: [u8; 10] = *b"2959599999";
@@ -30,7 +30,7 @@ fn in_class(class: u8, b: u8) -> bool
 // The offset of the first byte from `at` on that is not in its class, or `at` if each one is.
 fn first_off(s: &[u8], at: usize, text: &[u8]) -> u8
     requires { ⌜ at + length (now text) < 256 ⌝ }
-    ensures { λ r. ⌜ r ≡ firstOff (classes (now (text .entry))) (now (s .entry)) at at ⌝ }
+    ensures { λ r. ⌜ r ≡ firstOff (classesOf (now (text .entry))) (now (s .entry)) at at ⌝ }
 {
     let mut i: usize = 0;
     while i < text.len() {

@@ -13,7 +13,7 @@ use Rattle.times.specs.Net.{isNet}
 use Rattle.times.specs.Running.{inRange, runningTime}
 use Rattle.frames.specs.Rules.{between, upTo, isAddress, isRaw, isRequester, isOutput}
 use Rattle.frames.specs.Shape.{allFrom}
-use Rattle.frames.specs.Shown.{digitFrom, firstOff}
+use Rattle.frames.specs.Classes.{digitFrom, firstOff}
 use Rattle.frames.specs.Layout.{fieldsOf, recordWrong, write}
 use Rattle.frames.specs.Kind.{headTold, read, wrongIn, writeTried, frameOf}
 use Rattle.frames.specs.Status.{isStatus}

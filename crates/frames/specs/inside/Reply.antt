@@ -48,10 +48,10 @@ headWrong h rest =
     (wrongUnless (between (leastRun (h .status)) 250 (h .run)) 20 (wrongUnless (upTo 999 (h .physical)) 23 (wrongUnless (isReplyChannel (h .channel)) 26
     (wrongUnless (isLetter (h .information)) 29 rest))))))))))
 
--- what the fields of a frame hold, wrong or not, and the offsets of the first wrong one and of the byte that spoils it
 abbrev pub kindAt : List ℕ → TimingKind
 kindAt s = timingKind (getD s 5 0) (getD s 29 0)
 
+-- what the fields of a frame hold, wrong or not, and the offsets of the first wrong one and of the byte that spoils it
 abbrev pub seenIn : List ℕ → Seen
 seenIn s = seenOf (kindAt s) s
 

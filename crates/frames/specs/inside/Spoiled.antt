@@ -7,20 +7,21 @@ use Rattle.digits.specs.Text.{codes}
 use Rattle.frames.specs.declared.timing.TimingKind.{TimingKind}
 use Rattle.frames.specs.declared.timing.TimingKind.the-variants.{Clock as clockKind, Net as netKind, Raw as rawKind}
 use Rattle.frames.specs.Rules.{between, isRaw}
-use Rattle.frames.specs.Shown.{Places, firstOff}
+use Rattle.frames.specs.Classes.{Classes, firstOff}
 use Rattle.frames.specs.Timing.{isSign}
 
 -- a byte is in the class of a space if it is raw, of + if it is a sign, of = if it is 2, and of a digit if it is a digit up to this one
 unfoldable pub inClass : ℕ → ℕ → Bool
 inClass class = cond (eqb class 32) isRaw (cond (eqb class 43) isSign (cond (eqb class 61) (between 50 50) (between 48 class)))
 
-abbrev pub classes : List ℕ → Places
-classes [] = []
-classes (class ∷ text) = inClass class ∷ classes text
+-- the classes that a text stands for
+abbrev pub classesOf : List ℕ → Classes
+classesOf [] = []
+classesOf (class ∷ text) = inClass class ∷ classesOf text
 
 -- if the field at this offset is the wrong one, the byte that spoils it by its text; otherwise what is known already
 unfoldable pub lookedIn : List ℕ → ℕ → ℕ → List ℕ → ℕ → ℕ
-lookedIn s wrong at text known = cond (eqb wrong at) (firstOff (classes text) s at at) known
+lookedIn s wrong at text known = cond (eqb wrong at) (firstOff (classesOf text) s at at) known
 
 -- HHMMSSdddd
 abbrev pub timeClasses : List ℕ

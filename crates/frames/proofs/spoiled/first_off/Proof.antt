@@ -5,14 +5,14 @@ use Prim.Native.Nat.{_-_, _≤_}
 use borrow.Author.Needs.{needs}
 use lib.ListN.{length}
 use denote.Ref.{now}
-use Rattle.frames.specs.Shown.{firstOff}
-use Rattle.frames.specs.inside.Spoiled.{classes}
+use Rattle.frames.specs.Classes.{firstOff}
+use Rattle.frames.specs.inside.Spoiled.{classesOf}
 use Rattle.frames.proofs.ClassLaws.{left, look-on, look-off, look-done, look-first}
 use Rattle.frames.proofs.spoiled.first_off.Statement.{statement}
 use Rattle.frames.proofs.spoiled.first_off.Tie as tie
 
 abbrev Inv-loop : tie.InvT-loop
-Inv-loop s at text i₀ i = (firstOff (classes text) s at at ≡ left s at text i) × (i ≤ length text)
+Inv-loop s at text i₀ i = (firstOff (classesOf text) s at at ≡ left s at text i) × (i ≤ length text)
 
 abbrev μ-loop : tie.MeasureT-loop
 μ-loop s at text i₀ i = length text - i
