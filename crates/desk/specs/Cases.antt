@@ -6,9 +6,12 @@ use mathlib.Core.Path.{_≡_}
 use lib.ListN.{replicate}
 use Rattle.digits.specs.Text.{codes}
 use Rattle.digits.specs.Refusals.{plain, spoiledAt}
+use Rattle.frames.specs.declared.refusals.ReadRefusal.the-variants.{Field}
 use Rattle.digits.specs.Told.{Told, gives, refuses}
 use Rattle.desk.specs.Memory.{Memory, capacityOf, heldBy}
-use Rattle.desk.specs.Calls.{opens, replies, emptied, seatsInUse}
+use Rattle.desk.specs.declared.opening.OpenRefusal.the-variants.{Desk as open-no-desk, Frame as open-frame, NoAnswerDue, InUse, NoSeat}
+use Rattle.desk.specs.declared.reply.ReplyRefusal.the-variants.{Desk as no-desk, Frame, Stray, Ended, OutOfPlace, Full}
+use Rattle.desk.specs.Calls.{opens, replies, emptied, seatsInUse, openRefused, replyRefused}
 use Rattle.desk.specs.Mix.{Event, toReply, happens, run, openings, repliesTo}
 
 -- no seats, and lent cells of this many bytes with this many marks
@@ -80,6 +83,11 @@ pub record Worked : Type 0 where
   pub ended-by-Z : replies (replies asked (replying "Z") .after) (replying "R") .answer ≡ refuses (plain 14)
   pub out-of-place : replies (replies asked (replying "R") .after) (replying "Z") .answer ≡ refuses (plain 15)
   pub full : replies (crowded "R") (replying "R") .answer ≡ refuses (plain 16)
+  -- the numbers of what an opening and a reply answer
+  pub open-numbers : openRefused open-no-desk ∷ openRefused (open-frame (Field (record { field = 16; spoiled = 17 }))) ∷ openRefused NoAnswerDue ∷ openRefused InUse ∷ openRefused NoSeat ∷ []
+      ≡ plain 9 ∷ spoiledAt 5 16 17 ∷ plain 10 ∷ plain 11 ∷ plain 12 ∷ []
+  pub reply-numbers : replyRefused no-desk ∷ replyRefused (Frame (Field (record { field = 30; spoiled = 32 }))) ∷ replyRefused Stray ∷ replyRefused Ended ∷ replyRefused OutOfPlace ∷ replyRefused Full ∷ []
+      ≡ plain 9 ∷ spoiledAt 5 30 32 ∷ plain 13 ∷ plain 14 ∷ plain 15 ∷ plain 16 ∷ []
   -- of two faults, the one that is tested first is reported
   pub desk-before-frame : opens (lending 102 2) [] .answer ≡ refuses (plain 9)
   pub frame-before-q : opens bare (asking "[" "q") .answer ≡ refuses (spoiledAt 5 3 3)

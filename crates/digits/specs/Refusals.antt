@@ -94,6 +94,8 @@ pub record TableWorked : Type 0 where
       ≡ 1 ∷ 2 ∷ 3 ∷ 4 ∷ 5 ∷ 6 ∷ 7 ∷ 8 ∷ 9 ∷ 10 ∷ 11 ∷ 12 ∷ 13 ∷ 14 ∷ 15 ∷ 16 ∷ []
   pub offsets : FIELD 9 11 .offset ∷ RECORD 9 .offset ∷ ROOM .offset ∷ FULL .offset ∷ [] ≡ 9 ∷ 9 ∷ 0 ∷ 0 ∷ []
   pub spoiled-bytes : FIELD 9 11 .spoiled ∷ RECORD 9 .spoiled ∷ ROOM .spoiled ∷ FULL .spoiled ∷ [] ≡ 11 ∷ 0 ∷ 0 ∷ 0 ∷ []
+  pub field-numbers : (o p : ℕ) → FIELD o p ≡ record { number = 5; offset = o; spoiled = p }
+  pub record-numbers : (o : ℕ) → RECORD o ≡ record { number = 6; offset = o; spoiled = 0 }
   pub none-0 : isRefusal (plain 0) ≡ false
   pub last-16 : isRefusal (plain 16) ≡ true
   pub none-17 : isRefusal (plain 17) ≡ false

@@ -112,10 +112,6 @@ each-top w top n h =
     let l : n / 10 ^ w < suc top = div-lt-iff-lt-mul (some-room w) .1 h in
     more (digit-in 0 top (n / 10 ^ w % 10) (omega arith) (omega arith)) (each-any w n)
 
-length-any : (w : ℕ) → length (anyDigits w) ≡ w
-length-any zero = refl
-length-any (suc w) = ap suc (length-any w)
-
 -- ---- classes of digits alone: a value for each digit at each place, tried out
 
 data Digital : Classes → Type 0 where
@@ -183,7 +179,7 @@ module _ (w top hi : ℕ) {rule : ℕ → Bool} (strict : ℕ → Bool) (value :
       let b = and-eq-true-iff (ltb hi (suc top * 10 ^ w) && leb top 9) (strict (value 0 1)) .0 (a .0) in
       let c = and-eq-true-iff (ltb hi (suc top * 10 ^ w)) (leb top 9) .0 (b .0) in
       record {
-        wide = ap suc (length-any w);
+        wide = ap suc (length-replicate w (digitTo 9));
         only = λ v q. each-fits (each-top w top v (let k = bound v q in let s = ltb-true hi (suc top * 10 ^ w) (c .0) in omega arith));
         some = λ j b e.
             let x = witness (digitTo top ∷ anyDigits w) (λ j d. strict (value j d)) (λ j d. digits (suc w) (value j d)) (digit 0 top (is-leb (c .1)) (digital-any w)) (a .1) j b e in
@@ -236,10 +232,6 @@ time-shows = record {
 
 -- ---- raw bytes
 
-length-raw : (n : ℕ) → length (anyRaw n) ≡ n
-length-raw zero = refl
-length-raw (suc n) = ap suc (length-raw n)
-
 raw-shown : (n j b : ℕ) → shows (anyRaw n) j b ≡ true → isRaw b ≡ true
 raw-shown zero j b e = absurd (false≢true e)
 raw-shown (suc n) zero b e = e
@@ -263,7 +255,7 @@ copies-raw n b e = raw-all n 0 (replicate n b) (λ k h. rw (getD-replicate n k b
 pub raw-shows : (n : ℕ) → Shows (rawBytes n) (λ v. length v ≡ n)
 unfolding isRaw between
 raw-shows n = record {
-  wide = length-raw n;
+  wide = length-replicate n isRaw;
   only = λ v q. raw-fits n 0 v q;
   some = λ j b e.
       let h = shown-inside (anyRaw n) j b e in
@@ -272,7 +264,7 @@ raw-shows n = record {
         value = replicate n b;
         fine = copies-raw n b (raw-shown n j b e);
         fit = l;
-        there = rw (all-bytes (replicate n b) n l) (getD-replicate n j b 0 (omega (arith, length-raw n)));
+        there = rw (all-bytes (replicate n b) n l) (getD-replicate n j b 0 (omega (arith, length-replicate n isRaw)));
       };
   good = record { value = replicate n 32; fine = copies-raw n 32 refl; fit = length-replicate n 32 };
 }

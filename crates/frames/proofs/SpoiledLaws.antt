@@ -19,13 +19,14 @@ use Rattle.frames.specs.Rules.{isAddress}
 use Rattle.frames.specs.Shape.{Value, is, none, Shape}
 use Rattle.frames.specs.Classes.{Classes, firstOff, spoiledPlace}
 use Rattle.frames.specs.Field.{Field}
-use Rattle.frames.specs.Layout.{Layout, field, taken, fieldsOf, recordWrong, write, Placed, stands, besides, ends}
+use Rattle.frames.specs.Layout.{Layout, field, suits, end, taken, fieldsOf, recordWrong, write, Placed, stands, besides, ends}
 use Rattle.frames.specs.Kind.{Kind, leadIs, letterR, CR, fieldsBegin, headTold, andThen, read, wrongIn, frameOf}
 use Rattle.frames.specs.Spoiled.{endOf, WellFormed, Begun, Occurs, Spoiled, first, own, Named, NamesSpoiled}
 use Rattle.frames.proofs.ShapeLaws.{Lawful, Inverse}
 use Rattle.frames.proofs.ShownLaws.{shows, Shows, shown-inside}
 use Rattle.frames.proofs.LayoutLaws.{Sound, field-sound, suits-sound, end-sound, kept, written-reads, length-write, reads-write}
-use Rattle.frames.proofs.KindLaws.{Passed, passed, SoundKind, whole-frame, frame-fields, length-frame}
+use Rattle.frames.proofs.KindLaws.{Passed, passed, SoundKind, whole-frame, frame-fields, length-frame, frame-back, frame-again}
+use Rattle.frames.proofs.HeadLaws.{then-gives, head-good}
 
 -- ---- the first place that is off
 
@@ -340,9 +341,47 @@ module _ {R : Type 0} (k : Kind R) (Whole : R → Type 0) (offsets s : List ℕ)
       let e : o ≡ o′ = by-less o o′ (λ h. absurd (no-later o p o′ p′ a b h)) (λ h. by-less o′ o (λ i. absurd (no-later o′ p′ o p b a i)) (λ i. omega arith)) in
       (e, one-spoiled k Whole offsets s o p p′ (a .spoiled) (subst (λ (x : ℕ). Spoiled k Whole offsets s x p′) (sym e) (b .spoiled)))
 
+-- ---- the fields of a frame are accepted, or one of them is wrong
+
+data Judged {R : Type 0} (t : Told R) : Type 0 where
+  accepted : (r : R) → t ≡ gives r → Judged t
+  turned : (o q : ℕ) → t ≡ refuses (FIELD o q) → Judged t
+
+judged : {R : Type 0} (L : Layout R) (p : ℕ) (s : List ℕ) → Judged (fieldsOf L p s)
+unfolding fieldsOf
+judged {R} (field {A} at f part next) p s = by-value (λ v. judged (next v) (p + f .shape .width) s) (f .shape .got s p)
+  where
+    by-rule : (v : A) → Judged (fieldsOf (next v) (p + f .shape .width) s) → (t : Bool) → Judged (tried t (FIELD at (spoiledPlace (f .classes) s at)) (fieldsOf (next v) (p + f .shape .width) s))
+    by-rule v j true = j
+    by-rule v j false = turned at _ refl
+
+    by-value : ((v : A) → Judged (fieldsOf (next v) (p + f .shape .width) s)) → (x : Value A) → Judged (taken (f .rule) (FIELD at (spoiledPlace (f .classes) s at)) x (λ v. fieldsOf (next v) (p + f .shape .width) s))
+    by-value more (is v) = by-rule v (more v) (f .rule v)
+    by-value more none = turned at _ refl
+judged (suits at test rest) p s = judged rest p s
+judged (end r) p s = accepted r refl
+
+given-field : {R : Type 0} {k : Kind R} {Whole : R → Type 0} (sure : SoundKind k Whole) (offsets s : List ℕ) → Begun k Whole offsets s 3 → length s ≡ k .size → getD s (k .size - 1) 0 ≡ CR
+    → (WellFormed k Whole offsets s → ⊥) → (o : ℕ) × ((p : ℕ) × (read k s ≡ refuses (FIELD o p)))
+unfolding read
+given-field {R} {k} {Whole} sure offsets s b long ended ill =
+    let g = b .frame in
+    let w = b .formed in
+    let told : read k g ≡ gives (w .of) = subst (λ (x : List ℕ). read k x ≡ gives (w .of)) (w .bytes) (frame-back sure (w .of) (w .whole) (w .fine)) in
+    let p = passed (k .lead) (k .size) g (then-gives (headTold (k .lead) (k .size) g) _ (w .of) told .0) in
+    let same : (i : ℕ) → i < 3 → getD s i 0 ≡ getD g i 0 = λ i h. sym (same-byte g s 3 i h (b .before)) in
+    let head = head-good (k .lead) (k .size) s (sure .some) (same 0 (omega arith) ∙ p .first) long ended (same 1 (omega arith) ∙ p .letter-r) (ap isAddress (same 2 (omega arith)) ∙ p .address) in
+    go head (judged (k .fields) 2 s)
+  where
+    go : gives tt ≡ headTold (k .lead) (k .size) s → Judged (fieldsOf (k .fields) 2 s) → (o : ℕ) × ((p : ℕ) × (read k s ≡ refuses (FIELD o p)))
+    go head (accepted r e) =
+        let own = frame-again sure s r (rw (← head) e) in absurd (ill (record { of = r; whole = own .has; fine = own .fine; bytes = own .bytes }))
+    go head (turned o q e) = (o, (q, rw (← head) e))
+
 pub names-spoiled : {R : Type 0} {k : Kind R} {Whole : R → Type 0} {offsets : List ℕ} → SoundKind k Whole → Placed (k .fields) (fieldsBegin ∷ offsets) (k .size) → NamesSpoiled k Whole (fieldsBegin ∷ offsets)
 unfolding read
 names-spoiled {R} {k} {Whole} {offsets} sure placed = record {
+  given = given-field sure (fieldsBegin ∷ offsets);
   named = λ s o p e.
       let a = after-head (headTold (k .lead) (k .size) s) (fieldsOf (k .fields) 2 s) o p (head-below (k .lead) (k .size) s) e in
       let head = passed (k .lead) (k .size) s (a .0) in

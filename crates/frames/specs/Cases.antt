@@ -15,6 +15,9 @@ use Rattle.frames.specs.declared.timing.Timing.{Timing}
 use Rattle.frames.specs.declared.timing.Timing.the-variants.{Clock, Net}
 use Rattle.frames.specs.declared.request.StaticRequest.{StaticRequest}
 use Rattle.frames.specs.declared.reply.StaticReply.{StaticReply}
+use Rattle.frames.specs.declared.refusals.ReadRefusal.the-variants.{Kind as kind, Length, End, Address, Field}
+use Rattle.frames.specs.declared.refusals.WriteRefusal.the-variants.{Record, Room}
+use Rattle.frames.specs.Refusals.{readRefused, writeRefused}
 use Rattle.frames.specs.Kind.{Kind, read, wrongIn, writeTried}
 use Rattle.frames.specs.Request.{request}
 use Rattle.frames.specs.Reply.{reply}
@@ -117,6 +120,10 @@ pub record Worked : Type 0 where
   pub room-23 : writeTried (wrongIn request (asked 250)) 24 23 ≡ refuses (plain 7)
   pub room-24 : writeTried (wrongIn request (asked 250)) 24 24 ≡ gives tt
   pub time-of-none : runningTime (record { bib = 0; tnow = 0; tev = 1; sign = 0; days = 0; time = 0 }) ≡ refuses (plain 8)
+  -- the numbers of what the readers and the writers answer
+  pub read-numbers : readRefused kind ∷ readRefused Length ∷ readRefused End ∷ readRefused Address ∷ readRefused (Field (record { field = 30; spoiled = 32 })) ∷ []
+      ≡ plain 1 ∷ plain 2 ∷ plain 3 ∷ plain 4 ∷ spoiledAt 5 30 32 ∷ []
+  pub write-numbers : writeRefused (Record 30) ∷ writeRefused Room ∷ [] ≡ placed 6 30 ∷ plain 7 ∷ []
   -- of two faults, the one that is tested first is reported (the frames of case 9 show KIND before LENGTH, and LENGTH before END)
   pub end-before-address : read request (17 ∷ (codes "S A012000411255001000S" ++ (10 ∷ []))) ≡ refuses (plain 3)
   pub end-before-byte-2 : read request (17 ∷ (codes "R-A012000411255001000S" ++ (10 ∷ []))) ≡ refuses (plain 3)

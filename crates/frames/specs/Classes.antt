@@ -1,8 +1,8 @@
 -- What the bytes of a field can be: a class for each of its places, and the first byte that is not in its class.
-use Prim.Native.Nat.{ℕ, zero, suc, _+_}
+use Prim.Native.Nat.{ℕ, suc, _+_}
 use mathlib.Core.List.{List, [], _∷_}
 use mathlib.Core.Bool.{Bool, cond}
-use lib.ListN.{getD}
+use lib.ListN.{getD, replicate}
 use Rattle.frames.specs.Rules.{between, isRaw}
 
 -- a class of bytes for each place of a field: those that good values show there
@@ -18,12 +18,10 @@ digitTo = digitFrom 0
 
 -- n places with any digit, and n places with any raw byte
 abbrev pub anyDigits : ℕ → Classes
-anyDigits zero = []
-anyDigits (suc n) = digitTo 9 ∷ anyDigits n
+anyDigits n = replicate n (digitTo 9)
 
 abbrev pub anyRaw : ℕ → Classes
-anyRaw zero = []
-anyRaw (suc n) = isRaw ∷ anyRaw n
+anyRaw n = replicate n isRaw
 
 -- the first place from p on whose byte of s is not in its class, or `own` if there is none
 unfoldable pub firstOff : Classes → List ℕ → ℕ → ℕ → ℕ

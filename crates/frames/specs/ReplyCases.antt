@@ -7,7 +7,8 @@ use lib.IntN.{pos, negsuc}
 use lib.ListN.{replicate}
 use lib.Seq.{sets}
 use Rattle.digits.specs.Text.{codes}
-use Rattle.digits.specs.Told.{gives}
+use Rattle.digits.specs.declared.refusal.Refusal.{Refusal}
+use Rattle.digits.specs.Told.{gives, refuses}
 use Rattle.frames.specs.declared.timing.Timing.{Timing}
 use Rattle.frames.specs.declared.timing.Timing.the-variants.{Clock, Net, Raw}
 use Rattle.frames.specs.declared.reply.StaticReply.{StaticReply}
@@ -67,6 +68,7 @@ pub record ReplyWorked : Type 0 where
   pub raw-written : frameOf reply (tails 81 Raw aToJ kToR (117 ∷ 118 ∷ [])) ≡ goodRaw
   -- what the check reports of the net reply: status, address, requester and number
   pub label : labelled (read reply good) ≡ gives (record { status = 69; address = 53; requester = 68; number = 12345 })
+  pub label-refused : (f : Refusal) → labelled (refuses f) ≡ refuses f
   -- with a refusal comes a record of zeros
   pub zeros : orZero (read reply []) ≡ tells 0 0 0 0 0 0 0 0 0 0 0 0 Raw (0 ∷ 0 ∷ 0 ∷ 0 ∷ 0 ∷ 0 ∷ 0 ∷ 0 ∷ 0 ∷ 0 ∷ []) (0 ∷ 0 ∷ 0 ∷ 0 ∷ 0 ∷ 0 ∷ 0 ∷ 0 ∷ []) (0 ∷ 0 ∷ [])
   -- each byte of the fields damaged in turn

@@ -43,6 +43,10 @@ pub record SpoiledWorked : Type 0 where
   pub request-bib : spoiledBy request Q.good 7 ("59999" ∷ "60000" ∷ "5999:" ∷ "6999:" ∷ "5/9:9" ∷ []) ≡ 0 ∷ 7 ∷ 11 ∷ 7 ∷ 8 ∷ []
   pub request-channel : spoiledBy request Q.good 13 ("255" ∷ "241" ∷ "299" ∷ "300" ∷ "2A9" ∷ "25 " ∷ []) ≡ 0 ∷ 13 ∷ 13 ∷ 13 ∷ 14 ∷ 15 ∷ []
   pub request-group : spoiledBy request Q.good 19 ("199" ∷ "200" ∷ "19x" ∷ "2x9" ∷ []) ≡ 0 ∷ 19 ∷ 21 ∷ 19 ∷ []
+  -- a byte of 80h or more
+  pub high-request : read request (set Q.good 3 200) ≡ refuses (spoiledAt 5 3 3)
+  pub high-reply : read reply (set P.good 10 255) ≡ refuses (spoiledAt 5 7 10)
+  pub high-dynamic : read dynamic (set D.good 44 128) ≡ refuses (spoiledAt 5 44 44)
   -- two fields are wrong: the byte is in the first of them
   pub two-fields : read request (sets (Q.but 4 "0x0") 16 (codes "x51")) ≡ refuses (spoiledAt 5 4 5)
   pub together-first : read request (sets (Q.but 13 "241") 16 (codes "1x1")) ≡ refuses (spoiledAt 5 13 13)

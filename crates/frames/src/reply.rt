@@ -262,10 +262,7 @@ fn fields_checked(s: &[u8]) -> ReplyCheck
             number: h.number,
         });
     }
-    ReplyCheck::Refused(ReadRefusal::Field(Place {
-        field: wrong,
-        spoiled: reply_byte(s, kind, wrong),
-    }))
+    ReplyCheck::Refused(wrong_field(s, kind, wrong))
 }
 
 fn judged(s: &[u8], kind: TimingKind, r: StaticReply, wrong: u8) -> ReplyRead
@@ -277,10 +274,16 @@ fn judged(s: &[u8], kind: TimingKind, r: StaticReply, wrong: u8) -> ReplyRead
             reply: r,
         };
     }
-    refused(ReadRefusal::Field(Place {
+    refused(wrong_field(s, kind, wrong))
+}
+
+fn wrong_field(s: &[u8], kind: TimingKind, wrong: u8) -> ReadRefusal
+    ensures { λ r. ⌜ r ≡ I.wrongField wrong (replyByte kind (now (s .entry)) wrong) ⌝ }
+{
+    ReadRefusal::Field(Place {
         field: wrong,
         spoiled: reply_byte(s, kind, wrong),
-    }))
+    })
 }
 
 // The byte that spoils the wrong field. A field of one byte is its own.

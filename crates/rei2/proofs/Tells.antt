@@ -1,7 +1,7 @@
 -- 0 exactly if the call was done, and no two answers have the same numbers. Assumes nothing.
 use Prim.Native.Nat.{ℕ}
 use mathlib.Core.Bool.{not}
-use mathlib.Core.Path.{_≡_, refl, ap}
+use mathlib.Core.Path.{_≡_, refl, ap, _∙_}
 use native.Mathlib.Omega.{arith}
 use lib.ListN.{length}
 use lib.Dec.{eqb, leb, ltb}
@@ -19,6 +19,9 @@ use Rattle.frames.specs.Kind.{writeTried}
 use Rattle.frames.proofs.Places.{sure-request, sure-reply, sure-dynamic}
 use Rattle.desk.proofs.SureLaws.{sure-resets, sure-opens, sure-replies}
 use Rattle.rei2.specs.Numbers.{numberIn, offsetIn, spoiledIn, valueIn}
+use Rattle.desk.specs.Memory.{memory}
+use Rattle.desk.proofs.HandedOn.{refusals-are-handed-on}
+use Rattle.rei2.specs.Lent.{answerOf}
 use Rattle.rei2.specs.Tells.{NumbersTell}
 
 sure-writing : (wrong size room : ℕ) → Sure (writeTried wrong size room)
@@ -51,6 +54,7 @@ numbers-tell = record {
   request-refused = λ f. refl;
   reply-refused = λ f. refl;
   dynamic-refused = λ f. refl;
-  desk-refused = λ d f. refl;
+  opening-refused = λ seats seats′ d cells marks frame r f e g h. h .answer ∙ ap answerOf (refusals-are-handed-on .by-opening (memory d seats cells marks) frame f e g);
+  replying-refused = λ seats seats′ d cells cells′ marks marks′ frame r f e g h. h .answer ∙ ap answerOf (refusals-are-handed-on .by-reply (memory d seats cells marks) frame f e g);
   told = told-by;
 }

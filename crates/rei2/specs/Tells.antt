@@ -2,6 +2,7 @@
 -- Refusal, offset, spoiled byte and value together tell any two answers apart.
 use Prim.Native.Nat.{ℕ}
 use mathlib.Core.List.{List}
+use mathlib.Core.Bool.{true}
 use mathlib.Core.Path.{_≡_}
 use Rattle.digits.specs.declared.refusal.Refusal.{Refusal}
 use Rattle.digits.specs.Told.{Told, refuses, Sure}
@@ -12,14 +13,17 @@ use Rattle.frames.specs.Request.{request}
 use Rattle.frames.specs.Reply.{reply, zeroReply}
 use Rattle.frames.specs.Dynamic.{dynamic}
 use Rattle.desk.specs.declared.state.Desk.{Desk}
-use Rattle.desk.specs.Memory.{Memory}
+use Rattle.desk.specs.declared.state.Seat.{Seat}
+use Rattle.desk.specs.Memory.{Memory, memory}
+use Rattle.desk.specs.Desk.{isDesk}
 use Rattle.desk.specs.Calls.{resets, opens, replies}
 use Rattle.desk.specs.Capture.{captures}
 use Rattle.listing.specs.Listing.{listed}
 use Rattle.rei2.specs.Names.{nameTried}
 use Rattle.rei2.specs.Frames.{zeroRequest, requestAnswer, zeroDynamic, dynamicAnswer}
 use Rattle.rei2.specs.Reply.{shown, replyAnswer}
-use Rattle.rei2.specs.Lent.{deskAnswer}
+use Rattle.rei2.specs.declared.lent.DeskAnswer.{DeskAnswer}
+use Rattle.rei2.specs.Lent.{OpenLent, ReplyLent}
 use Rattle.rei2.specs.Numbers.{numberIn, offsetIn, spoiledIn, valueIn}
 
 pub record NumbersTell : Type 1 where
@@ -38,6 +42,10 @@ pub record NumbersTell : Type 1 where
   pub request-refused : (f : Refusal) → requestAnswer (refuses f) ≡ record { refusal = f .number; offset = f .offset; spoiled = f .spoiled; request = zeroRequest }
   pub reply-refused : (f : Refusal) → replyAnswer (refuses f) ≡ record { refusal = f .number; offset = f .offset; spoiled = f .spoiled; reply = shown zeroReply }
   pub dynamic-refused : (f : Refusal) → dynamicAnswer (refuses f) ≡ record { refusal = f .number; offset = f .offset; spoiled = f .spoiled; request = zeroDynamic }
-  pub desk-refused : (d : Desk) (f : Refusal) → deskAnswer d (refuses f) ≡ record { desk = d; refusal = f .number; offset = f .offset; spoiled = f .spoiled; seat = 0 }
+  -- and so do an opening and a reply on a lent desk, whatever answer meets their promises
+  pub opening-refused : (seats seats′ : List Seat) (d : Desk) (cells marks frame : List ℕ) (r : DeskAnswer) (f : Refusal) → isDesk (memory d seats cells marks) ≡ true → read request frame ≡ refuses f
+      → OpenLent seats d cells marks frame r seats′ → r ≡ record { desk = d; refusal = f .number; offset = f .offset; spoiled = f .spoiled; seat = 0 }
+  pub replying-refused : (seats seats′ : List Seat) (d : Desk) (cells cells′ marks marks′ frame : List ℕ) (r : DeskAnswer) (f : Refusal) → isDesk (memory d seats cells marks) ≡ true → read reply frame ≡ refuses f
+      → ReplyLent seats d cells marks frame r seats′ cells′ marks′ → r ≡ record { desk = d; refusal = f .number; offset = f .offset; spoiled = f .spoiled; seat = 0 }
   -- so number, offset, spoiled byte and value together determine an answer
   pub told : {A : Type 0} (zero : A) (t t′ : Told A) → Sure t → Sure t′ → numberIn t ≡ numberIn t′ → offsetIn t ≡ offsetIn t′ → spoiledIn t ≡ spoiledIn t′ → valueIn zero t ≡ valueIn zero t′ → t ≡ t′

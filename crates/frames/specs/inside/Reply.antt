@@ -30,8 +30,11 @@ use Rattle.frames.specs.inside.Spoiled.{replyByte}
 abbrev pub refusedBy : ReadRefusal → ReplyRead
 refusedBy f = record { verdict = Refused f; reply = zeroReply }
 
+abbrev pub wrongField : ℕ → ℕ → ReadRefusal
+wrongField wrong spoiled = Field (record { field = wrong; spoiled = spoiled })
+
 unfoldable pub judgedAs : StaticReply → ℕ → ℕ → ReplyRead
-judgedAs r wrong spoiled = cond (eqb wrong 0) (record { verdict = Read; reply = r }) (refusedBy (Field (record { field = wrong; spoiled = spoiled })))
+judgedAs r wrong spoiled = cond (eqb wrong 0) (record { verdict = Read; reply = r }) (refusedBy (wrongField wrong spoiled))
 
 -- the parts before time and date, as they are in a frame
 abbrev pub headAt : List ℕ → ReplyHead
