@@ -14,7 +14,9 @@ use Rattle.digits.specs.declared.refusal.Refusal.{Refusal}
 use Rattle.digits.specs.Refusals.{FIELD}
 use Rattle.digits.specs.Told.{gives, refuses, tried}
 use Rattle.digits.proofs.Writing.{sets-append, length-digits}
+use Rattle.frames.specs.declared.refusals.Place.{Place}
 use Rattle.frames.specs.declared.refusals.ReadRefusal.{ReadRefusal}
+use Rattle.frames.specs.declared.refusals.ReadRefusal.the-variants.{Field}
 use Rattle.frames.specs.declared.refusals.ReadVerdict.{ReadVerdict}
 use Rattle.frames.specs.declared.refusals.ReadVerdict.the-variants.{Read, Refused}
 use Rattle.frames.specs.declared.timing.TimingKind.{TimingKind}
@@ -36,7 +38,7 @@ use Rattle.frames.specs.Timing.{timingKind, timed}
 use Rattle.frames.specs.Reply.{isLetter, isReplyChannel, leastRun, Tail, fromBib, tailOf, withTail, replyFields, reply, Whole, toldBy, orZero, ReadAs, labelOf, labelled}
 use Rattle.frames.specs.inside.Held.{orNone}
 use Rattle.frames.specs.inside.Timing.{timingWrong, timingText}
-use Rattle.frames.specs.inside.Reply.{refusedBy, wrongField, judgedAs, headAt, headWrong, kindAt, seenIn, replyAt, wrongAt, spoiledByte, fieldsRead, fieldsChecked, headText, replyText}
+use Rattle.frames.specs.inside.Reply.{refusedBy, wrongPlace, judgedAs, headAt, headWrong, kindAt, seenIn, replyAt, wrongAt, spoiledByte, fieldsRead, fieldsChecked, headText, replyText}
 use Rattle.frames.specs.inside.Spoiled.{inClass, lookedIn, headByte, replyByte}
 use Rattle.frames.proofs.RuleLaws.{up-to, in-range, none-in-range, or-one, to-240}
 use Rattle.frames.proofs.ShapeLaws.{all-bytes}
@@ -261,7 +263,7 @@ refused-as s h f a is e q =
 
 module _ (r : StaticReply) (w b : ℕ) where
   abbrev judgedBy : Bool → ReplyRead
-  judgedBy t = cond t (record { verdict = Read; reply = r }) (refusedBy (wrongField w b))
+  judgedBy t = cond t (record { verdict = Read; reply = r }) (refusedBy (Field (wrongPlace w b)))
 
   judged-told : toldBy (judgedAs r w b .verdict) (judgedAs r w b .reply) ≡ tried (eqb w 0) (FIELD w b) (gives r)
   unfolding judgedAs
@@ -299,9 +301,9 @@ module _ (s : List ℕ) (w : ℕ) (is : w ≡ wrongAt s) where
   unfolding fieldsChecked
   checked-good h e z = rw (e, ← is, eq-eqb w 0 z)
 
-  pub checked-bad : (w ≡ 0 → ⊥) → (f : ReadRefusal) → f ≡ wrongField w (replyByte (kindAt s) s w) → refuses (readRefused f) ≡ fieldsChecked s
+  pub checked-bad : (w ≡ 0 → ⊥) → (p : Place) → p ≡ wrongPlace w (replyByte (kindAt s) s w) → refuses (readRefused (Field p)) ≡ fieldsChecked s
   unfolding fieldsChecked
-  checked-bad z f e = rw (← is, ne-eqb w 0 z, e)
+  checked-bad z p e = rw (← is, ne-eqb w 0 z, e)
 
 pub check-as : (s : List ℕ) (h : ReadVerdict) → h ≡ Read → verdictTold h ≡ headTold 18 51 s → fieldsChecked s ≡ labelled (read reply s)
 unfolding fieldsChecked

@@ -262,7 +262,7 @@ fn fields_checked(s: &[u8]) -> ReplyCheck
             number: h.number,
         });
     }
-    ReplyCheck::Refused(wrong_field(s, kind, wrong))
+    ReplyCheck::Refused(ReadRefusal::Field(wrong_place(s, kind, wrong)))
 }
 
 fn judged(s: &[u8], kind: TimingKind, r: StaticReply, wrong: u8) -> ReplyRead
@@ -274,16 +274,17 @@ fn judged(s: &[u8], kind: TimingKind, r: StaticReply, wrong: u8) -> ReplyRead
             reply: r,
         };
     }
-    refused(wrong_field(s, kind, wrong))
+    refused(ReadRefusal::Field(wrong_place(s, kind, wrong)))
 }
 
-fn wrong_field(s: &[u8], kind: TimingKind, wrong: u8) -> ReadRefusal
-    ensures { λ r. ⌜ r ≡ I.wrongField wrong (replyByte kind (now (s .entry)) wrong) ⌝ }
+// Not a refusal: where a caller makes it one, the compiler sees which one it is.
+fn wrong_place(s: &[u8], kind: TimingKind, wrong: u8) -> Place
+    ensures { λ r. ⌜ r ≡ I.wrongPlace wrong (replyByte kind (now (s .entry)) wrong) ⌝ }
 {
-    ReadRefusal::Field(Place {
+    Place {
         field: wrong,
         spoiled: reply_byte(s, kind, wrong),
-    })
+    }
 }
 
 // The byte that spoils the wrong field. A field of one byte is its own.

@@ -12,6 +12,7 @@ use crate::refusals::Place;
 use crate::refusals::ReadRefusal;
 use crate::refusals::ReadVerdict;
 use crate::refusals::WriteAnswer;
+use crate::spoiled::asked_byte;
 use crate::spoiled::looked_in;
 use digits::byte_at;
 use digits::in_set;
@@ -126,13 +127,13 @@ fn judged(s: &[u8], r: StaticRequest) -> RequestRead
     } else {
         RequestRead::Refused(ReadRefusal::Field(Place {
             field: wrong,
-            spoiled: request_byte(s, wrong),
+            spoiled: asked_byte(s, wrong, false),
         }))
     }
 }
 
 // The byte that spoils the wrong field. A field of one byte is its own.
-fn request_byte(s: &[u8], wrong: u8) -> u8
+pub(crate) fn request_byte(s: &[u8], wrong: u8) -> u8
     ensures { λ r. ⌜ r ≡ requestByte (now (s .entry)) wrong ⌝ }
 {
     let spoiled = looked_in(s, wrong, field::NUMBER, b"999", wrong);

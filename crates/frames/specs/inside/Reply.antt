@@ -7,6 +7,7 @@ use lib.ListN.{getD}
 use Rattle.digits.specs.Digits.{digits, numberAt}
 use Rattle.digits.specs.Refusals.{FIELD}
 use Rattle.digits.specs.Told.{Told, gives, tried}
+use Rattle.frames.specs.declared.refusals.Place.{Place}
 use Rattle.frames.specs.declared.refusals.ReadRefusal.{ReadRefusal}
 use Rattle.frames.specs.declared.refusals.ReadRefusal.the-variants.{Field}
 use Rattle.frames.specs.declared.refusals.ReadVerdict.the-variants.{Read, Refused}
@@ -30,11 +31,11 @@ use Rattle.frames.specs.inside.Spoiled.{replyByte}
 abbrev pub refusedBy : ReadRefusal → ReplyRead
 refusedBy f = record { verdict = Refused f; reply = zeroReply }
 
-abbrev pub wrongField : ℕ → ℕ → ReadRefusal
-wrongField wrong spoiled = Field (record { field = wrong; spoiled = spoiled })
+abbrev pub wrongPlace : ℕ → ℕ → Place
+wrongPlace wrong spoiled = record { field = wrong; spoiled = spoiled }
 
 unfoldable pub judgedAs : StaticReply → ℕ → ℕ → ReplyRead
-judgedAs r wrong spoiled = cond (eqb wrong 0) (record { verdict = Read; reply = r }) (refusedBy (wrongField wrong spoiled))
+judgedAs r wrong spoiled = cond (eqb wrong 0) (record { verdict = Read; reply = r }) (refusedBy (Field (wrongPlace wrong spoiled)))
 
 -- the parts before time and date, as they are in a frame
 abbrev pub headAt : List ℕ → ReplyHead

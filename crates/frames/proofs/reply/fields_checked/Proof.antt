@@ -26,15 +26,15 @@ cast-requester c = search needs
 returns : tie.Need-returns
 returns c = checked-good _ _ (c .before .before .before .head-wrong .ensures ∙ rw (c .before .before .before .before .timing-wrong-at .ensures, c .before .before .before .before .before .kind-of .ensures, c .before .before .before .before .before .before .head-at .ensures)) _ (c .before .before .before .before .before .before .head-at .ensures) (c .before .before .if1 .taken)
 
-wrong-field-requires : tie.Need-wrong-field-requires
-wrong-field-requires c κs = search needs
+wrong-place-requires : tie.Need-wrong-place-requires
+wrong-place-requires c κs = search needs
 
 returns-2 : tie.Need-returns-2
 returns-2 c =
     let w = c .before .before in
     let is-head = w .before .before .before .head-at .ensures in
     let is-kind = w .before .before .kind-of .ensures in
-    checked-bad _ _ (w .head-wrong .ensures ∙ rw (w .before .timing-wrong-at .ensures, is-kind, is-head)) (c .before .if1 .left) _ (c .wrong-field .ensures ∙ rw (is-kind, is-head))
+    checked-bad _ _ (w .head-wrong .ensures ∙ rw (w .before .timing-wrong-at .ensures, is-kind, is-head)) (c .before .if1 .left) _ (c .wrong-place .ensures ∙ rw (is-kind, is-head))
 
 pub fields-checked-spec : {M : Type 1} → statement M
 fields-checked-spec =
@@ -47,5 +47,5 @@ fields-checked-spec =
     cast-address
     cast-requester
     returns
-    wrong-field-requires
+    wrong-place-requires
     returns-2)
