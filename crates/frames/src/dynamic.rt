@@ -15,7 +15,6 @@ use crate::refusals::ReadRefusal;
 use crate::refusals::ReadVerdict;
 use crate::refusals::WriteAnswer;
 use crate::spoiled::TIME_CLASSES;
-use crate::spoiled::asked_byte;
 use crate::spoiled::looked_in;
 use digits::byte_at;
 use digits::put_byte;
@@ -146,13 +145,13 @@ fn judged(s: &[u8], r: DynamicRequest) -> DynamicRead
     } else {
         DynamicRead::Refused(ReadRefusal::Field(Place {
             field: wrong,
-            spoiled: asked_byte(s, wrong, true),
+            spoiled: dynamic_byte(s, wrong),
         }))
     }
 }
 
 // The byte that spoils the wrong field. A field of one byte is its own.
-pub(crate) fn dynamic_byte(s: &[u8], wrong: u8) -> u8
+fn dynamic_byte(s: &[u8], wrong: u8) -> u8
     ensures { λ r. ⌜ r ≡ dynamicByte (now (s .entry)) wrong ⌝ }
 {
     let spoiled = looked_in(s, wrong, field::BIB, b"69999", wrong);

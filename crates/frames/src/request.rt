@@ -12,7 +12,6 @@ use crate::refusals::Place;
 use crate::refusals::ReadRefusal;
 use crate::refusals::ReadVerdict;
 use crate::refusals::WriteAnswer;
-use crate::spoiled::asked_byte;
 use crate::spoiled::looked_in;
 use digits::byte_at;
 use digits::in_set;
@@ -127,13 +126,13 @@ fn judged(s: &[u8], r: StaticRequest) -> RequestRead
     } else {
         RequestRead::Refused(ReadRefusal::Field(Place {
             field: wrong,
-            spoiled: asked_byte(s, wrong, false),
+            spoiled: request_byte(s, wrong),
         }))
     }
 }
 
 // The byte that spoils the wrong field. A field of one byte is its own.
-pub(crate) fn request_byte(s: &[u8], wrong: u8) -> u8
+fn request_byte(s: &[u8], wrong: u8) -> u8
     ensures { λ r. ⌜ r ≡ requestByte (now (s .entry)) wrong ⌝ }
 {
     let spoiled = looked_in(s, wrong, field::NUMBER, b"999", wrong);

@@ -1,6 +1,4 @@
 // The byte that spoils a wrong field. It is looked for only once a frame is refused.
-use crate::dynamic::dynamic_byte;
-use crate::request::request_byte;
 use crate::timing::is_raw;
 use crate::timing::is_sign;
 use digits::byte_at;
@@ -8,7 +6,7 @@ ghost use mathlib.Core.Path.{_≡_};
 ghost use Prim.Native.Nat.{_+_, _<_};
 ghost use lib.ListN.{length};
 ghost use Rattle.frames.specs.Classes.{firstOff};
-ghost use Rattle.frames.specs.inside.Spoiled.{inClass, classesOf, lookedIn, askedByte};
+ghost use Rattle.frames.specs.inside.Spoiled.{inClass, classesOf, lookedIn};
 
 // The classes of HHMMSSdddd.
 pub(crate) const TIME_CLASSES: [u8; 10] = *b"2959599999";
@@ -54,16 +52,5 @@ pub(crate) fn looked_in(s: &[u8], wrong: u8, at: usize, text: &[u8], known: u8) 
         first_off(s, at, text)
     } else {
         known
-    }
-}
-
-// The same for a whole request. It is one function for both kinds, so that it stays out of their readers: a good frame must not pay for it.
-pub(crate) fn asked_byte(s: &[u8], wrong: u8, dynamic: bool) -> u8
-    ensures { λ r. ⌜ r ≡ askedByte dynamic (now (s .entry)) wrong ⌝ }
-{
-    if dynamic {
-        dynamic_byte(s, wrong)
-    } else {
-        request_byte(s, wrong)
     }
 }

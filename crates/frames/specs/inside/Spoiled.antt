@@ -47,10 +47,6 @@ dynamicByte s wrong =
     (lookedIn s wrong 10 (codes "299")
     (lookedIn s wrong 5 (codes "69999") wrong)))))))
 
--- of a dynamic request, or of a static one
-abbrev pub askedByte : Bool → List ℕ → ℕ → ℕ
-askedByte dynamic s wrong = cond dynamic (dynamicByte s wrong) (requestByte s wrong)
-
 -- in the fields of a reply before time and date
 abbrev pub headByte : List ℕ → ℕ → ℕ
 headByte s wrong =

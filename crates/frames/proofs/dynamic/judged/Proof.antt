@@ -10,11 +10,11 @@ dynamic-wrong-requires c κs = search needs
 returns : tie.Need-returns
 returns c = rw (← c .before .dynamic-wrong .ensures, eq-eqb (c .before .dynamic-wrong .result) 0 (c .if1 .taken))
 
-asked-byte-requires : tie.Need-asked-byte-requires
-asked-byte-requires c κs = search needs
+dynamic-byte-requires : tie.Need-dynamic-byte-requires
+dynamic-byte-requires c κs = search needs
 
 returns-2 : tie.Need-returns-2
-returns-2 c = rw (← c .before .before .dynamic-wrong .ensures, ne-eqb (c .before .before .dynamic-wrong .result) 0 (c .before .if1 .left), c .asked-byte .ensures)
+returns-2 c = rw (← c .before .before .dynamic-wrong .ensures, ne-eqb (c .before .before .dynamic-wrong .result) 0 (c .before .if1 .left), c .dynamic-byte .ensures)
 
 pub judged-spec : {M : Type 1} → statement M
-judged-spec = tie.close (tie.spec dynamic-wrong-requires asked-byte-requires returns returns-2)
+judged-spec = tie.close (tie.spec dynamic-wrong-requires dynamic-byte-requires returns returns-2)

@@ -10,11 +10,11 @@ request-wrong-requires c κs = search needs
 returns : tie.Need-returns
 returns c = rw (← c .before .request-wrong .ensures, eq-eqb (c .before .request-wrong .result) 0 (c .if1 .taken))
 
-asked-byte-requires : tie.Need-asked-byte-requires
-asked-byte-requires c κs = search needs
+request-byte-requires : tie.Need-request-byte-requires
+request-byte-requires c κs = search needs
 
 returns-2 : tie.Need-returns-2
-returns-2 c = rw (← c .before .before .request-wrong .ensures, ne-eqb (c .before .before .request-wrong .result) 0 (c .before .if1 .left), c .asked-byte .ensures)
+returns-2 c = rw (← c .before .before .request-wrong .ensures, ne-eqb (c .before .before .request-wrong .result) 0 (c .before .if1 .left), c .request-byte .ensures)
 
 pub judged-spec : {M : Type 1} → statement M
-judged-spec = tie.close (tie.spec request-wrong-requires asked-byte-requires returns returns-2)
+judged-spec = tie.close (tie.spec request-wrong-requires request-byte-requires returns returns-2)
