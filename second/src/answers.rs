@@ -315,9 +315,15 @@ mod tests {
         check("clock-text 863999999", "32333539353939393939");
         check("day 29 2 2024", "1");
         check("day 29 2 2023", "0");
-        check("net 1 1 863990000", "-10000");
+        check("net 1 1 863990000", "-1727990000");
+        check("net 1 0 10000", "-10000");
         check("net 1 0 0", "wrong");
-        check("net-parts -10000", "1 1 863990000");
+        check("net 0 0 0", "0");
+        check("net-parts -10000", "1 0 10000");
+        check("net-parts -1727990000", "1 1 863990000");
+        check("net-parts 0", "0 0 0");
+        check("net-parts -8639999999999999", "1 9999999 863999999");
+        check("net-parts -8640000000000000", "wrong");
         check("net-parts 8640000000000000", "wrong");
         check("running 1 0 863999999 0 9 863999999", "0 0 0 -9503999998");
         check("running 0 0 1 0 0 0", "8 0 0 0");
@@ -418,9 +424,25 @@ mod tests {
             lines[5],
             "5 69*5.5.5 1*0.0.0 12*5.5.5 1*0.0.0 7*5.5.5 1*0.0.0 165*5.5.5"
         );
-        // Minus zero days are refused.
-        assert_eq!(lines[40], "40 43*5.40.40 1*0.0.0 212*5.40.40");
+        // The time is not zero, so either sign is good.
+        assert_eq!(
+            lines[40],
+            "40 43*5.40.40 1*0.0.0 1*5.40.40 1*0.0.0 210*5.40.40"
+        );
         assert_eq!(lines[49], "49 32*5.48.49 95*0.0.0 129*5.48.49");
+    }
+
+    /// One tick behind: without its tick the reply is minus zero, with another digit it is not.
+    #[test]
+    fn damage_next_to_minus_zero() {
+        let reply = bytes_text(b"\x12R SOEA000120004100000101525510000000001-0000000  \r");
+        let answers = file(format!("damage-reply {reply}\n").as_bytes()).expect("a case");
+        let lines: Vec<&str> = answers.lines().collect();
+        assert_eq!(lines[38], "38 48*5.30.38 10*0.0.0 198*5.30.38");
+        assert_eq!(lines[39], "39 48*5.30.39 1*5.40.40 9*0.0.0 198*5.30.39");
+        let signs = "40 43*5.40.40 1*0.0.0 1*5.40.40 1*0.0.0 210*5.40.40";
+        assert_eq!(lines[40], signs);
+        assert_eq!(lines[47], "47 48*5.40.47 10*0.0.0 198*5.40.47");
     }
 
     #[test]

@@ -113,7 +113,8 @@ pub mod tests {
         "mixes-by-address",
     ];
 
-    const MOST_BYTES_OF_FILE: usize = 700_000;
+    /// The files are kept in the repository, and a person looks into them now and then.
+    const MOST_BYTES_OF_FILE: usize = 750_000;
     const MOST_BYTES_OF_LINE: usize = 1_000;
 
     /// The words that lines begin with.

@@ -310,7 +310,7 @@ fn read_date(frame: &[u8]) -> Option<(u64, u64, u64)> {
 }
 
 /// A sign, which is always there, and seven digits of days. Together with the time they are one
-/// value.
+/// value. Whether minus zero is good depends on the time.
 fn read_net(frame: &[u8], time: i128) -> Option<i128> {
     let minus = match frame.get(at::DATE)? {
         b'+' => false,
@@ -543,11 +543,77 @@ mod tests {
     fn cases_2_and_3_net() {
         let net = |text| timing_with(SECOND, at::TIME, text);
         assert_eq!(net(b"0001125400+0000000"), Ok(Timing::Net(725_400)));
-        assert_eq!(net(b"2359590000-0000001"), Ok(Timing::Net(-10_000)));
-        assert_eq!(net(b"2359590000-0000000"), Err(Refusal::Field(40, 40)));
+        assert_eq!(net(b"2359590000-0000001"), Ok(Timing::Net(-1_727_990_000)));
+        assert_eq!(net(b"2359590000-0000000"), Ok(Timing::Net(-863_990_000)));
         assert_eq!(net(b"0000000000 0000001"), Err(Refusal::Field(40, 40)));
         assert_eq!(net(b"000000000000000001"), Err(Refusal::Field(40, 40)));
         assert_eq!(net(b"0000000000+00 0001"), Err(Refusal::Field(40, 43)));
+    }
+
+    /// A skier one second behind, and both sides of it.
+    #[test]
+    fn minus_with_no_days_wants_a_time() {
+        for letter in *NET_LETTERS {
+            for status in *b"RE" {
+                let mut reply = *SECOND;
+                reply[at::STATUS] = status;
+                reply[at::INFORMATION] = letter;
+                let net = |text| timing_with(&reply, at::TIME, text);
+                assert_eq!(net(b"0000010000-0000000"), Ok(Timing::Net(-10_000)));
+                assert_eq!(net(b"0000000001-0000000"), Ok(Timing::Net(-1)));
+                assert_eq!(net(b"0000000000-0000000"), Err(Refusal::Field(40, 40)));
+                assert_eq!(net(b"0000000000+0000000"), Ok(Timing::Net(0)));
+                assert_eq!(net(b"0000000000-0000001"), Ok(Timing::Net(-864_000_000)));
+                let lowest = Timing::Net(-8_639_999_999_999_999);
+                assert_eq!(net(b"2359599999-9999999"), Ok(lowest));
+            }
+        }
+    }
+
+    /// The same text is no date under a clock letter. Under a raw letter, and with status Z under
+    /// any letter, it is not interpreted.
+    #[test]
+    fn minus_zero_outside_net_replies() {
+        for time in [b"0000000000", b"0000000001"] {
+            let text = [&time[..], b"-0000000"].concat();
+            let under = |status, letter| {
+                let mut reply = *SECOND;
+                reply[at::STATUS] = status;
+                reply[at::INFORMATION] = letter;
+                timing_with(&reply, at::TIME, &text)
+            };
+            for letter in *CLOCK_LETTERS {
+                assert_eq!(under(b'R', letter), Err(Refusal::Field(40, 40)));
+            }
+            assert_eq!(under(b'R', b'P'), Ok(Timing::Raw));
+            for letter in *INFORMATION {
+                assert_eq!(under(b'Z', letter), Ok(Timing::Raw));
+            }
+        }
+    }
+
+    #[test]
+    fn net_values_and_their_writing() {
+        for (value, text) in [
+            (0, b"0000000000+0000000"),
+            (1, b"0000000001+0000000"),
+            (-1, b"0000000001-0000000"),
+            (-10_000, b"0000010000-0000000"),
+            (-863_999_999, b"2359599999-0000000"),
+            (-864_000_000, b"0000000000-0000001"),
+            (-864_000_001, b"0000000001-0000001"),
+            (-1_727_990_000, b"2359590000-0000001"),
+            (-8_639_999_136_000_000, b"0000000000-9999999"),
+            (-8_639_999_999_999_999, b"2359599999-9999999"),
+            (8_639_999_999_999_999, b"2359599999+9999999"),
+        ] {
+            let timing = Timing::Net(value);
+            let record = Reply { timing, ..second() };
+            let (outcome, written) = record.write_value();
+            assert_eq!(outcome, Ok(()));
+            assert_eq!(&written[at::TIME..at::SPARE], text);
+            assert_eq!(Reply::read_value(written), Ok(record));
+        }
     }
 
     #[test]
@@ -715,7 +781,9 @@ mod tests {
             refused(Reply { timing, ..second() })
         };
         assert_eq!(net_of(-8_639_999_136_000_000), None);
-        assert_eq!(net_of(-8_639_999_136_000_001), Some(40));
+        assert_eq!(net_of(-8_639_999_136_000_001), None);
+        assert_eq!(net_of(-8_639_999_999_999_999), None);
+        assert_eq!(net_of(-8_640_000_000_000_000), Some(40));
         assert_eq!(net_of(8_639_999_999_999_999), None);
         assert_eq!(net_of(8_640_000_000_000_000), Some(40));
         let raw_time = *b"000000000\x7f";

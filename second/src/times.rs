@@ -66,7 +66,7 @@ fn is_leap_year(year: u64) -> bool {
     year.is_multiple_of(4) && (!year.is_multiple_of(100) || year.is_multiple_of(400))
 }
 
-/// What a net reply shows: signed days, and a time that is never negative.
+/// What a net reply shows: a sign, and days and a time that the sign applies to together.
 #[derive(Clone, Copy, Debug, PartialEq, Eq)]
 pub struct Net {
     pub minus: bool,
@@ -74,26 +74,27 @@ pub struct Net {
     pub time: i128,
 }
 
-/// Signed days x 864,000,000 + time. The minus applies only to the days. Minus with no days is
-/// refused, and so are days and times that the digits of a reply cannot show.
+/// Days x 864,000,000 + time, with the sign in front of the sum. Zero has only one sign, the plus:
+/// a minus with neither days nor time is refused. So are days and times that the digits of a reply
+/// cannot show.
 pub fn net_value(net: Net) -> Option<i128> {
     let showable = (0..=MOST_NET_DAYS).contains(&net.days) && is_time(net.time);
-    let minus_zero = net.minus && net.days == 0;
+    let size = net.days * TICKS_OF_DAY + net.time;
+    let minus_zero = net.minus && size == 0;
     if !showable || minus_zero {
         return None;
     }
-    let days = if net.minus { -net.days } else { net.days };
-    Some(days * TICKS_OF_DAY + net.time)
+    Some(if net.minus { -size } else { size })
 }
 
-/// The only net reply that has this value, if there is one. Its time is never negative, so the days
-/// are the value divided and rounded down.
+/// The only net reply that has this value, if there is one. The sign is taken off first, and what
+/// is left is divided into days and time.
 pub fn net_parts(value: i128) -> Option<Net> {
-    let days = value.div_euclid(TICKS_OF_DAY);
+    let size = value.abs();
     let net = Net {
-        minus: days < 0,
-        days: days.abs(),
-        time: value.rem_euclid(TICKS_OF_DAY),
+        minus: value < 0,
+        days: size / TICKS_OF_DAY,
+        time: size % TICKS_OF_DAY,
     };
     (net.days <= MOST_NET_DAYS).then_some(net)
 }
@@ -122,7 +123,7 @@ pub fn running_time(running: Running) -> Option<i128> {
     Some(now - event - auxiliary_time(running)?)
 }
 
-/// Taux. Its sign applies to days and time together, unlike the sign of a net reply.
+/// Taux. Its sign applies to days and time together. Unlike in a net reply, minus zero is allowed.
 fn auxiliary_time(running: Running) -> Option<i128> {
     let Running {
         sign, days, time, ..
@@ -190,43 +191,100 @@ mod tests {
     }
 
     #[test]
-    fn case_3_minus_covers_the_days_alone() {
+    fn case_3_minus_covers_days_and_time() {
         let time = read_clock(b"2359590000", 0).expect("a good time");
-        assert_eq!(net_value(minus(1, time)), Some(-10_000));
-        assert_eq!(net_parts(-10_000), Some(minus(1, time)));
+        assert_eq!(net_value(minus(1, time)), Some(-1_727_990_000));
+        assert_eq!(net_parts(-1_727_990_000), Some(minus(1, time)));
     }
 
     #[test]
-    fn minus_with_no_days_is_turned_away() {
+    fn one_second_behind_has_no_days() {
+        let second = read_clock(b"0000010000", 0).expect("a good time");
+        assert_eq!(net_value(minus(0, second)), Some(-10_000));
+        assert_eq!(net_parts(-10_000), Some(minus(0, second)));
+    }
+
+    #[test]
+    fn minus_zero_is_turned_away_only_without_a_time() {
         assert_eq!(net_value(minus(0, 0)), None);
-        assert_eq!(net_value(minus(0, 5)), None);
+        assert_eq!(net_value(plus(0, 0)), Some(0));
+        assert_eq!(net_value(minus(0, 1)), Some(-1));
+        assert_eq!(net_value(minus(1, 0)), Some(-864_000_000));
+        assert_eq!(net_value(minus(0, 864_000_000)), None);
+    }
+
+    /// Both sides of zero and of one day, with either sign.
+    #[test]
+    fn net_around_zero_and_one_day() {
+        assert_eq!(net_parts(0), Some(plus(0, 0)));
+        for (size, days, time) in [
+            (1, 0, 1),
+            (863_999_999, 0, 863_999_999),
+            (864_000_000, 1, 0),
+            (864_000_001, 1, 1),
+        ] {
+            assert_eq!(net_parts(size), Some(plus(days, time)));
+            assert_eq!(net_parts(-size), Some(minus(days, time)));
+            assert_eq!(net_value(plus(days, time)), Some(size));
+            assert_eq!(net_value(minus(days, time)), Some(-size));
+        }
     }
 
     #[test]
     fn net_ends() {
-        let (low, high) = (-8_639_999_136_000_000, 8_639_999_999_999_999);
-        assert_eq!(net_value(minus(9_999_999, 0)), Some(low));
-        assert_eq!(net_value(plus(9_999_999, 863_999_999)), Some(high));
-        assert_eq!(net_value(plus(10_000_000, 0)), None);
-        assert_eq!(net_value(plus(0, 864_000_000)), None);
-        assert_eq!(net_parts(low), Some(minus(9_999_999, 0)));
-        assert_eq!(net_parts(high), Some(plus(9_999_999, 863_999_999)));
-        assert_eq!(net_parts(low - 1), None);
-        assert_eq!(net_parts(high + 1), None);
+        let most = 8_639_999_999_999_999;
+        assert_eq!(net_value(plus(9_999_999, 863_999_999)), Some(most));
+        assert_eq!(net_value(minus(9_999_999, 863_999_999)), Some(-most));
+        assert_eq!(net_parts(most), Some(plus(9_999_999, 863_999_999)));
+        assert_eq!(net_parts(-most), Some(minus(9_999_999, 863_999_999)));
+        for beyond in [most + 1, i64::MAX.into(), -most - 1, i64::MIN.into()] {
+            assert_eq!(net_parts(beyond), None);
+        }
+        for beyond in [plus, minus] {
+            assert_eq!(net_value(beyond(10_000_000, 0)), None);
+            assert_eq!(net_value(beyond(0, 864_000_000)), None);
+        }
+    }
+
+    /// The most days with no time is not the low end: there are values below it.
+    #[test]
+    fn net_below_whole_days() {
+        let whole_days = -8_639_999_136_000_000;
+        assert_eq!(net_parts(whole_days), Some(minus(9_999_999, 0)));
+        assert_eq!(net_parts(whole_days - 1), Some(minus(9_999_999, 1)));
+        let before = minus(9_999_998, 863_999_999);
+        assert_eq!(net_parts(whole_days + 1), Some(before));
     }
 
     #[test]
     fn net_there_and_back() {
-        for value in [
+        for size in [
             0,
             1,
-            -1,
+            10_000,
             863_999_999,
             864_000_000,
-            -863_999_999,
-            -864_000_001,
+            864_000_001,
+            1_727_990_000,
+            8_639_999_136_000_000,
+            8_639_999_999_999_999,
         ] {
-            assert_eq!(net_parts(value).and_then(net_value), Some(value));
+            for value in [size, -size] {
+                assert_eq!(net_parts(value).and_then(net_value), Some(value));
+            }
+        }
+    }
+
+    /// Each value has one writing: what is not refused comes back with its own sign.
+    #[test]
+    fn net_parts_there_and_back() {
+        for days in [0, 1, 2, 9_999_999] {
+            for time in [0, 1, 10_000, 863_990_000, 863_999_999] {
+                for net in [plus(days, time), minus(days, time)] {
+                    let again = net_value(net).and_then(net_parts);
+                    assert_eq!(again, (net != minus(0, 0)).then_some(net));
+                }
+            }
         }
     }
 

@@ -22,10 +22,11 @@ use Rattle.frames.specs.RequestCases.{RequestWorked}
 use Rattle.frames.specs.ReplyCases.{ReplyWorked}
 use Rattle.frames.specs.DynamicCases.{DynamicWorked}
 use Rattle.frames.specs.AddressCases.{AddressWorked}
+use Rattle.frames.specs.NetCases.{NetWorked}
 use Rattle.frames.specs.SpoiledCases.{SpoiledWorked}
 
 pub worked : Worked
-unfolding numberAt numberFrom oneOf ticksOf leap monthLength realDay isNet inRange runningTime between upTo isAddress isRaw isRequester isOutput allFrom fieldsOf recordWrong headTold read wrongIn writeTried timingKind isSign timed Q.isInformation Q.isRequestChannel Q.requestFields isStatus P.isLetter P.isReplyChannel P.leastRun P.fromBib P.replyFields D.isOrder D.isDynamicChannel D.leastPeriod D.dynamicFields firstOff digitFrom
+unfolding digits clockNumber write frameOf numberAt numberFrom oneOf ticksOf leap monthLength realDay isNet inRange runningTime between upTo isAddress isRaw isRequester isOutput allFrom fieldsOf recordWrong headTold read wrongIn writeTried timingKind isSign timed Q.isInformation Q.isRequestChannel Q.requestFields isStatus P.isLetter P.isReplyChannel P.leastRun P.fromBib P.replyFields D.isOrder D.isDynamicChannel D.leastPeriod D.dynamicFields firstOff digitFrom
 worked = record {
   last-tick = refl;
   last-second = refl;
@@ -33,6 +34,7 @@ worked = record {
   net-hour-24 = refl;
   net-plus = refl;
   net-minus = refl;
+  net-second = refl;
   leap-day = refl;
   no-leap-day = refl;
   run-250 = (_, refl);
@@ -146,9 +148,12 @@ reply-worked = record {
   channel-251 = refl;
   letter-3 = (_, refl);
   letter-q = refl;
-  minus-none = refl;
-  minus-one = (_, refl);
-  plus-none = (_, refl);
+  minus-no-days = (_, refl);
+  plus-no-days = (_, refl);
+  minus-zero = refl;
+  minus-one-tick = (_, refl);
+  minus-one-day = (_, refl);
+  plus-zero = (_, refl);
   wrong-address = refl;
   wrong-program = refl;
   wrong-mode = refl;
@@ -270,6 +275,27 @@ address-worked = record {
   refused-without-room = refl;
 }
 
+pub net-worked : NetWorked
+unfolding digits numberAt numberFrom oneOf between upTo isAddress isRequester isOutput allFrom fieldsOf recordWrong write headTold read wrongIn frameOf writeTried ticksOf clockNumber leap monthLength realDay isNet isRaw timingKind isSign timed isStatus P.isLetter P.isReplyChannel P.leastRun P.fromBib P.replyFields firstOff digitFrom
+net-worked = record {
+  read-as = refl;
+  written-as = refl;
+  well-formed = refl;
+  too-far = refl;
+  zero-1 = refl;
+  zero-2 = refl;
+  zero-3 = refl;
+  zero-R = refl;
+  zero-E = refl;
+  tick-1 = (_, refl);
+  tick-2 = (_, refl);
+  tick-3 = (_, refl);
+  tick-R = (_, refl);
+  zero-Z = (_, refl);
+  zero-raw = (_, refl);
+  zero-clock = refl;
+}
+
 pub spoiled-worked : SpoiledWorked
 unfolding numberAt numberFrom oneOf between upTo isAddress isRequester isOutput allFrom fieldsOf headTold read ticksOf leap monthLength realDay isNet isRaw timingKind isSign timed isStatus Q.isInformation Q.isRequestChannel Q.requestFields P.isLetter P.isReplyChannel P.leastRun P.fromBib P.replyFields D.isOrder D.isDynamicChannel D.leastPeriod D.dynamicFields firstOff digitFrom
 spoiled-worked = record {
@@ -291,6 +317,7 @@ spoiled-worked = record {
   clock-date = refl;
   clock-year = refl;
   net-date = refl;
+  net-date-at-zero = refl;
   spare = refl;
   both-spare = refl;
   raw-date = refl;

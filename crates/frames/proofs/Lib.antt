@@ -17,4 +17,7 @@ pub mod Places
 pub mod ClassLaws
 pub mod SpoiledLaws
 pub mod SpoiledDemands
+pub mod NetWritings
+pub mod NetReplies
+pub mod NetTimes
 pub mod Cases

@@ -137,7 +137,7 @@ length-reply = length-frame reply-sound
 
 -- ---- a record's first wrong part
 
-abbrev kindIn : StaticReply → TimingKind
+abbrev pub kindIn : StaticReply → TimingKind
 kindIn r = timingKind (r .head .status) (r .head .information)
 
 -- the test of time and date alone agrees with that of the whole layout
@@ -154,7 +154,7 @@ reply-wrong-is r = ap (λ w. wrongUnless (isAddress (r .head .address)) 2 (headW
 last-none : (t : Bool) (at rest : ℕ) → wrongUnless t at rest ≡ 0 → T (ltb 0 at) → rest ≡ 0
 last-none t at rest e h = unless-none t at rest (ltb→lt 0 at h) e .1
 
-head-none : (h : ReplyHead) (rest : ℕ) → headWrong h rest ≡ 0 → rest ≡ 0
+pub head-none : (h : ReplyHead) (rest : ℕ) → headWrong h rest ≡ 0 → rest ≡ 0
 unfolding headWrong
 head-none h rest e =
     last-none (isLetter (h .information)) _ _
@@ -168,6 +168,27 @@ head-none h rest e =
     (last-none (isStatus (h .status)) _ _
     (last-none (isRaw (h .mode)) _ _
     (last-none (isRaw (h .program)) _ _ e tt) tt) tt) tt) tt) tt) tt) tt) tt) tt) tt
+
+-- a head that is not wrong leaves what the rest says
+pub head-passes : (h : ReplyHead) → headWrong h 0 ≡ 0 → (rest : ℕ) → headWrong h rest ≡ rest
+unfolding headWrong
+head-passes h e rest =
+    let program = unless-none (isRaw (h .program)) 3 _ (omega arith) e in
+    let mode = unless-none (isRaw (h .mode)) 4 _ (omega arith) (program .1) in
+    let status = unless-none (isStatus (h .status)) 5 _ (omega arith) (mode .1) in
+    let requester = unless-none (isRequester (h .requester)) 6 _ (omega arith) (status .1) in
+    let number = unless-none (upTo 99999 (h .number)) 7 _ (omega arith) (requester .1) in
+    let bib = unless-none (upTo 59999 (h .bib)) 12 _ (omega arith) (number .1) in
+    let group = unless-none (upTo 199 (h .group)) 17 _ (omega arith) (bib .1) in
+    let run = unless-none (between (leastRun (h .status)) 250 (h .run)) 20 _ (omega arith) (group .1) in
+    let physical = unless-none (upTo 999 (h .physical)) 23 _ (omega arith) (run .1) in
+    let channel = unless-none (isReplyChannel (h .channel)) 26 _ (omega arith) (physical .1) in
+    let letter = unless-none (isLetter (h .information)) 29 _ (omega arith) (channel .1) in
+    rw (program .0, mode .0, status .0, requester .0, number .0, bib .0, group .0, run .0, physical .0, channel .0, letter .0)
+
+pub head-status : (h : ReplyHead) (rest : ℕ) → headWrong h rest ≡ 0 → isStatus (h .status) ≡ true
+unfolding headWrong
+head-status h rest e = unless-none (isStatus (h .status)) 5 _ (omega arith) (last-none (isRaw (h .mode)) _ _ (last-none (isRaw (h .program)) _ _ e tt) tt) .0
 
 -- if a record is well formed, so are its time and date
 pub times-fine : (r : StaticReply) → wrongIn reply r ≡ 0 → recordWrong (timed (kindIn r)) (tailOf r .times) ≡ 0
@@ -236,12 +257,12 @@ pub head-stores : (h : ReplyHead) (l : List ℕ) →
     ≡ sets l 0 (headText h)
 head-stores h l = simp (sets-append, length-digits)
 
-length-timing : (t : Timing) (rt rd : List ℕ) → length (timingText t rt rd) ≡ 18
+pub length-timing : (t : Timing) (rt rd : List ℕ) → length (timingText t rt rd) ≡ 18
 length-timing (Clock ticks day month year) rt rd = simp (length-append, length-digits)
 length-timing (Net v) rt rd = simp (length-append, length-digits)
 length-timing Raw rt rd = refl
 
-length-head : (h : ReplyHead) → length (headText h) ≡ 30
+pub length-head : (h : ReplyHead) → length (headText h) ≡ 30
 length-head h = simp (length-append, length-digits)
 
 pub reply-stores : (r : StaticReply) (l : List ℕ) → 2 ≡ length (r .spare)

@@ -280,11 +280,11 @@ net-shows ticks time = record { wide = refl; only = λ v q. in-days v q; some = 
     plus days e = rw (e, time)
 
     one-day : (sign : ℕ) → isSign sign ≡ true → areDays ticks (sign, 1) ≡ true
-    one-day sign e = rw (e, time) (no-minus (eqb sign 45))
+    one-day sign e = rw (e, time) (not-zero (eqb sign 45) (eqb ticks 0))
       where
-        no-minus : (m : Bool) → not (m && false) ≡ true
-        no-minus true = refl
-        no-minus false = refl
+        not-zero : (minus no-time : Bool) → not (minus && false && no-time) ≡ true
+        not-zero true no-time = refl
+        not-zero false no-time = refl
 
     in-days : (v : ℕ × ℕ) → areDays ticks v ≡ true → Fits (netDays ticks .classes) (netDays ticks .shape .put v)
     in-days v q zero h = and-l (isSign (v .0)) _ q

@@ -13,10 +13,11 @@ use Rattle.digits.specs.Text.{oneOf}
 use Rattle.digits.specs.Digits.{digits, numberAt}
 use Rattle.digits.proofs.Tests.{and-true}
 use Rattle.digits.proofs.Writing.{sets-append, length-digits}
+use Rattle.times.specs.declared.net.NetParts.{NetParts}
 use Rattle.times.specs.Clock.{clock}
 use Rattle.times.specs.Net.{isNet, netSum, netValue, netParts}
 use Rattle.times.proofs.DayLaws.{day-bounds}
-use Rattle.times.proofs.NetLaws.{net-inverse, net-days}
+use Rattle.times.proofs.NetLaws.{net-inverse, net-is}
 use Rattle.frames.specs.declared.timing.TimingKind.{TimingKind}
 use Rattle.frames.specs.declared.timing.TimingKind.the-variants.{Clock as clockKind, Net as netKind, Raw as rawKind}
 use Rattle.frames.specs.declared.timing.Timing.{Timing}
@@ -104,7 +105,7 @@ days-inverse : (ticks : ℕ) → Inverse signedDays (areDays ticks) (λ _. Unit 
 days-inverse ticks =
     both-inverse {ruleA = λ _. true} {ruleB = λ d. leb d 9999999} byte-inverse
     (digits-inverse 7 9999999 tt tt (λ v h. leb-true v 9999999 h))
-    (λ v h. (refl, le-leb (v .1) 9999999 (net-days (netOf ticks (v .0) (v .1)) (and-eq-true-iff (isSign (v .0)) (isNet (netOf ticks (v .0) (v .1))) .0 h .1))))
+    (λ v h. (refl, le-leb (v .1) 9999999 (net-is (netOf ticks (v .0) (v .1)) (and-eq-true-iff (isSign (v .0)) (isNet (netOf ticks (v .0) (v .1))) .0 h .1) .days)))
 
 -- a record of this kind with these values, whose unused bytes are zero
 
@@ -149,7 +150,7 @@ module _ (ticks : ℕ) (days : ℕ × ℕ) (good : areDays ticks days ≡ true) 
   net-parts-are = net-inverse .back (netOf ticks (days .0) (days .1)) (and-eq-true-iff (isSign (days .0)) (isNet (netOf ticks (days .0) (days .1))) .0 good .1)
 
   net-days-are : daysIn (Net (netSum (netOf ticks (days .0) (days .1)))) ≡ days
-  net-days-are = rw net-parts-are (ap (λ (s : ℕ). (s, days .1)) (sign-again (days .0) (and-eq-true-iff (isSign (days .0)) (isNet (netOf ticks (days .0) (days .1))) .0 good .0)))
+  net-days-are = ap (λ (p : NetParts). (signOf (p .minus), p .days)) net-parts-are ∙ (ap (λ (s : ℕ). (s, days .1)) (sign-again (days .0) (and-eq-true-iff (isSign (days .0)) (isNet (netOf ticks (days .0) (days .1))) .0 good .0)))
 
 pub timed-sound : (kind : TimingKind) → Sound WholeTimes (timed kind) (λ _. Unit {0}) (Unit {0}) 20
 unfolding timed allFrom

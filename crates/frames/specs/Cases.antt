@@ -18,7 +18,7 @@ use Rattle.frames.specs.declared.reply.StaticReply.{StaticReply}
 use Rattle.frames.specs.declared.refusals.ReadRefusal.the-variants.{Kind as kind, Length, End, Address, Field}
 use Rattle.frames.specs.declared.refusals.WriteRefusal.the-variants.{Record, Room}
 use Rattle.frames.specs.Refusals.{readRefused, writeRefused}
-use Rattle.frames.specs.Kind.{Kind, read, wrongIn, writeTried}
+use Rattle.frames.specs.Kind.{Kind, read, wrongIn, frameOf, writeTried}
 use Rattle.frames.specs.Request.{request}
 use Rattle.frames.specs.Reply.{reply}
 use Rattle.frames.specs.Dynamic.{dynamic}
@@ -79,8 +79,9 @@ pub record Worked : Type 0 where
   pub net-hour-24 : FieldAt reply (replying "00041" "255" "1" "2400000000" "+0000000") 30
   -- 2. net: zero days, and a time
   pub net-plus : read reply (replying "00041" "255" "1" "0001125400" "+0000000") ≡ gives (replied 49 (Net (pos 725400)))
-  -- 3. net: minus one day, and a time
-  pub net-minus : read reply (replying "00041" "255" "1" "2359590000" "-0000001") ≡ gives (replied 49 (Net (negsuc 9999)))
+  -- 3. net: a minus covers days and time together; one second below zero is written without days
+  pub net-minus : read reply (replying "00041" "255" "1" "2359590000" "-0000001") ≡ gives (replied 49 (Net (negsuc 1727989999)))
+  pub net-second : frameOf reply (replied 49 (Net (negsuc 9999))) ≡ replying "00041" "255" "1" "0000010000" "-0000000"
   -- 4. 29 February
   pub leap-day : read reply (replying "00041" "255" "0" "0001125400" "29022024") ≡ gives (replied 48 (Clock 725400 29 2 2024))
   pub no-leap-day : FieldAt reply (replying "00041" "255" "0" "0001125400" "29022023") 40

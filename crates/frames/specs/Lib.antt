@@ -16,11 +16,13 @@ pub mod Unique
 pub mod Keeps
 pub mod Places
 pub mod Spoiled
+pub mod NetTimes
 pub mod Cases
 pub mod RuleCases
 pub mod RequestCases
 pub mod ReplyCases
 pub mod DynamicCases
 pub mod AddressCases
+pub mod NetCases
 pub mod SpoiledCases
 pub mod inside

@@ -39,7 +39,7 @@ tells address program mode status requester number bib group run physical channe
 -- the net reply's record with these parts before time and date
 abbrev pub heads : ℕ → ℕ → ℕ → ℕ → ℕ → ℕ → ℕ → ℕ → ℕ → ℕ → ℕ → ℕ → StaticReply
 heads address program mode status requester number bib group run physical channel letter =
-    tells address program mode status requester number bib group run physical channel letter (Net (negsuc 2139032109)) (replicate 10 0) (replicate 8 0) (117 ∷ 118 ∷ [])
+    tells address program mode status requester number bib group run physical channel letter (Net (negsuc 3044967889)) (replicate 10 0) (replicate 8 0) (117 ∷ 118 ∷ [])
 
 -- the same record with these parts from the letter on
 abbrev pub tails : ℕ → Timing → List ℕ → List ℕ → List ℕ → StaticReply
@@ -60,10 +60,10 @@ places =
 
 pub record ReplyWorked : Type 0 where
   -- the frames and their records: minus three days and a time; a time of day with its date; raw bytes
-  pub net : read reply good ≡ gives (tails 50 (Net (negsuc 2139032109)) (replicate 10 0) (replicate 8 0) (117 ∷ 118 ∷ []))
+  pub net : read reply good ≡ gives (tails 50 (Net (negsuc 3044967889)) (replicate 10 0) (replicate 8 0) (117 ∷ 118 ∷ []))
   pub clock : read reply goodClock ≡ gives (tails 75 (Clock 452967890 28 11 2031) (replicate 10 0) (replicate 8 0) (117 ∷ 118 ∷ []))
   pub raw : read reply goodRaw ≡ gives (tails 81 Raw aToJ kToR (117 ∷ 118 ∷ []))
-  pub net-written : frameOf reply (tails 50 (Net (negsuc 2139032109)) (replicate 10 0) (replicate 8 0) (117 ∷ 118 ∷ [])) ≡ good
+  pub net-written : frameOf reply (tails 50 (Net (negsuc 3044967889)) (replicate 10 0) (replicate 8 0) (117 ∷ 118 ∷ [])) ≡ good
   pub clock-written : frameOf reply (tails 75 (Clock 452967890 28 11 2031) (replicate 10 0) (replicate 8 0) (117 ∷ 118 ∷ [])) ≡ goodClock
   pub raw-written : frameOf reply (tails 81 Raw aToJ kToR (117 ∷ 118 ∷ [])) ≡ goodRaw
   -- what the check reports of the net reply: status, address, requester and number
@@ -94,10 +94,13 @@ pub record ReplyWorked : Type 0 where
   pub channel-251 : FieldAt reply (but 26 "251") 26
   pub letter-3 : Good reply (but 29 "3")
   pub letter-q : FieldAt reply (but 29 "q") 29
-  -- a minus with zero days, a minus with one day, a plus with zero days
-  pub minus-none : FieldAt reply (but 40 "-0000000") 40
-  pub minus-one : Good reply (but 40 "-0000001")
-  pub plus-none : Good reply (but 40 "+0000000")
+  -- a minus and a plus with zero days, and the same with time zero
+  pub minus-no-days : Good reply (but 40 "-0000000")
+  pub plus-no-days : Good reply (but 40 "+0000000")
+  pub minus-zero : FieldAt reply (but 30 "0000000000-0000000") 40
+  pub minus-one-tick : Good reply (but 30 "0000000001-0000000")
+  pub minus-one-day : Good reply (but 30 "0000000000-0000001")
+  pub plus-zero : Good reply (but 30 "0000000000+0000000")
   -- a record with one part out of range
   pub wrong-address : wrongIn reply (heads 45 80 109 69 68 12345 23456 78 209 345 167 50) ≡ 2
   pub wrong-program : wrongIn reply (heads 53 31 109 69 68 12345 23456 78 209 345 167 50) ≡ 3
@@ -121,7 +124,7 @@ pub record ReplyWorked : Type 0 where
   pub net-date : wrongIn reply (tails 50 (Net (pos 8640000000000000)) (replicate 10 0) (replicate 8 0) (117 ∷ 118 ∷ [])) ≡ 40
   pub raw-time : wrongIn reply (tails 81 Raw (sets aToJ 9 (127 ∷ [])) kToR (117 ∷ 118 ∷ [])) ≡ 30
   pub raw-date : wrongIn reply (tails 81 Raw aToJ (sets kToR 7 (127 ∷ [])) (117 ∷ 118 ∷ [])) ≡ 40
-  pub net-spare : wrongIn reply (tails 50 (Net (negsuc 2139032109)) (replicate 10 0) (replicate 8 0) (117 ∷ 127 ∷ [])) ≡ 48
+  pub net-spare : wrongIn reply (tails 50 (Net (negsuc 3044967889)) (replicate 10 0) (replicate 8 0) (117 ∷ 127 ∷ [])) ≡ 48
   pub raw-spare : wrongIn reply (tails 81 Raw aToJ kToR (127 ∷ 118 ∷ [])) ≡ 48
-  pub net-left-over : wrongIn reply (tails 50 (Net (negsuc 2139032109)) aToJ (replicate 8 0) (117 ∷ 118 ∷ [])) ≡ 50
+  pub net-left-over : wrongIn reply (tails 50 (Net (negsuc 3044967889)) aToJ (replicate 8 0) (117 ∷ 118 ∷ [])) ≡ 50
   pub clock-left-over : wrongIn reply (tails 75 (Clock 452967890 28 11 2031) (replicate 10 0) kToR (117 ∷ 118 ∷ [])) ≡ 50

@@ -63,8 +63,9 @@ pub record SpoiledWorked : Type 0 where
       ("29022024" ∷ "29022023" ∷ "31042024" ∷ "00012024" ∷ "32012024" ∷ "39012024" ∷ "40012024" ∷ "01002024" ∷ "01132024" ∷ "01192024" ∷ "01202024" ∷ "3x1x2024" ∷ [])
       ≡ 0 ∷ 40 ∷ 40 ∷ 40 ∷ 40 ∷ 40 ∷ 40 ∷ 40 ∷ 40 ∷ 40 ∷ 42 ∷ 41 ∷ []
   pub clock-year : spoiledBy reply P.goodClock 40 ("01012099" ∷ "01012100" ∷ "01011999" ∷ "00000000" ∷ "310420x4" ∷ "3104202:" ∷ []) ≡ 0 ∷ 45 ∷ 44 ∷ 44 ∷ 46 ∷ 47 ∷ []
-  -- a sign and days
-  pub net-date : spoiledBy reply P.good 40 ("+0000000" ∷ "-0000000" ∷ "-0000001" ∷ ",0000001" ∷ "*0000001" ∷ ".0000001" ∷ "-00000x0" ∷ "0000000x" ∷ []) ≡ 0 ∷ 40 ∷ 0 ∷ 40 ∷ 40 ∷ 40 ∷ 46 ∷ 40 ∷ []
+  -- a sign and days; with time zero a minus needs a day
+  pub net-date : spoiledBy reply P.good 40 ("+0000000" ∷ "-0000000" ∷ "-0000001" ∷ ",0000001" ∷ "*0000001" ∷ ".0000001" ∷ "-00000x0" ∷ "0000000x" ∷ []) ≡ 0 ∷ 0 ∷ 0 ∷ 40 ∷ 40 ∷ 40 ∷ 46 ∷ 40 ∷ []
+  pub net-date-at-zero : spoiledBy reply (P.but 30 "0000000000") 40 ("+0000000" ∷ "-0000000" ∷ "-0000001" ∷ ",0000000" ∷ "-000000x" ∷ "-00x000x" ∷ []) ≡ 0 ∷ 40 ∷ 0 ∷ 40 ∷ 47 ∷ 43 ∷ []
   -- the last two bytes are one field
   pub spare : read reply (set P.good 49 127) ≡ refuses (spoiledAt 5 48 49)
   pub both-spare : read reply (set (set P.goodRaw 49 31) 48 127) ≡ refuses (spoiledAt 5 48 48)

@@ -41,7 +41,7 @@ time-is n v e = go _ refl e
 
 -- ---- the four parts of a sum with these bases
 
-split-ticks : (h m s d : ℕ) → m ≤ 59 → s ≤ 59 → d ≤ 9999 → (v : ℕ) → v ≡ ((h * 60 + m) * 60 + s) * 10000 + d
+pub split-ticks : (h m s d : ℕ) → m ≤ 59 → s ≤ 59 → d ≤ 9999 → (v : ℕ) → v ≡ ((h * 60 + m) * 60 + s) * 10000 + d
     → (v / 36000000 ≡ h) × (v / 600000 % 60 ≡ m) × (v / 10000 % 60 ≡ s) × (v % 10000 ≡ d)
 split-ticks h m s d a b c v e = (omega arith, omega arith, omega arith, omega arith)
 
@@ -163,7 +163,7 @@ four-digits n m e =
     let d : n % 10 ≡ m % 10 = omega arith in
     rw (a, b, c, d)
 
-time-text : (v : ℕ) → clock .put v ≡ digits 2 (v / 36000000) ++ (digits 2 (v / 600000 % 60) ++ (digits 2 (v / 10000 % 60) ++ digits 4 (v % 10000)))
+pub time-text : (v : ℕ) → clock .put v ≡ digits 2 (v / 36000000) ++ (digits 2 (v / 600000 % 60) ++ (digits 2 (v / 10000 % 60) ++ digits 4 (v % 10000)))
 unfolding clockNumber
 time-text v =
     let n = clockNumber v in

@@ -1,2 +1,3 @@
 -- What private steps of the code return. No promise of a public call depends on this folder: a reader of the rules can skip it.
 pub mod Clock
+pub mod Signed

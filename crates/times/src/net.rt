@@ -1,4 +1,4 @@
-// Net times: signed days and a time of day, as one value in ticks, and back.
+// Net times: a sign, days and a time of day, as one value in ticks, and back.
 use crate::clock::DAY_TICKS;
 use crate::clock::LAST_TICK;
 use crate::signed::apart;
@@ -18,47 +18,36 @@ pub enum NetValue {
     Wrong,
 }
 
-// Whether a net reply can show these parts.
+// Whether a net reply can show these parts. Zero has no minus.
 pub fn is_net(parts: NetParts) -> bool
     ensures { λ r. ⌜ r ≡ isNet parts ⌝ }
 {
-    (parts.days <= 9_999_999) & (parts.time <= LAST_TICK) & !(parts.minus & (parts.days == 0))
+    (parts.days <= 9_999_999) & (parts.time <= LAST_TICK) & !(parts.minus & (parts.days == 0) & (parts.time == 0))
 }
 
-// The value of a net time; Wrong if the parts are no net time.
+// The value of a net time; Wrong if the parts are no net time. The minus covers days and time together.
 pub fn net_value(parts: NetParts) -> NetValue
     ensures { λ r. ⌜ r ≡ netValue parts ⌝ }
 {
     if !is_net(parts) {
         return NetValue::Wrong;
     }
-    let days = parts.days * DAY_TICKS;
-    let time = parts.time as u64;
+    let size = parts.days * DAY_TICKS + parts.time as u64;
     if parts.minus {
-        NetValue::Is(diff(time, days))
+        NetValue::Is(diff(0, size))
     } else {
-        NetValue::Is(diff(days + time, 0))
+        NetValue::Is(diff(size, 0))
     }
 }
 
-// The parts of a value: whole days, rounded down, and the time that is left.
+// The parts of a value: its sign, and the whole days and the time that are left without it.
 pub fn net_parts(value: i64) -> NetParts
     ensures { λ r. ⌜ r ≡ netParts value ⌝ }
 {
     let v = apart(value);
-    let days = v.rest / DAY_TICKS;
-    let time = v.rest % DAY_TICKS;
-    if v.negative {
-        NetParts {
-            minus: true,
-            days: days + 1,
-            time: LAST_TICK - time as u32,
-        }
-    } else {
-        NetParts {
-            minus: false,
-            days,
-            time: time as u32,
-        }
+    NetParts {
+        minus: v.minus,
+        days: v.size / DAY_TICKS,
+        time: (v.size % DAY_TICKS) as u32,
     }
 }

@@ -2,26 +2,27 @@
 ghost use mathlib.Core.Path.{_≡_};
 ghost use Prim.Native.Nat.{_<_, _^_};
 ghost use lib.IntN.{subℕ};
-ghost use Rattle.times.specs.Net.{apartOf};
+ghost use Rattle.times.specs.inside.Signed.{apartOf};
 
-// A number is `rest`, or -1 - `rest` if it is negative.
-pub struct SignAndRest {
-    pub negative: bool,
-    pub rest: u64,
+// A number without its sign, and whether the sign is a minus.
+pub struct SignAndSize {
+    pub minus: bool,
+    pub size: u64,
 }
 
-pub fn apart(v: i64) -> SignAndRest
+// For a number below zero, -1 - v never wraps. So every i64 is taken.
+pub fn apart(v: i64) -> SignAndSize
     ensures { λ r. ⌜ r ≡ apartOf v ⌝ }
 {
     if v < 0 {
-        SignAndRest {
-            negative: true,
-            rest: (-1 - v) as u64,
+        SignAndSize {
+            minus: true,
+            size: (-1 - v) as u64 + 1,
         }
     } else {
-        SignAndRest {
-            negative: false,
-            rest: v as u64,
+        SignAndSize {
+            minus: false,
+            size: v as u64,
         }
     }
 }

@@ -116,6 +116,9 @@ mod tests {
     use super::*;
     use crate::answers;
     use crate::bulk::tally::Tally;
+    use crate::frame::Kind;
+    use crate::reply::Reply;
+    use crate::spelling::parse_bytes;
     use std::collections::BTreeSet;
 
     #[test]
@@ -168,6 +171,34 @@ mod tests {
             "write-dynamic",
         ]);
         assert_eq!(words, expected);
+    }
+
+    /// More than a tenth of the net replies that are read have minus and no days with a time, and
+    /// more than one in thirty without.
+    #[test]
+    fn minus_zero_comes_often() {
+        use crate::reply::{at, NET_LETTERS};
+        let cases = piece(1, 20_000);
+        let frames = cases
+            .iter()
+            .filter_map(|case| case.split_once(' '))
+            .filter(|(word, _)| word.starts_with("read-reply"))
+            .filter_map(|(_, bytes)| parse_bytes(bytes).ok())
+            .filter(|frame| frame.len() == Reply::LENGTH);
+        let (mut net, mut timed, mut wrong) = (0, 0, 0);
+        for frame in frames {
+            let is_net =
+                b"RE".contains(&frame[at::STATUS]) && NET_LETTERS.contains(&frame[at::INFORMATION]);
+            let minus_zero = is_net && frame[at::DATE..].starts_with(b"-0000000");
+            let at_zero = frame[at::TIME..].starts_with(b"0000000000");
+            net += usize::from(is_net);
+            timed += usize::from(minus_zero && !at_zero);
+            wrong += usize::from(minus_zero && at_zero);
+        }
+        assert!(
+            timed > net / 10 && wrong > net / 30,
+            "{timed} {wrong} {net}"
+        );
     }
 
     /// A good share of the plain reads is accepted. Every refusal of a reader or a writer occurs

@@ -11,6 +11,7 @@ mod random;
 mod refused;
 mod seats;
 mod short;
+mod signs;
 mod sizes;
 #[cfg(test)]
 mod tests;
@@ -41,6 +42,7 @@ fn of_every_seed() -> Vec<Capture> {
         counts::captures(),
         full::captures(),
         sizes::captures(),
+        signs::captures(),
     ]
     .concat()
 }

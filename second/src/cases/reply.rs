@@ -1,12 +1,13 @@
 //! Cases of the static reply, as lent bytes and as a value of 51 bytes.
 
 mod reads;
+mod signs;
 mod writes;
 
 pub use reads::random_frame;
 pub use writes::random_write;
 
-use super::frames::{random_address, time_text, Number, REQUESTERS};
+use super::frames::{put, random_address, time_text, Number, REQUESTERS};
 use super::Cases;
 use crate::frame::Kind;
 use crate::random::Random;
@@ -50,9 +51,22 @@ pub const NUMBERS: [Number; 6] = [
     ),
 ];
 
+/// Times that minus with no days comes with. With a time of zero it is wrong.
+const TIMES_OF_MINUS_ZERO: [&[u8]; 8] = [
+    b"0000000000",
+    b"0000000000",
+    b"0000000000",
+    b"0000000000",
+    b"0000000001",
+    b"0000010000",
+    b"1000000000",
+    b"2359599999",
+];
+
 pub fn add_all(cases: &mut Cases, seed: u64) {
     reads::add_all(cases, seed);
     writes::add_all(cases, seed);
+    signs::add_all(cases);
 }
 
 /// A good record: one third with clock letters, one third with net letters, one third with any
@@ -118,11 +132,25 @@ fn random_clock(random: &mut Random) -> Timing {
     }
 }
 
+/// A net value. More than a quarter of them have a minus and no days, and many of these are only a
+/// few ticks.
 fn random_net(random: &mut Random) -> Timing {
+    if random.once_in(5) {
+        let limit = random.pick(&[3, 3, 10_000, TICKS_OF_DAY - 1]);
+        return Timing::Net(-1 - i128::from(random.below(limit as u64)));
+    }
     let size = random.pick(&[2, 100, MOST_NET_DAYS + 1]);
     let days = i128::from(random.below(size as u64));
-    let signed_days = if random.once_in(2) { days } else { -days };
-    Timing::Net(signed_days * TICKS_OF_DAY + random_time(random))
+    let value = days * TICKS_OF_DAY + random_time(random);
+    Timing::Net(if random.once_in(2) { value } else { -value })
+}
+
+/// Makes a reply a net reply of minus and no days. Half the time its time is zero, and then it is
+/// wrong unless it is not available.
+pub fn put_minus_zero(frame: &mut [u8], random: &mut Random) {
+    put(frame, at::INFORMATION, &[random.pick(NET_LETTERS)]);
+    put(frame, at::TIME, random.pick(&TIMES_OF_MINUS_ZERO));
+    put(frame, at::DATE, b"-0000000");
 }
 
 /// The frame of a good record. It is built here, without the writer that is compared.
@@ -147,8 +175,9 @@ pub fn frame_of(record: &Reply) -> Vec<u8> {
             frame.extend([time_text(ticks), date].concat().bytes());
         }
         Timing::Net(value) => {
-            let days = format!("{:+08}", value.div_euclid(TICKS_OF_DAY));
-            let time = time_text(value.rem_euclid(TICKS_OF_DAY));
+            let sign = if value < 0 { '-' } else { '+' };
+            let days = format!("{sign}{:07}", value.abs() / TICKS_OF_DAY);
+            let time = time_text(value.abs() % TICKS_OF_DAY);
             frame.extend([time, days].concat().bytes());
         }
         Timing::Raw => {
@@ -164,6 +193,7 @@ pub fn frame_of(record: &Reply) -> Vec<u8> {
 #[cfg(test)]
 mod tests {
     use super::*;
+    use crate::refusal::Refusal;
 
     #[test]
     fn random_records_are_good() {
@@ -174,5 +204,46 @@ mod tests {
             assert_eq!(Reply::read(&frame).as_ref(), Ok(&record));
             assert_eq!(record.write_value().1, frame[..]);
         }
+    }
+
+    /// Every sort of net value comes often, above all those with a minus and no days.
+    #[test]
+    fn minus_with_no_days_comes_often() {
+        let mut random = Random::new(1, "test");
+        let values: Vec<i128> = (0..1000)
+            .map(|_| match random_net(&mut random) {
+                Timing::Net(value) => value,
+                other => panic!("{other:?}"),
+            })
+            .collect();
+        let within = |low, high| {
+            let values = values.iter();
+            values
+                .filter(|&&value| low <= value && value <= high)
+                .count()
+        };
+        assert!((200..400).contains(&within(1 - TICKS_OF_DAY, -1)));
+        assert!(within(-3, -1) > 50);
+        assert!(within(0, TICKS_OF_DAY - 1) > 50);
+        assert!(within(i128::MIN, -TICKS_OF_DAY) > 200);
+        assert!(within(TICKS_OF_DAY, i128::MAX) > 200);
+    }
+
+    #[test]
+    fn minus_zero_is_wrong_half_the_time() {
+        let mut random = Random::new(1, "test");
+        let mut wrong = 0;
+        for _ in 0..1000 {
+            let mut frame = CLOCK.to_vec();
+            put_minus_zero(&mut frame, &mut random);
+            match Reply::read(&frame) {
+                Ok(record) => assert!(matches!(record.timing, Timing::Net(..0))),
+                Err(refusal) => {
+                    assert_eq!(refusal, Refusal::Field(40, 40));
+                    wrong += 1;
+                }
+            }
+        }
+        assert!((400..600).contains(&wrong), "{wrong}");
     }
 }

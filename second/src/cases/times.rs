@@ -204,6 +204,8 @@ fn add_nets(cases: &mut Cases, random: &mut Random) {
         LAST_TICK,
         TICKS_OF_DAY,
         LARGEST,
+        2,
+        10_000,
     ];
     for minus in [0, 1] {
         for days in days {
@@ -219,17 +221,34 @@ fn add_nets(cases: &mut Cases, random: &mut Random) {
         let time = random.below(TICKS_OF_DAY as u64 + 1_000_000);
         cases.add(format!("net {minus} {days} {time}"));
     }
+    for _ in 0..20 {
+        let limit = random.pick(&[10, 10_000, TICKS_OF_DAY as u64]);
+        cases.add(format!("net 1 0 {}", random.below(limit)));
+    }
 }
 
+/// Values around whole days, around both ends and around values that other cases read. The most
+/// days with a minus are not the low end: a time can still be added to them.
 fn add_net_parts(cases: &mut Cases, random: &mut Random) {
-    let lowest = -MOST_NET_DAYS * TICKS_OF_DAY;
-    let highest = MOST_NET_DAYS * TICKS_OF_DAY + LAST_TICK;
+    let whole_days = MOST_NET_DAYS * TICKS_OF_DAY;
+    let highest = whole_days + LAST_TICK;
     let around_days =
         [-9_999_998, -1_000, -2, -1, 0, 1, 2, 1_000, MOST_NET_DAYS].map(|days| days * TICKS_OF_DAY);
-    for middle in around_days
-        .into_iter()
-        .chain([lowest, highest, -LAST_TICK, 725_400, -10_000])
-    {
+    let others = [
+        -whole_days,
+        highest,
+        -LAST_TICK,
+        725_400,
+        -10_000,
+        -highest,
+        LAST_TICK,
+        -725_400,
+        10_000,
+        -1_727_990_000,
+        1_727_990_000,
+        9_999_998 * TICKS_OF_DAY,
+    ];
+    for middle in around_days.into_iter().chain(others) {
         for value in middle - 1..=middle + 1 {
             cases.add(format!("net-parts {value}"));
         }

@@ -364,6 +364,19 @@ mod tests {
         check(&[], |desk| put(desk, 4, at::RUN, b"000"));
     }
 
+    /// A net reply of minus and no days in a cell, with a time and without.
+    #[test]
+    fn cells_of_minus_zero() {
+        let offset = crate::reply::at::INFORMATION;
+        for timed in [b"10000000001-0000000", b"30000010000-0000000"] {
+            check(&[], |desk| put(desk, 1, offset, timed));
+        }
+        let minus_zero = b"10000000000-0000000";
+        check(&[CELLS], |desk| put(desk, 1, offset, minus_zero));
+        // Cell 4 holds a Z, whose time and date are raw.
+        check(&[], |desk| put(desk, 4, offset, minus_zero));
+    }
+
     #[test]
     fn records_held() {
         for (seat, held) in [(0, 2), (0, 4), (0, 259), (1, 0), (2, 1), (2, 256)] {

@@ -218,6 +218,27 @@ fn the_same_reply_twice_is_two_records() {
     assert_eq!(records_at(&desk, 0), [&frame[..], &frame]);
 }
 
+/// The reply is stored as it came. The one that is minus zero leaves nothing behind.
+#[test]
+fn a_reply_one_second_behind_is_taken() {
+    let timed = |status, text: &[u8]| {
+        let mut frame = reply(status, b'1', 7);
+        frame[29..48].copy_from_slice(text);
+        frame
+    };
+    let mut desk = opened(2, &[(b'1', 7)]);
+    let minus_zero = timed(R, b"10000000000-0000000");
+    let wrong = Refusal::Field(40, 40);
+    check_refused(&desk, wrong, |desk| desk.reply(&minus_zero));
+    let behind = timed(R, b"10000010000-0000000");
+    assert_eq!(desk.reply(&behind), Ok(0));
+    check_refused(&desk, wrong, |desk| desk.reply(&minus_zero));
+    assert_eq!(records_at(&desk, 0), [&behind[..]]);
+    let absent = timed(Z, b"10000000000-0000000");
+    let mut other = opened(1, &[(b'1', 7)]);
+    assert_eq!(other.reply(&absent), Ok(0));
+}
+
 #[test]
 fn records_stay_in_the_order_they_came_in() {
     let mut desk = opened(3, &[(b'1', 7)]);

@@ -62,7 +62,8 @@ fn dates() -> Shown {
 
 /// There are too many net dates to go through all of them. Every byte is tried at every place of one
 /// of them. That is enough: minus zero is the only one whose sign and digits are wrong together, and
-/// here at least six digits are not zero.
+/// here at least six digits are not zero. The time before the date is zero. After any other time
+/// minus zero is good too, but each of its bytes is found already.
 fn net_dates() -> Shown {
     const NET_DATE: &[u8; DATE_WIDTH] = b"+1111111";
     let tried = (0..DATE_WIDTH).flat_map(|place| {

@@ -3,6 +3,7 @@
 use super::*;
 use crate::dynamic::Dynamic;
 use crate::frame::Kind;
+use crate::refusal::Refusal;
 use crate::reply::Reply;
 use crate::request::Request;
 
@@ -93,6 +94,9 @@ fn times_and_dates() {
     let date = ["0123", DIGITS, "01", DIGITS, "2", "0", DIGITS, DIGITS];
     assert_eq!(classes::<Reply>(CLOCK, 40), date);
     assert_eq!(classes::<Reply>(NET, 40), number("+-", 8));
+    let mut at_zero = NET.to_vec();
+    at_zero[30..40].copy_from_slice(b"0000000000");
+    assert_eq!(classes::<Reply>(&at_zero, 40), number("+-", 8));
 }
 
 #[test]
@@ -106,6 +110,25 @@ fn raw_fields() {
         (CLOCK, 3, 1),
     ] {
         assert_eq!(classes::<Reply>(frame, offset), vec![raw.clone(); width]);
+    }
+}
+
+/// Minus zero is wrong only together, and only after a time of zero.
+#[test]
+fn minus_zero_after_each_time() {
+    for (time, refusal) in [
+        (b"0000000000", Some(Refusal::Field(40, 40))),
+        (b"0000000001", None),
+        (b"0000010000", None),
+        (b"2359599999", None),
+    ] {
+        let mut frame = NET.to_vec();
+        frame[30..40].copy_from_slice(time);
+        frame[40] = b'-';
+        assert_eq!(Reply::read(&frame).err(), refusal);
+        frame[47] = b':';
+        let spoiled = Refusal::Field(40, 47);
+        assert_eq!(Reply::read(&frame).err(), Some(spoiled));
     }
 }
 

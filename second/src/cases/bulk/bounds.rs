@@ -2,6 +2,7 @@
 
 use super::Maker;
 use crate::cases::frames::{put, REQUESTER_EDGES, TIMES};
+use crate::cases::reply::put_minus_zero;
 use crate::random::Random;
 use crate::reply::{CLOCK_LETTERS, NET_LETTERS};
 use crate::{dynamic, reply};
@@ -92,13 +93,17 @@ pub fn put_times_of_request(frame: &mut [u8], random: &mut Random) {
 }
 
 /// A time and a date, with a letter of the same kind; once in five times the letter is not changed.
-/// Once in six times a status with run 000 or 001 instead.
+/// Once in six times a status with run 000 or 001 instead, and once in six times minus and no days.
 pub fn put_times_of_reply(frame: &mut [u8], random: &mut Random) {
     use reply::at;
-    if random.once_in(6) {
-        put(frame, at::STATUS, &[random.pick(b"REZ")]);
-        put(frame, at::RUN, random.pick(&[b"000", b"001"]));
-        return;
+    match random.below(6) {
+        0 => {
+            put(frame, at::STATUS, &[random.pick(b"REZ")]);
+            put(frame, at::RUN, random.pick(&[b"000", b"001"]));
+            return;
+        }
+        1 => return put_minus_zero(frame, random),
+        _ => {}
     }
     let (letter, date) = match random.below(2) {
         0 => (random.pick(CLOCK_LETTERS), date(random)),
@@ -181,6 +186,29 @@ mod tests {
         );
         let dynamic = [0, 2, 3, 4, 5, 10, 13, 16, 21, 24, 27, 28, 39, 44];
         check(&offsets::<Dynamic>(&DYNAMIC), &dynamic);
+    }
+
+    /// More than a tenth of the net replies have minus and no days with a time, and more than a
+    /// twentieth without.
+    #[test]
+    fn minus_zero_comes_often() {
+        let mut random = Random::new(1, "test");
+        let (mut net, mut good, mut wrong) = (0, 0, 0);
+        for _ in 0..4000 {
+            let mut frame = (REPLY.good)(&mut random);
+            put_times_of_reply(&mut frame, &mut random);
+            let is_net = NET_LETTERS.contains(&frame[reply::at::INFORMATION])
+                && frame[reply::at::STATUS] != reply::NOT_AVAILABLE;
+            let minus_zero = is_net && frame[reply::at::DATE..].starts_with(b"-0000000");
+            let at_zero = frame[reply::at::TIME..].starts_with(b"0000000000");
+            net += usize::from(is_net);
+            good += usize::from(minus_zero && !at_zero);
+            wrong += usize::from(minus_zero && at_zero);
+        }
+        assert!(
+            good > net / 10 && wrong > net / 20,
+            "{good} {wrong} of {net}"
+        );
     }
 
     #[test]

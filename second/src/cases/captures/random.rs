@@ -1,7 +1,9 @@
 //! Random captures with every kind of fault that a frame can have.
 
 use super::{key, keys, requests as requests_to, Capture};
-use crate::cases::desk::frames::{random_reply, request, request_for, Key, E, R, Z};
+use crate::cases::desk::frames::{
+    random_minus_zero, random_reply, request, request_for, Key, E, R, Z,
+};
 use crate::cases::frames::befall_at_random;
 use crate::cases::{dynamic, reply, request as requests};
 use crate::random::Random;
@@ -49,7 +51,7 @@ pub fn capture(random: &mut Random, length: usize) -> Capture {
 /// One frame, good or not, or some bytes that are not a frame.
 fn piece(random: &mut Random, number_of_keys: usize) -> Vec<u8> {
     let own = key(random.place(number_of_keys));
-    match random.below(24) {
+    match random.below(25) {
         0 | 1 => request(own),
         2..=14 => good_reply(random, own),
         15 | 16 => dynamic::frame_of(&dynamic::random_record(random)),
@@ -59,6 +61,7 @@ fn piece(random: &mut Random, number_of_keys: usize) -> Vec<u8> {
         20 => damaged(random, own),
         21 => begun(random, own),
         22 => noise(random),
+        23 => random_minus_zero(random, own),
         _ => random.pick(&[&b"\n"[..], b"\r", b"\r\n", b"\n\n"]).to_vec(),
     }
 }

@@ -9,8 +9,8 @@ mod nearly;
 mod wild;
 
 use super::frames::{
-    patched, random_reply, random_request, reply_with_bib, Key, E, R, REPLY_DAMAGES,
-    REQUEST_DAMAGES, Z,
+    patched, random_minus_zero, random_reply, random_request, reply_with_bib, Key, E, R,
+    REPLY_DAMAGES, REQUEST_DAMAGES, Z,
 };
 use super::script::Script;
 use crate::cases::frames::{befall_at_random, random_address};
@@ -107,6 +107,7 @@ fn add_call(script: &mut Script, keys: &[Key], random: &mut Random) {
         0..=3 => script.open(&random_request(random, own)),
         4 => script.reply(&stray(random, own)),
         5 => script.reply(&wrong_reply(random, own)),
+        6 => script.reply(&random_minus_zero(random, own)),
         _ => {
             let status = random.pick(&[R, R, R, R, R, R, E, Z]);
             script.reply(&random_reply(random, status, own));

@@ -54,6 +54,14 @@ pub fn random_reply(random: &mut Random, status: u8, key: Key) -> Vec<u8> {
     cases::reply::frame_of(&record)
 }
 
+/// A reply of status R to this key, with minus and no days. Half the time its time is zero too, and
+/// then it is wrong.
+pub fn random_minus_zero(random: &mut Random, key: Key) -> Vec<u8> {
+    let mut frame = random_reply(random, R, key);
+    cases::reply::put_minus_zero(&mut frame, random);
+    frame
+}
+
 /// A request with this key. All its other fields are random. To one in 41 no answer is due.
 pub fn random_request(random: &mut Random, (address, requester, number): Key) -> Vec<u8> {
     let mut record = cases::request::random_record(random);

@@ -6,6 +6,7 @@ use super::frames::{
 use super::script::Script;
 use crate::cases::Cases;
 use crate::desk::SEATS;
+use crate::reply::at;
 
 const ONE: Key = (b' ', b'1', 7);
 const OTHER: Key = (b' ', b'A', 7);
@@ -20,6 +21,7 @@ pub fn add_all(cases: &mut Cases) {
     add_reader_refusals(cases);
     add_all_kinds(cases);
     add_all_seats(cases);
+    add_signs(cases);
 }
 
 /// The input of the listing example.
@@ -183,6 +185,40 @@ fn add_all_seats(cases: &mut Cases) {
     script.reset();
 }
 
+/// Net replies with a minus, with days and without. Those with neither days nor time are refused
+/// between the others, unless they are not available.
+fn add_signs(cases: &mut Cases) {
+    let signed = |status, key, timing: &'static [u8]| {
+        patched(&reply(status, key), (at::INFORMATION, timing))
+    };
+    let mut script = Script::lend_cells(cases, 8);
+    script.open_all(&[ONE, OTHER, THIRD]);
+    for (status, timing) in [
+        (R, b"10000010000-0000000"),
+        (R, b"10000000000-0000000"),
+        (R, b"20000000001-0000000"),
+        (R, b"20000000000-0000000"),
+        (R, b"22359599999-0000000"),
+        (R, b"30000000000-0000001"),
+        (R, b"32359590000-0000001"),
+        (E, b"30000000000-0000000"),
+        (E, b"32359599999-9999999"),
+        // The reader refuses before the desk is asked: this seat has its E.
+        (E, b"30000000000-0000000"),
+    ] {
+        script.reply(&signed(status, ONE, timing));
+    }
+    for status in [R, Z, Z] {
+        script.reply(&signed(status, OTHER, b"10000000000-0000000"));
+    }
+    script.reply(&signed(R, THIRD, b"S0000000001-0000000"));
+    script.reply(&signed(R, THIRD, b"P0000000000-0000000"));
+    for seat in 0..3 {
+        script.held(seat, 0);
+        script.held(seat, 1);
+    }
+}
+
 #[cfg(test)]
 mod tests {
     use super::*;
@@ -270,15 +306,44 @@ mod tests {
             "0 0 0 0",
             "0 0 0 0",
             "5 40 40 0",
-            "5 40 40 0",
+            "0 0 0 0",
             "5 30 30 0",
             "0 0 0 0",
             "0 0 0 0",
             "0 0 0 1",
             "0",
-            "4",
+            "5",
         ];
         assert_eq!(answers[3..], expected);
+    }
+
+    #[test]
+    fn minus_wants_days_or_a_time() {
+        let (taken, wrong) = ("0 0 0 0", "5 40 40 0");
+        let answers = outcomes(add_signs);
+        let (first, rest) = answers[4..].split_at(10);
+        let expected = [
+            taken, wrong, taken, wrong, taken, taken, taken, wrong, taken, wrong,
+        ];
+        assert_eq!(first, expected);
+        assert_eq!(rest[..3], [wrong, "0 0 0 1", "14 0 0 0"]);
+        assert_eq!(rest[3..5], [wrong, "0 0 0 2"]);
+        assert_eq!(rest[5..], ["0", "1", "6", "6", "7", "7"]);
+    }
+
+    /// What a refused reply leaves is what was there: the answer names no change.
+    #[test]
+    fn minus_zero_changes_nothing() {
+        let mut cases = Cases::default();
+        add_signs(&mut cases);
+        let answers = crate::answers::file(cases.text.as_bytes()).expect("cases");
+        let refused: Vec<&str> = answers
+            .lines()
+            .filter(|answer| answer.starts_with("5 40 40 "))
+            .collect();
+        assert_eq!(refused[..2], ["5 40 40 0 7 1", "5 40 40 0 7 2"]);
+        assert!(refused.iter().all(|answer| answer.split(' ').count() == 6));
+        assert_eq!(refused.len(), 6);
     }
 
     #[test]

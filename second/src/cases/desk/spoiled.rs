@@ -39,6 +39,7 @@ const OPENINGS: [Spoiled; 17] = [
 /// What letter, time and date of a reply are before one of its fields is made wrong.
 const CLOCK: &[u8] = b"K123456789815062024";
 const NET: &[u8] = b"10001125400-0000012";
+const NET_AT_ZERO: &[u8] = b"10000000000-0000012";
 const RAW: &[u8] = b"P --:--.---no date!";
 
 /// Wrong fields of a reply of status R.
@@ -70,7 +71,7 @@ const REPLIES: [(&[u8], Spoiled); 30] = [
     (CLOCK, (at::DATE, b"01012100", 45)),
     (CLOCK, (at::SPARE, b"\x1f ", 48)),
     (NET, (at::TIME, b"0000600000", 34)),
-    (NET, (at::DATE, b"-0000000", 40)),
+    (NET_AT_ZERO, (at::DATE, b"-0000000", 40)),
     (NET, (at::DATE, b",0000012", 40)),
     (NET, (at::DATE, b"-000000:", 47)),
 ];
@@ -118,7 +119,7 @@ fn add_replies(cases: &mut Cases) {
         script.reply(&reply(R, key));
     }
     // The same tails are raw if the reply is not available.
-    for (timed, wrong) in [(CLOCK, b"31042024"), (NET, b"-0000000")] {
+    for (timed, wrong) in [(CLOCK, b"31042024"), (NET_AT_ZERO, b"-0000000")] {
         let frame = replaced(&reply(Z, OTHER), at::INFORMATION, timed);
         script.reply(&replaced(&frame, at::DATE, wrong));
     }

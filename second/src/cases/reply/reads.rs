@@ -1,6 +1,8 @@
 //! Cases of reading: `damage-reply`, `read-reply` and `read-reply-value`.
 
-use super::{frame_of, random_record, ABSENT, CLOCK, LENGTH, NET, NUMBERS, RAW, STATUSES};
+use super::{
+    frame_of, put_minus_zero, random_record, ABSENT, CLOCK, LENGTH, NET, NUMBERS, RAW, STATUSES,
+};
 use crate::cases::frames::{
     at_lengths, befall_at_random, faults_around, faults_of, neighbours_and_tails, number_of_faults,
     put, to_damage_by_address, with_address_edges, with_addresses_and_faults, with_blank_numbers,
@@ -53,15 +55,15 @@ pub fn add_all(cases: &mut Cases, seed: u64) {
     add_values(cases, &mut Random::new(seed, "read-reply-value"));
 }
 
-fn add_read(cases: &mut Cases, frame: &[u8]) {
+pub fn add_read(cases: &mut Cases, frame: &[u8]) {
     cases.add(format!("read-reply {}", bytes_text(frame)));
 }
 
-fn add_damage(cases: &mut Cases, frame: &[u8]) {
+pub fn add_damage(cases: &mut Cases, frame: &[u8]) {
     cases.add(format!("damage-reply {}", bytes_text(frame)));
 }
 
-fn add_value(cases: &mut Cases, frame: &[u8]) {
+pub fn add_value(cases: &mut Cases, frame: &[u8]) {
     cases.add(format!("read-reply-value {}", bytes_text(frame)));
 }
 
@@ -88,7 +90,7 @@ fn add_damages(cases: &mut Cases) {
 }
 
 /// `NET` with this status, letter, and time and date.
-fn with_letter(status: u8, letter: u8, timing: &[u8]) -> Vec<u8> {
+pub fn with_letter(status: u8, letter: u8, timing: &[u8]) -> Vec<u8> {
     let frame = replaced(NET, at::STATUS, &[status]);
     let frame = replaced(&frame, at::INFORMATION, &[letter]);
     replaced(&frame, at::TIME, timing)
@@ -108,13 +110,14 @@ fn add_surroundings(cases: &mut Cases) {
     for faults in neighbours_and_tails(&faults) {
         add_read(cases, &with_faults(CLOCK, faults));
     }
-    let two_faults: [(&[u8], WrongField, WrongField); 6] = [
+    let two_faults: [(&[u8], WrongField, WrongField); 7] = [
         (NET, (at::TIME, b"2400000000"), (at::DATE, b"-0000000")),
         (NET, (at::DATE, b"-0000000"), (at::SPARE, b"\x7f")),
         (RAW, (at::TIME, b"\x1f"), (at::DATE, b"\x7f")),
         (RAW, (at::DATE, b"\x7f"), (at::SPARE, b"\x1f")),
         (ABSENT, (at::RUN, b"251"), (at::INFORMATION, b"L")),
         (ABSENT, (at::INFORMATION, b"L"), (at::TIME, b"\x1f")),
+        (NET, (at::TIME, b"0000000000-0000000"), (at::SPARE, b"\x7f")),
     ];
     for (frame, (low, first), (high, second)) in two_faults {
         let frame = replaced(frame, low, first);
@@ -292,10 +295,11 @@ fn add_random_frames(cases: &mut Cases, random: &mut Random) {
 pub fn random_frame(random: &mut Random) -> Vec<u8> {
     let mut frame = frame_of(&random_record(random));
     for _ in 0..number_of_faults(random) {
-        match random.below(5) {
+        match random.below(6) {
             0 => put(&mut frame, at::STATUS, &[random.pick(STATUSES)]),
             1 => put(&mut frame, at::INFORMATION, &[random.pick(INFORMATION)]),
             2 => put(&mut frame, at::TIME, random.pick(&TIMINGS)),
+            3 => put_minus_zero(&mut frame, random),
             _ => befall_at_random(&mut frame, &NUMBERS, random),
         }
     }

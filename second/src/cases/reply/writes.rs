@@ -51,7 +51,7 @@ pub fn add_all(cases: &mut Cases, seed: u64) {
     add_random_writes(cases, &mut Random::new(seed, "write-reply"));
 }
 
-fn record_of(frame: &[u8; LENGTH]) -> Reply {
+pub fn record_of(frame: &[u8; LENGTH]) -> Reply {
     Reply::read(frame).expect("a good frame")
 }
 
@@ -90,7 +90,7 @@ fn add_value(cases: &mut Cases, record: &Reply) {
 }
 
 /// Writes to just enough room and to a value.
-fn add_both(cases: &mut Cases, record: &Reply) {
+pub fn add_both(cases: &mut Cases, record: &Reply) {
     add_write(cases, LENGTH, record);
     add_value(cases, record);
 }
@@ -272,11 +272,11 @@ fn add_clocks(cases: &mut Cases) {
 }
 
 fn add_nets(cases: &mut Cases) {
-    let lowest = -MOST_NET_DAYS * TICKS_OF_DAY;
-    let highest = MOST_NET_DAYS * TICKS_OF_DAY + TICKS_OF_DAY - 1;
+    let whole_days = MOST_NET_DAYS * TICKS_OF_DAY;
+    let highest = whole_days + TICKS_OF_DAY - 1;
     for value in [
-        lowest - 1,
-        lowest,
+        -whole_days - 1,
+        -whole_days,
         highest,
         highest + 1,
         -TICKS_OF_DAY - 1,
@@ -290,6 +290,14 @@ fn add_nets(cases: &mut Cases) {
         TICKS_OF_DAY,
         LARGEST_VALUE,
         -LARGEST_VALUE,
+        -highest,
+        -highest - 1,
+        -whole_days + 1,
+        1 - TICKS_OF_DAY,
+        TICKS_OF_DAY + 1,
+        10_000,
+        -1_727_990_000,
+        1_727_990_000,
     ] {
         let timing = Timing::Net(value);
         let record = record_of(NET);

@@ -167,16 +167,43 @@ fn requests() {
     });
 }
 
+const REPLY_TRIAL: Trial = Trial {
+    fields: REPLY_FIELDS,
+    rests: REPLY_RESTS,
+    accepts: |frame| Reply::read(frame).is_ok(),
+};
+
 #[test]
 fn replies() {
-    let trial = Trial {
-        fields: REPLY_FIELDS,
-        rests: REPLY_RESTS,
-        accepts: |frame| Reply::read(frame).is_ok(),
-    };
-    check::<Reply>(&trial, &reply::FIELDS, |random| {
+    check::<Reply>(&REPLY_TRIAL, &reply::FIELDS, |random| {
         cases::reply::frame_of(&cases::reply::random_record(random))
     });
+}
+
+/// Half of these are wrong before anything is changed, because their time is zero.
+#[test]
+fn replies_of_minus_zero() {
+    check::<Reply>(&REPLY_TRIAL, &[(30, 10), (40, 8)], |random| {
+        let mut frame = cases::reply::frame_of(&cases::reply::random_record(random));
+        cases::reply::put_minus_zero(&mut frame, random);
+        frame
+    });
+}
+
+/// Each byte of minus zero occurs after a time of zero, but not all of them together.
+#[test]
+fn minus_zero() {
+    for (timing, refusal) in [
+        (b"0000000000-0000000", Some(Refusal::Field(40, 40))),
+        (b"0000000001-0000000", None),
+        (b"0000000000-0000001", None),
+        (b"0000000000+0000000", None),
+    ] {
+        let frame = b"\x12R SOE100007000150000020000001";
+        let frame = [&frame[..], timing, b"  \r"].concat();
+        assert_eq!(REPLY_TRIAL.refusal(&frame), refusal);
+        assert_eq!(Reply::read(&frame).err(), refusal);
+    }
 }
 
 #[test]

@@ -8,9 +8,11 @@ use crate::cases::{replaced, Cases};
 use crate::random::Random;
 use crate::reply::{at, Reply, Value, INFORMATION};
 
-/// A good reply of each kind. The last has a clock letter, but it is not available.
+/// A good reply of each kind. The last has a clock letter, but it is not available. There are two
+/// net replies, one of them with a time of zero.
 const CLOCK: &Value = b"\x12R3GmRz0123445678012123456200K123456789815062024xy\r";
 const NET: &Value = b"\x12R SOEA000120004100000101524510001125400-0000012  \r";
+const NET_AT_ZERO: &Value = b"\x12R SOEA000120004100000101524510000000000-0000012  \r";
 const RAW: &Value = b"\x12R7SOR10000700015000002000000P --:--.---no date!  \r";
 const ABSENT: &Value = b"\x12R0~ Za5432130000100000999249K--:--.----no date!#~\r";
 
@@ -129,9 +131,9 @@ const DATES: [Spoiled; 29] = [
     (at::DATE, b"2902202:", 47),
 ];
 
-/// Wrong dates of `NET`.
+/// Wrong dates of `NET_AT_ZERO`. All but the first are also wrong dates of `NET`.
 const NET_DATES: [Spoiled; 20] = [
-    // The only one that is wrong only together.
+    // The only one that is wrong only together. With a time above zero it is good.
     (at::DATE, b"-0000000", 40),
     (at::DATE, b"*0000012", 40),
     (at::DATE, b",0000012", 40),
@@ -208,9 +210,23 @@ const TO_DAMAGE: [(&Value, Spoiled); 9] = [
     (CLOCK, (at::TIME, b"2461000000", 32)),
     (CLOCK, (at::DATE, b"31042024", 40)),
     (CLOCK, (at::DATE, b"00000000", 44)),
-    (NET, (at::DATE, b"-0000000", 40)),
+    (NET_AT_ZERO, (at::DATE, b"-0000000", 40)),
     (RAW, (at::TIME, b" --:--\x1f---", 36)),
     (ABSENT, (at::SPARE, b"#\x7f", 49)),
+];
+
+/// Time and date of `NET`, with offset and spoiled byte of the first wrong field.
+const AFTER_TIMES: [(&[u8], Option<(usize, usize)>); 10] = [
+    (b"0000000000-0000000", Some((40, 40))),
+    (b"0000000001-0000000", None),
+    (b"1000000000-0000000", None),
+    (b"0001125400-0000000", None),
+    (b"000000000/-0000000", Some((30, 39))),
+    (b"2400000000-0000000", Some((30, 30))),
+    (b"0000000000-000000:", Some((40, 47))),
+    (b"0000000001-000000:", Some((40, 47))),
+    (b"0000000000,0000000", Some((40, 40))),
+    (b"0000000001,0000000", Some((40, 40))),
 ];
 
 /// Time and date that are good under some letters and statuses and wrong under others.
@@ -261,6 +277,9 @@ fn add_tables(cases: &mut Cases) {
     for late in [&LATE[4..], &TOGETHER[..1], &DATES[12..14]] {
         add_frames(cases, "read-reply-value", &with_each(CLOCK, late));
     }
+    let net_dates = with_each(NET_AT_ZERO, &NET_DATES[..2]);
+    add_frames(cases, "read-reply-value", &net_dates);
+    add_frames(cases, "read-reply", &after_times());
 }
 
 /// Good replies and what is put in them.
@@ -275,9 +294,10 @@ fn tables() -> Vec<(&'static Value, Vec<Spoiled>)> {
         (CLOCK, TOGETHER.to_vec()),
         (CLOCK, DATES.to_vec()),
         (NET, times[..11].to_vec()),
-        (NET, NET_DATES.to_vec()),
+        (NET, NET_DATES[1..].to_vec()),
         (RAW, RAW_BYTES.to_vec()),
         (ABSENT, RAW_BYTES.to_vec()),
+        (NET_AT_ZERO, NET_DATES.to_vec()),
     ]
 }
 
@@ -288,6 +308,15 @@ fn late_tables() -> [(&'static Value, &'static [Spoiled]); 4] {
         (RAW, &LATE_OF_RAW),
         (ABSENT, &LATE_OF_RAW),
     ]
+}
+
+/// Minus and no days after times on both sides of zero, and with a spoiled byte in the time or in
+/// the date.
+fn after_times() -> Vec<Vec<u8>> {
+    AFTER_TIMES
+        .iter()
+        .map(|&(timing, _)| replaced(NET, at::TIME, timing))
+        .collect()
 }
 
 /// Each tail under a clock letter, a net letter and a raw one, with status R and with status Z.
@@ -325,8 +354,17 @@ mod tests {
         for (frame, spoiled) in TO_DAMAGE {
             check::<Reply>(frame, &[spoiled]);
         }
-        for frame in [CLOCK, NET, RAW, ABSENT] {
+        for frame in [CLOCK, NET, NET_AT_ZERO, RAW, ABSENT] {
             check_edges::<Reply>(frame, &FIELDS);
+        }
+    }
+
+    #[test]
+    fn minus_zero_depends_on_the_time() {
+        assert!(Reply::read(&replaced(NET, at::DATE, b"-0000000")).is_ok());
+        for (frame, (_, wrong)) in after_times().iter().zip(AFTER_TIMES) {
+            let expected = wrong.map(|(offset, spoiled)| Refusal::Field(offset, spoiled));
+            assert_eq!(Reply::read(frame).err(), expected);
         }
     }
 

@@ -6,7 +6,7 @@ use Rattle.times.proofs.net.net_value.Tie as tie
 use mir.Syntax.{w64}
 use mir.Val.{toZ, ofZ}
 use borrow.Author.Tests.{not-true, not-false}
-use Rattle.times.proofs.NetLaws.{net-days, value-wrong, value-minus, value-plus}
+use Rattle.times.proofs.NetLaws.{net-is, value-wrong, value-minus, value-plus}
 
 is-net-requires : tie.Need-is-net-requires
 is-net-requires c κs = search needs
@@ -14,24 +14,24 @@ is-net-requires c κs = search needs
 returns : tie.Need-returns
 returns c = value-wrong _ (sym (c .before .is-net .ensures) ∙ not-true _ (c .if1 .taken))
 
-mul-days : tie.Need-mul-days
-mul-days c =
-    let h = net-days (c .before .before .before .args .parts) (sym (c .before .before .is-net .ensures) ∙ not-false _ (c .before .if1 .left)) in search needs
+mul-size : tie.Need-mul-size
+mul-size c =
+    let h = net-is (c .before .before .before .args .parts) (sym (c .before .before .is-net .ensures) ∙ not-false _ (c .before .if1 .left)) in search needs
 
-cast-time : tie.Need-cast-time
-cast-time c = search needs
+cast-size : tie.Need-cast-size
+cast-size c = search needs
+
+add-size : tie.Need-add-size
+add-size c =
+    let h = net-is (c .before .before .before .before .args .parts) (sym (c .before .before .before .is-net .ensures) ∙ not-false _ (c .before .before .if1 .left)) in search needs
 
 diff-requires : tie.Need-diff-requires
 diff-requires c κs =
-    let h = net-days (c .before .before .before .before .before .args .parts) (sym (c .before .before .before .before .is-net .ensures) ∙ not-false _ (c .before .before .before .if1 .left)) in search needs
-
-add-diff : tie.Need-add-diff
-add-diff c =
-    let h = net-days (c .before .before .before .before .before .args .parts) (sym (c .before .before .before .before .is-net .ensures) ∙ not-false _ (c .before .before .before .if1 .left)) in search needs
+    let h = net-is (c .before .before .before .before .before .args .parts) (sym (c .before .before .before .before .is-net .ensures) ∙ not-false _ (c .before .before .before .if1 .left)) in search needs
 
 diff-requires-2 : tie.Need-diff-requires-2
 diff-requires-2 c κs =
-    let h = net-days (c .before .before .before .before .before .args .parts) (sym (c .before .before .before .before .is-net .ensures) ∙ not-false _ (c .before .before .before .if1 .left)) in search needs
+    let h = net-is (c .before .before .before .before .before .args .parts) (sym (c .before .before .before .before .is-net .ensures) ∙ not-false _ (c .before .before .before .if1 .left)) in search needs
 
 returns-2 : tie.Need-returns-2
 returns-2 c =
@@ -49,10 +49,10 @@ net-value-spec =
     (tie.spec
     is-net-requires
     returns
-    mul-days
-    cast-time
+    mul-size
+    cast-size
+    add-size
     diff-requires
-    add-diff
     diff-requires-2
     returns-2
     returns-3)

@@ -78,11 +78,12 @@ mod tests {
         assert!(often("16 0 0 ", &answers), "FULL");
     }
 
+    /// About ten large ones are drawn.
     #[test]
     fn some_desks_are_large() {
         let mut random = Random::new(1, "test");
         let mut cases = Cases::default();
-        for _ in 0..100 {
+        for _ in 0..10 * LARGE_ONE_IN {
             add(&mut cases, &mut random);
         }
         let large = cases.text.lines().filter(|line| {
@@ -91,6 +92,7 @@ mod tests {
                 .and_then(|words| words.split(' ').next());
             bytes.is_some_and(|bytes| bytes.len() == 5)
         });
-        assert!((1..10).contains(&large.count()));
+        let large = large.count();
+        assert!((3..30).contains(&large), "{large}");
     }
 }

@@ -7,8 +7,9 @@ use super::{add_call, add_look, different_keys, lend, open_keys, random_key};
 use crate::cases::desk::frames::{random_reply, random_request, request, E, R, Z};
 use crate::cases::desk::random::random_change;
 use crate::cases::desk::script::Script;
+use crate::cases::reply::put_minus_zero;
 use crate::cases::Cases;
-use crate::desk::{Desk, Seat, SEATS};
+use crate::desk::{Desk, Seat, CELL, SEATS};
 use crate::random::Random;
 use crate::script::Change;
 
@@ -95,6 +96,9 @@ fn nudge(change: &mut Change, random: &mut Random) {
         Change::Count(count) => nudge_number(count, random),
         Change::Mark(_, mark) => nudge_number(mark, random),
         Change::Seat(_, seat) => nudge_seat(seat, random),
+        Change::Cell(_, bytes) if bytes.len() == CELL && random.once_in(4) => {
+            put_minus_zero(bytes, random);
+        }
         Change::Cell(_, bytes) => {
             let place = random.place(bytes.len());
             bytes[place] = match random.below(3) {

@@ -72,6 +72,7 @@ pub fn breaks() -> Vec<Vec<Change>> {
         records_held(),
         orders(),
         ends(),
+        cells_of_minus_zero(),
     ]
     .concat()
 }
@@ -253,6 +254,13 @@ fn ends() -> Vec<Vec<Change>> {
     breaks
 }
 
+/// A net reply of minus with neither days nor time, in a record and in a last record.
+fn cells_of_minus_zero() -> Vec<Vec<Change>> {
+    [(1, b"10000000000-0000000"), (3, b"20000000000-0000000")]
+        .map(|(cell, timed)| vec![put(cell, (at::INFORMATION, timed))])
+        .to_vec()
+}
+
 /// After each of these lists of changes there is a desk, and it takes what it is asked.
 pub fn harmless() -> Vec<Vec<Change>> {
     let mut changes = Vec::new();
@@ -294,5 +302,10 @@ pub fn harmless() -> Vec<Vec<Change>> {
         Change::Seat(2, seat_of(KEYS[2], 1, 1)),
         Change::Count(6),
     ]);
+    // Minus and no days, with a time; and without one in a cell that is not available.
+    for timed in [b"10000000001-0000000", b"30000010000-0000000"] {
+        changes.push(vec![put(1, (at::INFORMATION, timed))]);
+    }
+    changes.push(vec![put(4, (at::INFORMATION, b"10000000000-0000000"))]);
     changes
 }
