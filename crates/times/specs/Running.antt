@@ -34,9 +34,10 @@ runningTold Time = refuses TIME
 abbrev pub RunningAs : RunningOf → Running → Type 0
 RunningAs of r = runningTold r ≡ runningTime of
 
--- worked cases: a minus covers days and time, and each number out of range is refused with 8
+-- worked cases: a minus covers days and time, a minus in front of nothing is good, and each number out of range is refused with 8
 pub record RunningWorked : Type 0 where
   pub minus : runningTime (record { bib = 1; tnow = 20; tev = 5; sign = 1; days = 1; time = 3 }) ≡ gives (pos 864000018)
+  pub minus-zero : runningTime (record { bib = 1; tnow = 20; tev = 5; sign = 1; days = 0; time = 0 }) ≡ gives (pos 15)
   pub tnow : runningTime (record { bib = 1; tnow = 864000000; tev = 0; sign = 0; days = 0; time = 0 }) ≡ refuses (plain 8)
   pub tev : runningTime (record { bib = 1; tnow = 0; tev = 864000000; sign = 0; days = 0; time = 0 }) ≡ refuses (plain 8)
   pub tev-of-none : runningTime (record { bib = 0; tnow = 0; tev = 1; sign = 0; days = 0; time = 0 }) ≡ refuses (plain 8)

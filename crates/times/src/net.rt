@@ -32,11 +32,12 @@ pub fn net_value(parts: NetParts) -> NetValue
     if !is_net(parts) {
         return NetValue::Wrong;
     }
-    let size = parts.days * DAY_TICKS + parts.time as u64;
+    let days = parts.days * DAY_TICKS;
+    let time = parts.time as u64;
     if parts.minus {
-        NetValue::Is(diff(0, size))
+        NetValue::Is(diff(0, days + time))
     } else {
-        NetValue::Is(diff(size, 0))
+        NetValue::Is(diff(days + time, 0))
     }
 }
 

@@ -14,19 +14,23 @@ is-net-requires c κs = search needs
 returns : tie.Need-returns
 returns c = value-wrong _ (sym (c .before .is-net .ensures) ∙ not-true _ (c .if1 .taken))
 
-mul-size : tie.Need-mul-size
-mul-size c =
+mul-days : tie.Need-mul-days
+mul-days c =
     let h = net-is (c .before .before .before .args .parts) (sym (c .before .before .is-net .ensures) ∙ not-false _ (c .before .if1 .left)) in search needs
 
-cast-size : tie.Need-cast-size
-cast-size c = search needs
+cast-time : tie.Need-cast-time
+cast-time c = search needs
 
-add-size : tie.Need-add-size
-add-size c =
-    let h = net-is (c .before .before .before .before .args .parts) (sym (c .before .before .before .is-net .ensures) ∙ not-false _ (c .before .before .if1 .left)) in search needs
+add-diff : tie.Need-add-diff
+add-diff c =
+    let h = net-is (c .before .before .before .before .before .args .parts) (sym (c .before .before .before .before .is-net .ensures) ∙ not-false _ (c .before .before .before .if1 .left)) in search needs
 
 diff-requires : tie.Need-diff-requires
 diff-requires c κs =
+    let h = net-is (c .before .before .before .before .before .args .parts) (sym (c .before .before .before .before .is-net .ensures) ∙ not-false _ (c .before .before .before .if1 .left)) in search needs
+
+add-diff-2 : tie.Need-add-diff-2
+add-diff-2 c =
     let h = net-is (c .before .before .before .before .before .args .parts) (sym (c .before .before .before .before .is-net .ensures) ∙ not-false _ (c .before .before .before .if1 .left)) in search needs
 
 diff-requires-2 : tie.Need-diff-requires-2
@@ -49,10 +53,11 @@ net-value-spec =
     (tie.spec
     is-net-requires
     returns
-    mul-size
-    cast-size
-    add-size
+    mul-days
+    cast-time
+    add-diff
     diff-requires
+    add-diff-2
     diff-requires-2
     returns-2
     returns-3)
