@@ -189,8 +189,8 @@ typedef struct rei2_request_answer {
 } rei2_request_answer;
 
 /* Time and date of a reply. kind is a number of enum rei2_timing. REI2_CLOCK uses ticks (since midnight), day, month
-   and year. REI2_NET uses net, in ticks: -10000 is one second below zero, which the frame shows as minus one day and
-   23:59:59.0000. REI2_RAW uses none of them. What the kind does not use is 0. */
+   and year. REI2_NET uses net, in ticks: -10000 is one second below zero, which the frame shows as 00:00:01.0000 and
+   -0000000. REI2_RAW uses none of them. What the kind does not use is 0. */
 typedef struct rei2_timing_numbers {
     uint32_t kind;
     uint32_t ticks;
@@ -616,7 +616,7 @@ rei2_reply_answer rei2_read_reply(const uint8_t *frame, size_t frame_len);
    of these offsets that applies:
    30 timing.kind is above 2 or is not the timing asked for; ticks is above 863999999; a byte of raw_time is not one of
       20h to 7Eh
-   40 day, month and year are no day of 2000 to 2099; net is below -8639999136000000 or above 8639999999999999; a byte
+   40 day, month and year are no day of 2000 to 2099; net is below -8639999999999999 or above 8639999999999999; a byte
       of raw_date is not one of 20h to 7Eh
    48 a byte of spare is not one of 20h to 7Eh
    50 a part that the timing does not use is not 0: ticks, day, month or year with REI2_NET or REI2_RAW, net with

@@ -152,7 +152,7 @@ fn spoil_reply(record: &mut ReplyRecord, part: usize, value: u32, byte: u8) {
         13 => record.timing.day = value,
         14 => record.timing.month = value,
         15 => record.timing.year = value,
-        16 => record.timing.net = i64::from(value) * 10_000_000 - 8_639_999_136_000_001,
+        16 => record.timing.net = i64::from(value) * 10_000_000 - 8_640_000_000_000_000,
         17 => record.timing.net = i64::from(value) * -10_000_000 + 8_640_000_000_000_000,
         18 => record.raw_time[usize::from(byte) % 10] = byte,
         19 => record.raw_date[usize::from(byte) % 8] = byte,

@@ -102,14 +102,15 @@ static void is_handed_on(const uint8_t *frame, struct said wanted) {
 
 /* ---- examples: a good frame, bytes that are put at a place of it, and where it is wrong then */
 
-enum base { REQUEST, CLOCK, NET, RAW, NOT_AVAILABLE, DYNAMIC, BASES };
+enum base { REQUEST, CLOCK, NET, MINUS_TICK, RAW, NOT_AVAILABLE, DYNAMIC, BASES };
 
-static const char *const names[BASES] = {"request", "clock", "net", "raw", "not available", "dynamic"};
+static const char *const names[BASES] = {"request", "clock", "net", "minus one tick", "raw", "not available", "dynamic"};
 
 static const char *const bases[BASES] = {
     "\021R " "A" "012" "00041" "P" "000" "002" "000" "S" "\r",
     "\022R " "S" "O" "R" "A" "00012" "00041" "000" "001" "015" "255" "S" "0959597500" "12052024" "  " "\r",
     "\022R " "S" "O" "R" "A" "00012" "00041" "000" "001" "015" "255" "1" "0001125400" "-0000001" "  " "\r",
+    "\022R " "S" "O" "R" "A" "00012" "00041" "000" "001" "015" "255" "2" "0000000001" "-0000000" "  " "\r",
     "\022R " "S" "O" "R" "A" "00012" "00041" "000" "001" "015" "255" "P" "0000000000" "00000000" "  " "\r",
     "\022R " "S" "O" "Z" "A" "00012" "00041" "000" "000" "015" "255" "S" "not there " "        " "  " "\r",
     "\023R " "1" "A" "00041" "255" "001" "60000" "250" "005" "1" "0102030405" "9" "99999" "S" "\r",
@@ -200,7 +201,8 @@ static const struct example examples[] = {
     {CLOCK, 40, "31202024", 40, 42},
     {CLOCK, 40, "31042100", 40, 45},
     {CLOCK, 40, "3104202-", 40, 47},
-    {NET, 40, "-0000000", 40, 40},
+    {NET, 30, "0000000000" "-0000000", 40, 40},
+    {MINUS_TICK, 39, "0", 40, 40},
     {NET, 40, ",0000001", 40, 40},
     {NET, 40, "00000000", 40, 40},
     {NET, 40, "-000 000", 40, 44},
@@ -217,7 +219,7 @@ static const struct example examples[] = {
     {REQUEST, 16, "251" "2:0" "C", 16, 16},
     {CLOCK, 20, "000" "99A", 20, 20},
     {CLOCK, 30, "2400000000" "00000000" "\177 ", 30, 30},
-    {NET, 40, "-0000000" " \177", 40, 40},
+    {NET, 30, "0000000000" "-0000000" " \177", 40, 40},
     {DYNAMIC, 39, "00000" "s", 39, 39},
 };
 

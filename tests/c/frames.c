@@ -324,7 +324,7 @@ static void reply_records(void) {
     CHECK(timing_is(r.timing, (rei2_timing_numbers){REI2_CLOCK, 863999999, 29, 2, 2024, 0}));
     CHECK(no_raw(r) && r.spare[0] == 'a' && r.spare[1] == 'b');
     r = reply_in(net_frame);
-    CHECK(timing_is(r.timing, (rei2_timing_numbers){REI2_NET, 0, 0, 0, 0, -10000}) && no_raw(r));
+    CHECK(timing_is(r.timing, (rei2_timing_numbers){REI2_NET, 0, 0, 0, 0, -1727990000}) && no_raw(r));
     r = reply_in(raw_frame);
     h = r.head;
     CHECK(h.address == '7' && h.program == ' ' && h.mode == '~' && h.number == 99999 && h.bib == 59999);
@@ -404,15 +404,43 @@ static void reply_net(void) {
     reply_refused(r, 50);
     r.spare[0] = 200;
     reply_refused(r, 48);
-    r.timing.net = (int64_t)10000000 * 864000000;
-    reply_refused(r, 40);
-    r.timing.net = INT64_MIN;
-    reply_refused(r, 40);
-    r = reply_in(net_frame);
-    r.timing.net = (int64_t)9999999 * 864000000 + 863999999;
-    SAYS(rei2_write_reply(r, out, OUT), REI2_DONE, 0);
-    SAME(out + 30, "2359599999+9999999", 18);
-    clear_out();
+    static const int64_t too_far[] = {8640000000000000, -8640000000000000, INT64_MAX, INT64_MIN};
+    for (size_t i = 0; i < sizeof too_far / sizeof *too_far; i++) {
+        r.timing.net = too_far[i];
+        reply_refused(r, 40);
+    }
+}
+
+/* The minus covers days and time together. */
+static void reply_signs(void) {
+    static const struct {
+        const char *shown;
+        int64_t net;
+    } signs[] = {
+        {"0000000000+0000000", 0},
+        {"0000000001+0000000", 1},
+        {"0000000001-0000000", -1},
+        {"0000010000-0000000", -10000},
+        {"2359599999-0000000", -863999999},
+        {"0000000000-0000001", -864000000},
+        {"0000000001-0000001", -864000001},
+        {"0000000000-9999999", -8639999136000000},
+        {"2359599999+9999999", 8639999999999999},
+        {"2359599999-9999999", -8639999999999999},
+    };
+    uint8_t frame[REI2_REPLY_SIZE];
+    memcpy(frame, net_frame, sizeof frame);
+    for (size_t i = 0; i < sizeof signs / sizeof *signs; i++) {
+        memcpy(frame + 30, signs[i].shown, 18);
+        rei2_reply_record r = reply_in(frame);
+        CHECK(r.timing.kind == REI2_NET && r.timing.net == signs[i].net);
+        wrote(rei2_write_reply(r, out, OUT), frame, REI2_REPLY_SIZE);
+    }
+    memcpy(frame + 30, "0000000000-0000000", 18);
+    rei2_reply_answer zero = rei2_read_reply(frame, sizeof frame);
+    SAYS_FIELD(zero, 40, 40);
+    frame[5] = 'Z';
+    CHECK(reply_in(frame).timing.kind == REI2_RAW);
 }
 
 static void reply_raw(void) {
@@ -591,6 +619,7 @@ void test_frames(void) {
     reply_parts();
     reply_clock();
     reply_net();
+    reply_signs();
     reply_raw();
     reply_timing();
     reply_left_over();

@@ -113,8 +113,8 @@ fn put_timing(record: &ReplyRecord, frame: &mut [u8; SIZE]) {
         NET => {
             let (days, time) = net_parts(timing.net).expect("a good record");
             put_clock(&mut frame[30..40], time);
-            frame[40] = if days < 0 { b'-' } else { b'+' };
-            put_number(&mut frame[41..48], days.unsigned_abs() as u32);
+            frame[40] = if timing.net < 0 { b'-' } else { b'+' };
+            put_number(&mut frame[41..48], days);
         }
         _ => {
             frame[30..40].copy_from_slice(&record.raw_time);

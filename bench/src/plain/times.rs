@@ -5,7 +5,7 @@ use super::refusal::{Refusal, TIME};
 use crate::abi::RunningOf;
 
 const DAY: i64 = 864_000_000;
-const MOST_NET_DAYS: i64 = 9_999_999;
+const MOST_NET_DAYS: u64 = 9_999_999;
 
 pub fn is_clock(ticks: u32) -> bool {
     i64::from(ticks) < DAY
@@ -47,21 +47,22 @@ fn is_leap(year: u32) -> bool {
     year.is_multiple_of(4) && (!year.is_multiple_of(100) || year.is_multiple_of(400))
 }
 
-/// The net value of days with a sign, and a time. A minus without days has no value.
+/// The net value of days and a time with one sign for both. Minus zero has no value.
 #[inline(always)]
 pub fn net_value(minus: bool, days: u32, time: u32) -> Option<i64> {
-    if minus && days == 0 {
+    let size = i64::from(days) * DAY + i64::from(time);
+    if minus && size == 0 {
         return None;
     }
-    let days = i64::from(days) * DAY;
-    Some(if minus { -days } else { days } + i64::from(time))
+    Some(if minus { -size } else { size })
 }
 
-/// The days, rounded down, and the time after them; none if seven digits cannot show the days.
+/// The days and the time of a value without its sign; none if seven digits cannot show the days.
 #[inline]
-pub fn net_parts(value: i64) -> Option<(i64, u32)> {
-    let days = value.div_euclid(DAY);
-    (days.abs() <= MOST_NET_DAYS).then_some((days, value.rem_euclid(DAY) as u32))
+pub fn net_parts(value: i64) -> Option<(u32, u32)> {
+    let size = value.unsigned_abs();
+    let days = size / DAY as u64;
+    (days <= MOST_NET_DAYS).then_some((days as u32, (size % DAY as u64) as u32))
 }
 
 pub fn running_time(of: &RunningOf) -> Result<i64, Refusal> {

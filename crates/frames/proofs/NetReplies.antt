@@ -204,7 +204,7 @@ module _ (r : StaticReply) (fine : wrongIn reply r ≡ 0) where
           good = rest-fine .0;
           says = says-kind ∙ and-true (R-or-E (r .head .status) (head-status (r .head) _ (address .1)) (status .0)) (status .1);
           shows = ap (slice 30 48) frame-is ∙ cut-out (headText (r .head)) (timesOf r) (after r) (length-head (r .head)) (length-times r)
-          ∙ ap (λ (t : Timing). timingText t (r .«raw_time») (r .«raw_date»)) is ∙ writing-text v;
+              ∙ ap (λ (t : Timing). timingText t (r .«raw_time») (r .«raw_date»)) is ∙ writing-text v;
           judged = value-alone;
         }
 

@@ -78,9 +78,9 @@ writing-is w e =
       fraction = leb-true _ _ (c .1);
       days = leb-true _ _ (b .1);
       sign = or-cases (eqb (w .sign) 43) (eqb (w .sign) 45 && ltb 0 (sizeOf w)) (Sign w)
-      (λ p. plus (eqb-true _ _ p))
-      (λ p. let q = and-eq-true-iff (eqb (w .sign) 45) (ltb 0 (sizeOf w)) .0 p in minus (eqb-true _ _ (q .0)) (ltb-true _ _ (q .1)))
-      (a .1);
+          (λ p. plus (eqb-true _ _ p))
+          (λ p. let q = and-eq-true-iff (eqb (w .sign) 45) (ltb 0 (sizeOf w)) .0 p in minus (eqb-true _ _ (q .0)) (ltb-true _ _ (q .1)))
+          (a .1);
     }
 
 value-size : (w : Writing) → natAbs (valueOf w) ≡ sizeOf w

@@ -282,7 +282,7 @@ net-shows ticks time = record { wide = refl; only = λ v q. in-days v q; some = 
     one-day : (sign : ℕ) → isSign sign ≡ true → areDays ticks (sign, 1) ≡ true
     one-day sign e = rw (e, time) (not-zero (eqb sign 45) (eqb ticks 0))
       where
-        not-zero : (minus no-time : Bool) → not (minus && false && no-time) ≡ true
+        not-zero : (minus no-time : Bool) → not (minus && (false && no-time)) ≡ true
         not-zero true no-time = refl
         not-zero false no-time = refl
 

@@ -57,16 +57,11 @@ abbrev pub timedBy : StaticReply → Timing → StaticReply
 timedBy r timing = record { head = r .head; timing = timing; «raw_time» = r .«raw_time»; «raw_date» = r .«raw_date»; spare = r .spare }
 
 pub record NetTimesAreOneToOne : Type 0 where
-  -- ---- writings and values
-
-  -- each writing has such a value, each such value has a writing, and no two writings have the same value
+  -- writings and values: each writing has such a value, each such value has a writing, and no two writings have the same value
   pub within : (w : Writing) → isWriting w ≡ true → isValue (valueOf w) ≡ true
   pub onto : (v : ℤ) → isValue v ≡ true → (w : Writing) × ((isWriting w ≡ true) × (valueOf w ≡ v))
   pub once : (w u : Writing) → isWriting w ≡ true → isWriting u ≡ true → valueOf w ≡ valueOf u → w ≡ u
-
-  -- ---- reading
-
-  -- an accepted net reply shows a writing, and its record holds the value
+  -- reading: an accepted net reply shows a writing, and its record holds the value
   pub reads : (s : List ℕ) (r : StaticReply) → read reply s ≡ gives r → saysNet s ≡ true
       → (w : Writing) × ((isWriting w ≡ true) × ((slice 30 48 s ≡ textOf w) × (r .timing ≡ Net (valueOf w))))
   -- an accepted net reply that is made to show another writing is accepted with the value of that writing, and all else stays
@@ -75,10 +70,7 @@ pub record NetTimesAreOneToOne : Type 0 where
   -- made to show minus zero, it is refused: FIELD 40, and no byte of the field is spoiled by itself
   pub refuses-minus-zero : (s : List ℕ) (r : StaticReply) → read reply s ≡ gives r → saysNet s ≡ true
       → read reply (sets s 30 (codes "0000000000-0000000")) ≡ refuses (spoiledAt 5 40 40)
-
-  -- ---- writing
-
-  -- the frame of a well formed record with a net value says so, and shows the writing of that value
+  -- writing: the frame of a well formed record with a net value says so, and shows the writing of that value
   pub writes : (r : StaticReply) → Whole r → wrongIn reply r ≡ 0 → (v : ℤ) → r .timing ≡ Net v
       → (saysNet (frameOf reply r) ≡ true) × ((w : Writing) × ((isWriting w ≡ true) × ((valueOf w ≡ v) × (slice 30 48 (frameOf reply r) ≡ textOf w))))
   -- with another value the record is well formed exactly if that value has a writing; otherwise it is wrong at 40

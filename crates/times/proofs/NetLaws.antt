@@ -89,7 +89,7 @@ net-range v =
     and-none true = refl
     and-none false = refl
 
-    never-minus-zero : (v : ℤ) → not (isBelow v && eqb (natAbs v / aDay) 0 && eqb (natAbs v % aDay) 0) ≡ true
+    never-minus-zero : (v : ℤ) → not (isBelow v && (eqb (natAbs v / aDay) 0 && eqb (natAbs v % aDay) 0)) ≡ true
     never-minus-zero (pos n) = refl
     never-minus-zero (negsuc n) =
         by-less (suc n) aDay

@@ -21,7 +21,7 @@ isBelow (negsuc n) = true
 
 -- a net time: days of at most seven digits, a time of day, and no minus if both are zero
 unfoldable pub isNet : NetParts → Bool
-isNet p = leb (p .days) 9999999 && leb (p .time) lastTick && not (p .minus && eqb (p .days) 0 && eqb (p .time) 0)
+isNet p = leb (p .days) 9999999 && leb (p .time) lastTick && not (p .minus && (eqb (p .days) 0 && eqb (p .time) 0))
 
 -- the days in ticks plus the time, with the sign: the minus covers days and time together
 abbrev pub netSum : NetParts → ℤ

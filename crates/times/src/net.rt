@@ -22,7 +22,8 @@ pub enum NetValue {
 pub fn is_net(parts: NetParts) -> bool
     ensures { λ r. ⌜ r ≡ isNet parts ⌝ }
 {
-    (parts.days <= 9_999_999) & (parts.time <= LAST_TICK) & !(parts.minus & (parts.days == 0) & (parts.time == 0))
+    let zero = (parts.days == 0) & (parts.time == 0);
+    (parts.days <= 9_999_999) & (parts.time <= LAST_TICK) & !(parts.minus & zero)
 }
 
 // The value of a net time; Wrong if the parts are no net time. The minus covers days and time together.
