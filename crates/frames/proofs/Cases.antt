@@ -187,6 +187,8 @@ dynamic-worked = record {
   written = refl;
   minus-zero = refl;
   minus-zero-written = refl;
+  minus-zero-orders = refl;
+  minus-zero-no-period = refl;
   offsets = refl;
   requester-a = (_, refl);
   after-Z = refl;
@@ -282,18 +284,14 @@ net-worked = record {
   written-as = refl;
   well-formed = refl;
   too-far = refl;
-  zero-1 = refl;
-  zero-2 = refl;
-  zero-3 = refl;
-  zero-R = refl;
-  zero-E = refl;
-  tick-1 = (_, refl);
-  tick-2 = (_, refl);
-  tick-3 = (_, refl);
-  tick-R = (_, refl);
-  zero-Z = (_, refl);
-  zero-raw = (_, refl);
+  minus-zero = refl;
+  minus-tick = refl;
+  zero-Z = refl;
+  zero-raw = refl;
   zero-clock = refl;
+  letters-below = refl;
+  letters-zero = refl;
+  letters-dated = refl;
 }
 
 pub spoiled-worked : SpoiledWorked

@@ -1,20 +1,20 @@
 -- Reading and writing follow the writings of net times. Assumes nothing.
-use Prim.Native.Nat.{ℕ, _+_, _-_, _%_, _≤_, _<_}
+use Prim.Native.Nat.{ℕ, _+_, _%_, _≤_}
 use mathlib.Core.List.{List, [], _∷_, _++_, append-assoc}
-use mathlib.Core.Bool.{Bool, true, false, true≢false, cond, _&&_, _||_, and-eq-true-iff}
+use mathlib.Core.Bool.{Bool, true, false, true≢false, cond, _||_}
 use mathlib.Core.Path.{_≡_, refl, sym, ap, ap₂, subst, _∙_}
 use native.Mathlib.Omega.{arith}
 use lib.Dec.{eqb}
 use lib.IntN.{ℤ, natAbs}
-use lib.ListN.{length, getD, take, drop, length-append}
+use lib.ListN.{length, getD, set, take, drop, replicate, length-append}
 use lib.Seq.{sets, sets-eq, slice, take-at, drop-at}
 use borrow.Author.Tests.{eqb-true, le-leb}
 use Rattle.digits.specs.Text.{codes, oneOf}
 use Rattle.digits.specs.Digits.{digits}
 use Rattle.digits.specs.Told.{gives}
-use Rattle.digits.proofs.Tests.{and-true}
-use Rattle.times.specs.Clock.{lastTick, aDay}
-use Rattle.times.specs.Net.{isNet, isBelow, netParts}
+use Rattle.times.specs.Clock.{aDay, lastTick, isTime}
+use Rattle.times.specs.Day.{realDay}
+use Rattle.times.specs.Net.{isBelow}
 use Rattle.times.proofs.NetLaws.{net-range}
 use Rattle.frames.specs.declared.timing.TimingKind.{TimingKind}
 use Rattle.frames.specs.declared.timing.TimingKind.the-variants.{Clock as clockKind, Net as netKind, Raw as rawKind}
@@ -23,19 +23,19 @@ use Rattle.frames.specs.declared.timing.Timing.the-variants.{Clock, Net,
 use Rattle.frames.specs.declared.reply.StaticReply.{StaticReply}
 use Rattle.frames.specs.Rules.{isAddress}
 use Rattle.frames.specs.Status.{isStatus, isZ}
-use Rattle.frames.specs.Shape.{bytesOf}
+use Rattle.frames.specs.Shape.{bytesOf, allFrom}
 use Rattle.frames.specs.Layout.{wrongUnless}
 use Rattle.frames.specs.Kind.{CR, read, wrongIn, frameOf}
-use Rattle.frames.specs.Timing.{timingKind, isOf, isSign, signOf, netOf}
-use Rattle.frames.specs.Reply.{reply, Whole, tailOf}
-use Rattle.frames.specs.NetTimes.{Writing, textOf, valueOf, isWriting, isValue, saysNet, timedBy}
-use Rattle.frames.specs.inside.Timing.{netWrong, netValueWrong, spareWrong, unusedWrong, timingWrong, timingText, netText}
-use Rattle.frames.specs.inside.Reply.{headWrong, headText, replyText}
+use Rattle.frames.specs.Timing.{timingKind, isOf, areRaw, isSign, signOf}
+use Rattle.frames.specs.Reply.{isLetter, reply, Whole, tailOf}
+use Rattle.frames.specs.NetTimes.{Writing, textOf, valueOf, isWriting, isValue, isNetStatus, isNetLetter, netBy}
+use Rattle.frames.specs.inside.Timing.{clockWrong, netWrong, netValueWrong, timingWrong, timingText, netText}
+use Rattle.frames.specs.inside.Reply.{headText, replyText}
 use Rattle.frames.proofs.RuleLaws.{or-cases}
 use Rattle.frames.proofs.LayoutLaws.{unless-none}
 use Rattle.frames.proofs.KindLaws.{Own, frame-back, frame-again}
-use Rattle.frames.proofs.TimingLaws.{kind-fits}
-use Rattle.frames.proofs.ReplyLaws.{reply-sound, kindIn, reply-wrong-is, head-none, head-passes, head-status, times-fine, text-is-frame, length-timing, length-head}
+use Rattle.frames.proofs.TimingLaws.{sign-back, kind-fits}
+use Rattle.frames.proofs.ReplyLaws.{reply-sound, kindIn, reply-wrong-is, lettered, HeadFine, head-fine, times-fine, text-is-frame, length-timing, length-head}
 use Rattle.frames.proofs.NetWritings.{writingOf, writing-text, value-of-writing, writing-good, writing-again, writing-value}
 
 -- ---- 18 bytes after the first 30
@@ -58,8 +58,8 @@ module _ (h t z : List ℕ) (a : length h ≡ 30) (b : length t ≡ 18) where
 
 -- ---- which replies are net
 
-net-letter : (status letter : ℕ) → timingKind status letter ≡ netKind → (isZ status ≡ false) × (oneOf (codes "123") letter ≡ true)
-unfolding timingKind
+net-letter : (status letter : ℕ) → timingKind status letter ≡ netKind → (isZ status ≡ false) × (isNetLetter letter ≡ true)
+unfolding timingKind isNetLetter
 net-letter status letter = go (isZ status) (oneOf (codes "0KSsa") letter) (oneOf (codes "123") letter)
   where
     go : (z clock net : Bool) → cond z rawKind (cond clock clockKind (cond net netKind rawKind)) ≡ netKind → (z ≡ false) × (net ≡ true)
@@ -68,27 +68,26 @@ net-letter status letter = go (isZ status) (oneOf (codes "0KSsa") letter) (oneOf
     go false true net e = absurd (let x : _≡_ {A = ℕ} 0 1 = cc in omega arith)
     go false false false e = absurd (let x : _≡_ {A = ℕ} 0 1 = cc in omega arith)
 
-no-clock : (letter : ℕ) → oneOf (codes "123") letter ≡ true → oneOf (codes "0KSsa") letter ≡ false
-unfolding oneOf
+-- the letter of a net reply is one of a reply, and none of the clock
+no-clock : (letter : ℕ) → isNetLetter letter ≡ true → (isLetter letter ≡ true) × (oneOf (codes "0KSsa") letter ≡ false)
+unfolding isNetLetter isLetter oneOf
 no-clock letter =
-    or-cases (eqb letter 49) _ _ (λ e. rw (eqb-true letter 49 e))
-    (or-cases (eqb letter 50) _ _ (λ e. rw (eqb-true letter 50 e))
-    (or-cases (eqb letter 51) _ _ (λ e. rw (eqb-true letter 51 e)) (λ e. absurd (true≢false (sym e)))))
+    or-cases (eqb letter 49) _ _ (λ e. rw (eqb-true letter 49 e) (refl, refl))
+    (or-cases (eqb letter 50) _ _ (λ e. rw (eqb-true letter 50 e) (refl, refl))
+    (or-cases (eqb letter 51) _ _ (λ e. rw (eqb-true letter 51 e) (refl, refl)) (λ e. absurd (true≢false (sym e)))))
 
-not-Z : (status : ℕ) → oneOf (codes "RE") status ≡ true → isZ status ≡ false
-unfolding oneOf
+not-Z : (status : ℕ) → isNetStatus status ≡ true → isZ status ≡ false
+unfolding isNetStatus oneOf
 not-Z status =
     or-cases (eqb status 82) _ _ (λ e. rw (eqb-true status 82 e))
     (or-cases (eqb status 69) _ _ (λ e. rw (eqb-true status 69 e)) (λ e. absurd (true≢false (sym e))))
 
-net-kind : (status letter : ℕ) → (oneOf (codes "RE") status && oneOf (codes "123") letter) ≡ true → timingKind status letter ≡ netKind
-unfolding timingKind
-net-kind status letter e =
-    let a = and-eq-true-iff (oneOf (codes "RE") status) (oneOf (codes "123") letter) .0 e in
-    rw (not-Z status (a .0), no-clock letter (a .1), a .1)
+net-kind : (status letter : ℕ) → isNetStatus status ≡ true → isNetLetter letter ≡ true → timingKind status letter ≡ netKind
+unfolding timingKind isNetLetter
+net-kind status letter e f = rw (not-Z status e, no-clock letter f .1, f)
 
-R-or-E : (status : ℕ) → isStatus status ≡ true → isZ status ≡ false → oneOf (codes "RE") status ≡ true
-unfolding isStatus oneOf
+R-or-E : (status : ℕ) → isStatus status ≡ true → isZ status ≡ false → isNetStatus status ≡ true
+unfolding isNetStatus isStatus oneOf
 R-or-E status e f = go (eqb status 82) (eqb status 69) (eqb status 90) e f
   where
     go : (r e z : Bool) → (r || (e || (z || false))) ≡ true → z ≡ false → (r || (e || false)) ≡ true
@@ -113,32 +112,43 @@ value-judged : (v : ℤ) (rest : ℕ) → netValueWrong v rest ≡ cond (isValue
 unfolding netValueWrong netWrong isSign oneOf
 value-judged v rest =
     let time = le-leb (natAbs v % aDay) lastTick (omega arith) in
-    rw (time, sign-again (isBelow v)) (ap (λ (b : Bool). wrongUnless b 40 rest) (net-of-sign (isBelow v) ∙ net-range v) ∙ either (isValue v))
+    rw (time, sign-again (isBelow v), sign-back (isBelow v)) (ap (λ (b : Bool). wrongUnless b 40 rest) (net-range v) ∙ either (isValue v))
   where
     sign-again : (b : Bool) → isSign (signOf b) ≡ true
     sign-again true = refl
     sign-again false = refl
 
-    net-of-sign : (b : Bool) → isNet (netOf (natAbs v % aDay) (signOf b) (netParts v .days)) ≡ isNet (record { minus = b; days = netParts v .days; time = natAbs v % aDay })
-    net-of-sign true = refl
-    net-of-sign false = refl
-
     either : (b : Bool) → wrongUnless b 40 rest ≡ cond b rest 40
     either true = refl
     either false = refl
 
--- ---- a well formed net reply
+value-fine : (v : ℤ) (rest : ℕ) → netValueWrong v rest ≡ 0 → (isValue v ≡ true) × (rest ≡ 0)
+value-fine v rest e = either (isValue v) (sym (value-judged v rest) ∙ e)
+  where
+    either : (b : Bool) → cond b rest 40 ≡ 0 → (b ≡ true) × (rest ≡ 0)
+    either true e = (refl, e)
+    either false e = absurd (omega arith)
 
--- what is known of one
-pub record NetReply (r : StaticReply) : Type 0 where
-  pub value : ℤ
-  pub timing : r .timing ≡ Net value
-  pub good : isValue value ≡ true
-  -- the frame says that it is one, and shows the writing of its value
-  pub says : saysNet (frameOf reply r) ≡ true
-  pub shows : slice 30 48 (frameOf reply r) ≡ textOf (writingOf value)
-  -- with another value only that value is judged
-  pub judged : (v : ℤ) → wrongIn reply (timedBy r (Net v)) ≡ cond (isValue v) 0 40
+-- the spare bytes of a record whose time and date are not wrong
+spare-raw : (kind : TimingKind) (t : Timing) (rt rd sp : List ℕ) → timingWrong kind t rt rd sp ≡ 0 → areRaw 2 sp ≡ true
+unfolding clockWrong
+spare-raw clockKind (Clock ticks day month year) rt rd sp e =
+    let time = unless-none (isTime ticks) 30 _ (omega arith) e in
+    let date = unless-none (realDay day month year) 40 _ (omega arith) (time .1) in
+    unless-none (areRaw 2 sp) 48 _ (omega arith) (date .1) .0
+spare-raw netKind (Net v) rt rd sp e = unless-none (areRaw 2 sp) 48 _ (omega arith) (value-fine v _ e .1) .0
+spare-raw rawKind Raw rt rd sp e =
+    let time = unless-none (areRaw 10 rt) 30 _ (omega arith) e in
+    let date = unless-none (areRaw 8 rd) 40 _ (omega arith) (time .1) in
+    unless-none (areRaw 2 sp) 48 _ (omega arith) (date .1) .0
+spare-raw clockKind (Net v) rt rd sp e = absurd (omega arith)
+spare-raw clockKind Raw rt rd sp e = absurd (omega arith)
+spare-raw netKind (Clock ticks day month year) rt rd sp e = absurd (omega arith)
+spare-raw netKind Raw rt rd sp e = absurd (omega arith)
+spare-raw rawKind (Clock ticks day month year) rt rd sp e = absurd (omega arith)
+spare-raw rawKind (Net v) rt rd sp e = absurd (omega arith)
+
+-- ---- the frame of a well formed reply
 
 -- its time and date, and the bytes after them
 abbrev timesOf : StaticReply → List ℕ
@@ -162,99 +172,87 @@ module _ (r : StaticReply) (fine : wrongIn reply r ≡ 0) where
   unfolding digits
   at-letter = ap (λ (l : List ℕ). getD l 29 0) frame-is
 
-  pub says-kind : saysNet (frameOf reply r) ≡ (oneOf (codes "RE") (r .head .status) && oneOf (codes "123") (r .head .information))
-  unfolding saysNet
-  says-kind = rw (at-status, at-letter)
+  shown-at-30 : slice 30 48 (frameOf reply r) ≡ timesOf r
+  shown-at-30 = ap (slice 30 48) frame-is ∙ cut-out (headText (r .head)) (timesOf r) (after r) (length-head (r .head)) (length-times r)
 
-  -- the parts before time and date, and the bytes beside them, are not wrong
-  parts-fine : wrongUnless (isAddress (r .head .address)) 2 (headWrong (r .head) (timingWrong (kindIn r) (r .timing) (r .«raw_time») (r .«raw_date») (r .spare))) ≡ 0
-  parts-fine = reply-wrong-is r ∙ fine
+  -- with another letter, and any 18 bytes in place of time and date
+  pub other-bytes : (letter : ℕ) (t : List ℕ) → length t ≡ 18 → sets (frameOf reply r) 29 (letter ∷ t) ≡ headText (lettered (r .head) letter) ++ (t ++ after r)
+  unfolding digits
+  other-bytes letter t h =
+      ap (λ (l : List ℕ). sets (set l 29 letter) 30 t) frame-is
+      ∙ replaced (headText (lettered (r .head) letter)) (timesOf r) (after r) (length-head (lettered (r .head) letter)) (length-times r) t h
 
-  module _ (kind : kindIn r ≡ netKind) (v : ℤ) (is : r .timing ≡ Net v) where
-    abbrev rest : ℕ
-    rest = spareWrong (r .spare) (unusedWrong (r .«raw_time») (r .«raw_date»))
+  -- the parts before time and date are not wrong, and neither is the rest
+  address-fine : isAddress (r .head .address) ≡ true
+  address-fine = unless-none (isAddress (r .head .address)) 2 _ (omega arith) (reply-wrong-is r ∙ fine) .0
 
-    rest-fine : (isValue v ≡ true) × (rest ≡ 0)
-    rest-fine =
-        let address = unless-none (isAddress (r .head .address)) 2 _ (omega arith) parts-fine in
-        let e = head-none (r .head) _ (address .1) in
-        either (isValue v) (sym (value-judged v rest) ∙ sym (ap₂ (λ (k : TimingKind) (t : Timing). timingWrong k t (r .«raw_time») (r .«raw_date») (r .spare)) kind is) ∙ e)
-      where
-        either : (b : Bool) → cond b rest 40 ≡ 0 → (b ≡ true) × (rest ≡ 0)
-        either true e = (refl, e)
-        either false e = absurd (omega arith)
+  parts-fine : HeadFine (r .head) (timingWrong (kindIn r) (r .timing) (r .«raw_time») (r .«raw_date») (r .spare))
+  parts-fine = head-fine (r .head) _ (unless-none (isAddress (r .head .address)) 2 _ (omega arith) (reply-wrong-is r ∙ fine) .1)
 
-    value-alone : (u : ℤ) → wrongIn reply (timedBy r (Net u)) ≡ cond (isValue u) 0 40
-    value-alone u =
-        let address = unless-none (isAddress (r .head .address)) 2 _ (omega arith) parts-fine in
-        let none = head-none (r .head) _ (address .1) in
-        let e : timingWrong (kindIn r) (Net u) (r .«raw_time») (r .«raw_date») (r .spare) ≡ cond (isValue u) 0 40 =
-        ap (λ (k : TimingKind). timingWrong k (Net u) (r .«raw_time») (r .«raw_date») (r .spare)) kind ∙ value-judged u rest ∙ ap (λ (n : ℕ). cond (isValue u) n 40) (rest-fine .1) in
-        sym (reply-wrong-is (timedBy r (Net u)))
-        ∙ rw (address .0) (head-passes (r .head) (ap (headWrong (r .head)) (sym none) ∙ address .1) _ ∙ e)
+  fits : isOf (kindIn r) (r .timing) ≡ true
+  fits = kind-fits (kindIn r) (tailOf r .times) (times-fine r fine)
 
-    net-reply : NetReply r
-    unfolding digits
-    net-reply =
-        let status = net-letter (r .head .status) (r .head .information) kind in
-        let address = unless-none (isAddress (r .head .address)) 2 _ (omega arith) parts-fine in
-        record {
-          value = v;
-          timing = is;
-          good = rest-fine .0;
-          says = says-kind ∙ and-true (R-or-E (r .head .status) (head-status (r .head) _ (address .1)) (status .0)) (status .1);
-          shows = ap (slice 30 48) frame-is ∙ cut-out (headText (r .head)) (timesOf r) (after r) (length-head (r .head)) (length-times r)
-              ∙ ap (λ (t : Timing). timingText t (r .«raw_time») (r .«raw_date»)) is ∙ writing-text v;
-          judged = value-alone;
-        }
+  -- a net value in it has a writing, which the frame shows
+  value-is : kindIn r ≡ netKind → (v : ℤ) → r .timing ≡ Net v → isValue v ≡ true
+  value-is kind v is =
+      value-fine v _ (sym (ap₂ (λ (k : TimingKind) (t : Timing). timingWrong k t (r .«raw_time») (r .«raw_date») (r .spare)) kind is) ∙ parts-fine .none) .0
 
-  -- by what the record holds, and by what the bytes say
-  pub by-value : (v : ℤ) → r .timing ≡ Net v → NetReply r
-  by-value v is = net-reply (kind-of-net (kindIn r) (r .timing) v is (kind-fits (kindIn r) (tailOf r .times) (times-fine r fine))) v is
+  value-shown : (v : ℤ) → r .timing ≡ Net v → slice 30 48 (frameOf reply r) ≡ textOf (writingOf v)
+  value-shown v is = shown-at-30 ∙ ap (λ (t : Timing). timingText t (r .«raw_time») (r .«raw_date»)) is ∙ writing-text v
 
-  by-bytes : saysNet (frameOf reply r) ≡ true → NetReply r
-  by-bytes e =
-      let kind = net-kind (r .head .status) (r .head .information) (sym says-kind ∙ e) in
-      let t = net-timing (r .timing) (subst (λ (k : TimingKind). isOf k (r .timing) ≡ true) kind (kind-fits (kindIn r) (tailOf r .times) (times-fine r fine))) in
-      net-reply kind (t .0) (t .1)
+  -- a record with a net value says so
+  pub net-bytes : (v : ℤ) → r .timing ≡ Net v → (isNetStatus (getD (frameOf reply r) 5 0) ≡ true) × (isNetLetter (getD (frameOf reply r) 29 0) ≡ true)
+  net-bytes v is =
+      let kind = net-letter (r .head .status) (r .head .information) (kind-of-net (kindIn r) (r .timing) v is fits) in
+      (ap isNetStatus at-status ∙ R-or-E (r .head .status) (parts-fine .status) (kind .0), ap isNetLetter at-letter ∙ kind .1)
 
--- ---- a frame that shows another writing
+-- ---- a reply made net
 
-module _ (r : StaticReply) (fine : wrongIn reply r ≡ 0) (net : NetReply r) where
-  other-fine : (v : ℤ) → isValue v ≡ true → wrongIn reply (timedBy r (Net v)) ≡ 0
-  other-fine v e = net .judged v ∙ rw e
+module _ (r : StaticReply) (fine : wrongIn reply r ≡ 0) (net : isNetStatus (r .head .status) ≡ true) (letter : ℕ) (of-net : isNetLetter letter ≡ true) where
+  pub made-judged : (v : ℤ) → wrongIn reply (netBy r letter v) ≡ cond (isValue v) 0 40
+  unfolding allFrom
+  made-judged v =
+      let spare = spare-raw (kindIn r) (r .timing) (r .«raw_time») (r .«raw_date») (r .spare) (parts-fine r fine .none) in
+      let kind = net-kind (r .head .status) letter net of-net in
+      let e : timingWrong (timingKind (r .head .status) letter) (Net v) (replicate 10 0) (replicate 8 0) (r .spare) ≡ cond (isValue v) 0 40 =
+      ap (λ (k : TimingKind). timingWrong k (Net v) (replicate 10 0) (replicate 8 0) (r .spare)) kind ∙ value-judged v _ ∙ ap (λ (b : Bool). cond (isValue v) (wrongUnless b 48 0) 40) spare in
+      sym (reply-wrong-is (netBy r letter v)) ∙ rw (address-fine r fine) (parts-fine r fine .passes letter (no-clock letter of-net .0) _ ∙ e)
 
-  -- any 18 bytes in place of time and date
-  pub other-bytes : (t : List ℕ) → length t ≡ 18 → sets (frameOf reply r) 30 t ≡ headText (r .head) ++ (t ++ after r)
-  other-bytes t h =
-      ap (λ (l : List ℕ). sets l 30 t) (frame-is r fine)
-      ∙ replaced (headText (r .head)) (timesOf r) (after r) (length-head (r .head)) (length-times r) t h
+  made-fine : (v : ℤ) → isValue v ≡ true → wrongIn reply (netBy r letter v) ≡ 0
+  made-fine v e = made-judged v ∙ rw e
 
-  other-frame : (w : Writing) → isWriting w ≡ true → frameOf reply (timedBy r (Net (valueOf w))) ≡ sets (frameOf reply r) 30 (textOf w)
-  other-frame w e =
+  made-frame : (w : Writing) → isWriting w ≡ true → frameOf reply (netBy r letter (valueOf w)) ≡ sets (frameOf reply r) 29 (letter ∷ textOf w)
+  made-frame w e =
       let v = valueOf w in
       let own : netText v ≡ textOf w = writing-text v ∙ ap textOf (writing-again w e) in
-      frame-is (timedBy r (Net v)) (other-fine v (writing-value w e))
-      ∙ rw own (sym (other-bytes (textOf w) (ap length (sym own) ∙ length-timing (Net v) [] [])))
+      frame-is (netBy r letter v) (made-fine v (writing-value w e))
+      ∙ rw own (sym (other-bytes r fine letter (textOf w) (ap length (sym own) ∙ length-timing (Net v) [] [])))
 
--- ---- reading and writing
+  pub made-read : (w : Writing) → isWriting w ≡ true → Whole r → read reply (sets (frameOf reply r) 29 (letter ∷ textOf w)) ≡ gives (netBy r letter (valueOf w))
+  made-read w e whole =
+      ap (read reply) (sym (made-frame w e))
+      ∙ frame-back reply-sound (netBy r letter (valueOf w)) (record { time = refl; date = refl; spare = whole .spare }) (made-fine (valueOf w) (writing-value w e))
 
-module _ (s : List ℕ) (r : StaticReply) (e : read reply s ≡ gives r) (n : saysNet s ≡ true) where
+-- ---- reading
+
+module _ (s : List ℕ) (r : StaticReply) (e : read reply s ≡ gives r) (net : isNetStatus (getD s 5 0) ≡ true) where
   pub own : Own reply-sound s r
   own = frame-again reply-sound s r e
 
-  pub net-of : NetReply r
-  net-of = by-bytes r (own .fine) (ap saysNet (own .bytes) ∙ n)
+  byte : (i : ℕ) → getD (frameOf reply r) i 0 ≡ getD s i 0
+  byte i = ap (λ (l : List ℕ). getD l i 0) (own .bytes)
 
-  pub reads-writing : (w : Writing) × ((isWriting w ≡ true) × ((slice 30 48 s ≡ textOf w) × (r .timing ≡ Net (valueOf w))))
-  reads-writing =
-      let v = net-of .value in
-      (writingOf v, (writing-good v (net-of .good), (ap (slice 30 48) (sym (own .bytes)) ∙ net-of .shows, net-of .timing ∙ ap Net (sym (value-of-writing v)))))
+  pub own-status : isNetStatus (r .head .status) ≡ true
+  own-status = ap isNetStatus (sym (at-status r (own .fine)) ∙ byte 5) ∙ net
 
-  pub takes-writing : (w : Writing) → isWriting w ≡ true → read reply (sets s 30 (textOf w)) ≡ gives (timedBy r (Net (valueOf w)))
-  takes-writing w g =
-      let v = valueOf w in
-      let whole = own .has in
-      ap (λ (l : List ℕ). read reply (sets l 30 (textOf w))) (sym (own .bytes))
-      ∙ ap (read reply) (sym (other-frame r (own .fine) net-of w g))
-      ∙ frame-back reply-sound (timedBy r (Net v)) (record { time = whole .time; date = whole .date; spare = whole .spare }) (other-fine r (own .fine) net-of v (writing-value w g))
+  pub reads-writing : isNetLetter (getD s 29 0) ≡ true → (w : Writing) × ((isWriting w ≡ true) × ((slice 30 48 s ≡ textOf w) × (r .timing ≡ Net (valueOf w))))
+  reads-writing of-net =
+      let letter = ap isNetLetter (sym (at-letter r (own .fine)) ∙ byte 29) ∙ of-net in
+      let kind = net-kind (r .head .status) (r .head .information) own-status letter in
+      let t = net-timing (r .timing) (subst (λ (k : TimingKind). isOf k (r .timing) ≡ true) kind (fits r (own .fine))) in
+      let v = t .0 in
+      (writingOf v, (writing-good v (value-is r (own .fine) kind v (t .1)), (ap (slice 30 48) (sym (own .bytes)) ∙ value-shown r (own .fine) v (t .1), t .1 ∙ ap Net (sym (value-of-writing v)))))
+
+  pub takes-writing : (letter : ℕ) → isNetLetter letter ≡ true → (w : Writing) → isWriting w ≡ true → read reply (sets s 29 (letter ∷ textOf w)) ≡ gives (netBy r letter (valueOf w))
+  takes-writing letter of-net w g =
+      ap (λ (l : List ℕ). read reply (sets l 29 (letter ∷ textOf w))) (sym (own .bytes)) ∙ made-read r (own .fine) own-status letter of-net w g (own .has)

@@ -1,12 +1,12 @@
 -- Net times and their values belong together one to one, reading and writing follow, and minus zero is FIELD 40. Assumes nothing.
-use Prim.Native.Nat.{ℕ, _+_, _-_, _*_, _/_, _%_, _^_, _≤_, _<_}
-use mathlib.Core.List.{List, [], _∷_, _++_}
-use mathlib.Core.Bool.{true, false}
+use Prim.Native.Nat.{ℕ, _+_, _-_, _/_, _%_, _≤_, _<_}
+use mathlib.Core.List.{List, _∷_, _++_}
+use mathlib.Core.Bool.{true}
 use mathlib.Core.Path.{_≡_, refl, sym, ap, ap₂, _∙_}
 use native.Mathlib.Omega.{arith}
 use lib.IntN.{ℤ, pos, negsuc, natAbs}
 use lib.ListN.{length, getD, take, drop}
-use lib.Seq.{sets, slice, length-sets, take-at, take-take, take-append-add, drop-append-add, getD-take, getD-drop}
+use lib.Seq.{sets, slice, length-sets, take-take, take-append-add, drop-append-add, getD-take, getD-drop}
 use borrow.Author.Tests.{leb-true, le-leb}
 use Rattle.digits.specs.declared.Number.the-variants.{Is}
 use Rattle.digits.specs.Text.{codes, oneOf}
@@ -14,7 +14,6 @@ use Rattle.digits.specs.Digits.{digits, numberAt, numberFrom}
 use Rattle.digits.specs.Refusals.{spoiledAt}
 use Rattle.digits.specs.Told.{gives, refuses}
 use Rattle.digits.proofs.Tests.{by-less}
-use Rattle.digits.proofs.Writing.{length-digits}
 use Rattle.digits.proofs.Forms.{number-back}
 use Rattle.times.specs.Clock.{aDay, lastTick, ticksOf, clockNumber, clock}
 use Rattle.times.specs.Net.{isBelow}
@@ -26,13 +25,12 @@ use Rattle.frames.specs.Timing.{signOf}
 use Rattle.frames.specs.Reply.{reply, Whole}
 use Rattle.frames.specs.Places.{replyOffsets}
 use Rattle.frames.specs.Spoiled.{WellFormed, Begun, Occurs, own, Named}
-use Rattle.frames.specs.NetTimes.{Writing, textOf, valueOf, isWriting, saysNet, timedBy, NetTimesAreOneToOne}
-use Rattle.frames.specs.inside.Timing.{netText}
+use Rattle.frames.specs.NetTimes.{Writing, textOf, valueOf, isWriting, isNetStatus, isNetLetter, netBy, NetTimesAreOneToOne}
 use Rattle.frames.specs.inside.Reply.{headText}
-use Rattle.frames.proofs.KindLaws.{frame-back, frame-again}
-use Rattle.frames.proofs.ReplyLaws.{reply-sound, length-reply, length-head}
+use Rattle.frames.proofs.KindLaws.{Own, frame-back, frame-again}
+use Rattle.frames.proofs.ReplyLaws.{reply-sound, lettered, length-reply, length-head}
 use Rattle.frames.proofs.SpoiledDemands.{spoiled-bytes-are-named}
-use Rattle.frames.proofs.NetWritings.{writingOf, writing-text, value-of-writing, writing-good, writing-again, writing-value}
+use Rattle.frames.proofs.NetWritings.{writingOf, writing-text, value-of-writing, writing-good, writing-again, writing-value, writing-stays}
 use Rattle.frames.proofs.NetReplies as N
 
 -- ---- no writing shows minus zero
@@ -73,7 +71,7 @@ no-minus-zero w g e =
     let no-days = zero-days d (omega arith) (ap (drop 11) shown) in
     no-value v (ap (λ (l : List ℕ). getD l 10 0) shown) (omega arith)
 
--- ---- a net reply that is made to show minus zero
+-- ---- a reply that is made to show minus zero
 
 -- zero with a plus, and minus one day: writings that have each byte of minus zero at its place
 abbrev plusZero : Writing
@@ -82,32 +80,37 @@ plusZero = record { hours = 0; minutes = 0; seconds = 0; fraction = 0; sign = 43
 abbrev minusDay : Writing
 minusDay = record { hours = 0; minutes = 0; seconds = 0; fraction = 0; sign = 45; days = 1 }
 
-module _ (s : List ℕ) (r : StaticReply) (e : read reply s ≡ gives r) (n : saysNet s ≡ true) where
+module _ (s : List ℕ) (r : StaticReply) (e : read reply s ≡ gives r) (net : isNetStatus (getD s 5 0) ≡ true) (letter : ℕ) (of-net : isNetLetter letter ≡ true) where
+  is-own : Own reply-sound s r
+  is-own = N.own s r e net
+
   abbrev head : List ℕ
-  head = headText (r .head)
+  head = headText (lettered (r .head) letter)
 
   abbrev rest : List ℕ
   rest = N.after r
 
   abbrev showing : List ℕ → List ℕ
-  showing t = sets s 30 t
+  showing t = sets s 29 (letter ∷ t)
+
+  length-first : length head ≡ 30
+  length-first = length-head (lettered (r .head) letter)
 
   parts : (t : List ℕ) → length t ≡ 18 → showing t ≡ head ++ (t ++ rest)
-  parts t h = ap (λ (l : List ℕ). sets l 30 t) (sym (N.own s r e n .bytes)) ∙ N.other-bytes r (N.own s r e n .fine) (N.net-of s r e n) t h
+  parts t h = ap (λ (l : List ℕ). sets l 29 (letter ∷ t)) (sym (is-own .bytes)) ∙ N.other-bytes r (is-own .fine) letter t h
 
   formed : (w : Writing) → isWriting w ≡ true → WellFormed reply Whole replyOffsets (showing (textOf w))
   formed w g =
-      let o = frame-again reply-sound (showing (textOf w)) (timedBy r _) (N.takes-writing s r e n w g) in
-      record { of = timedBy r _; whole = o .has; fine = o .fine; bytes = o .bytes }
+      let o = frame-again reply-sound (showing (textOf w)) (netBy r letter (valueOf w)) (N.takes-writing s r e net letter of-net w g) in
+      record { of = netBy r letter (valueOf w); whole = o .has; fine = o .fine; bytes = o .bytes }
 
-  -- the bytes up to the sign, and those after it
+  -- the bytes up to the sign, and those from a place after the first 30 on
   front : (t : List ℕ) → length t ≡ 18 → take 10 (t ++ rest) ≡ take 10 minusZero → take 40 (showing t) ≡ head ++ take 10 minusZero
   front t h q =
-      ap (take 40) (parts t h) ∙ ap (λ (k : ℕ). take k (head ++ (t ++ rest))) (sym (ap (λ (k : ℕ). k + 10) (length-head (r .head)))) ∙ take-append-add head (t ++ rest) 10 ∙ ap (λ (l : List ℕ). head ++ l) q
+      ap (take 40) (parts t h) ∙ ap (λ (k : ℕ). take k (head ++ (t ++ rest))) (sym (ap (λ (k : ℕ). k + 10) length-first)) ∙ take-append-add head (t ++ rest) 10 ∙ ap (λ (l : List ℕ). head ++ l) q
 
   back : (t : List ℕ) → length t ≡ 18 → (k : ℕ) → drop (30 + k) (showing t) ≡ drop k (t ++ rest)
-  back t h k =
-      ap (drop (30 + k)) (parts t h) ∙ ap (λ (i : ℕ). drop (i + k) (head ++ (t ++ rest))) (sym (length-head (r .head))) ∙ drop-append-add head (t ++ rest) k
+  back t h k = ap (drop (30 + k)) (parts t h) ∙ ap (λ (i : ℕ). drop (i + k) (head ++ (t ++ rest))) (sym length-first) ∙ drop-append-add head (t ++ rest) k
 
   same-front : (w : Writing) → length (textOf w) ≡ 18 → take 10 (textOf w ++ rest) ≡ take 10 minusZero → take 40 (showing (textOf w)) ≡ take 40 (showing minusZero)
   same-front w h q = front (textOf w) h q ∙ sym (front minusZero refl refl)
@@ -124,18 +127,25 @@ module _ (s : List ℕ) (r : StaticReply) (e : read reply s ≡ gives r) (n : sa
     before = sym (take-take p 40 (showing (textOf plusZero)) h) ∙ ap (take p) (same-front plusZero refl refl) ∙ take-take p 40 shown h;
   }
 
+  at-status : getD shown 5 0 ≡ r .head .status
+  at-status = ap (λ (l : List ℕ). getD l 5 0) (parts minusZero refl)
+
+  at-letter : getD shown 29 0 ≡ letter
+  unfolding digits
+  at-letter = ap (λ (l : List ℕ). getD l 29 0) (parts minusZero refl)
+
+  shown-at-30 : slice 30 48 shown ≡ minusZero
+  shown-at-30 = ap (slice 30 48) (parts minusZero refl) ∙ N.cut-out head minusZero rest length-first refl
+
   wrong : Begun reply Whole replyOffsets shown 48 → ⊥
-  unfolding digits saysNet
   wrong b =
       let g = b .frame in
       let f = b .formed in
       let is : read reply g ≡ gives (f .of) = ap (read reply) (sym (f .bytes)) ∙ frame-back reply-sound (f .of) (f .whole) (f .fine) in
       let same : (i : ℕ) → i < 48 → getD g i 0 ≡ getD shown i 0 = λ i h. sym (getD-take 48 g i 0 h) ∙ ap (λ (l : List ℕ). getD l i 0) (b .before) ∙ getD-take 48 shown i 0 h in
-      let status : getD g 5 0 ≡ getD s 5 0 = same 5 (omega arith) ∙ ap (λ (l : List ℕ). getD l 5 0) (parts minusZero refl) ∙ sym (ap (λ (l : List ℕ). getD l 5 0) (sym (N.own s r e n .bytes)) ∙ N.at-status r (N.own s r e n .fine)) in
-      let letter : getD g 29 0 ≡ getD s 29 0 = same 29 (omega arith) ∙ ap (λ (l : List ℕ). getD l 29 0) (parts minusZero refl) ∙ sym (ap (λ (l : List ℕ). getD l 29 0) (sym (N.own s r e n .bytes)) ∙ N.at-letter r (N.own s r e n .fine)) in
-      let w = N.reads-writing g (f .of) is (rw (status, letter) n) in
-      no-minus-zero (w .0) (w .1 .0)
-      (sym (w .1 .1 .0) ∙ ap (drop 30) (b .before) ∙ ap (slice 30 48) (parts minusZero refl) ∙ N.cut-out head minusZero rest (length-head (r .head)) refl)
+      let status : isNetStatus (getD g 5 0) ≡ true = ap isNetStatus (same 5 (omega arith) ∙ at-status) ∙ N.own-status s r e net in
+      let w = N.reads-writing g (f .of) is status (ap isNetLetter (same 29 (omega arith) ∙ at-letter) ∙ of-net) in
+      no-minus-zero (w .0) (w .1 .0) (sym (w .1 .1 .0) ∙ ap (drop 30) (b .before) ∙ shown-at-30)
 
   first : {l m : List ℕ} → l ≡ m → getD l 0 0 ≡ getD m 0 0
   first q = ap (λ (l : List ℕ). getD l 0 0) q
@@ -169,8 +179,7 @@ module _ (s : List ℕ) (r : StaticReply) (e : read reply s ≡ gives r) (n : sa
   refused-40 : read reply shown ≡ refuses (spoiledAt 5 40 40)
   refused-40 =
       let names = spoiled-bytes-are-named .of-reply in
-      let o = N.own s r e n in
-      let long : length shown ≡ 51 = length-sets s 30 minusZero ∙ ap length (sym (o .bytes)) ∙ length-reply r (o .fine) in
+      let long : length shown ≡ 51 = length-sets s 29 (letter ∷ minusZero) ∙ ap length (sym (is-own .bytes)) ∙ length-reply r (is-own .fine) in
       let last : getD shown 50 0 ≡ CR = sym (getD-drop 48 shown 2 0) ∙ ap (λ (l : List ℕ). getD l 2 0) (back minusZero refl 18) in
       let f = names .given shown (begun 3 (omega arith)) long last (λ formed. wrong (record { frame = shown; formed = formed; before = refl })) in
       let q = names .once shown (f .0) (f .1 .0) 40 40 (names .named shown (f .0) (f .1 .0) (f .1 .1)) named-40 in
@@ -187,10 +196,11 @@ net-times-are-one-to-one = record {
   takes = N.takes-writing;
   refuses-minus-zero = refused-40;
   writes = λ r whole fine v is.
-      let net = N.by-value r fine v is in
-      let w = N.reads-writing (frameOf reply r) r (frame-back reply-sound r whole fine) (net .says) in
-      (net .says, (w .0, (w .1 .0, (same-value (sym (w .1 .1 .1) ∙ is), w .1 .1 .0))));
-  judges = λ r whole fine v is. N.by-value r fine v is .judged;
+      let net = N.net-bytes r fine v is in
+      let w = N.reads-writing (frameOf reply r) r (frame-back reply-sound r whole fine) (net .0) (net .1) in
+      (net .0, (net .1, (w .0, (w .1 .0, (same-value (sym (w .1 .1 .1) ∙ is), w .1 .1 .0)))));
+  judges = N.made-judged;
+  stays = writing-stays;
 }
   where
     same-value : {a b : ℤ} → Net a ≡ Net b → a ≡ b

@@ -1,19 +1,18 @@
 -- Writings of net times and their values belong together one to one. Assumes nothing.
 use Prim.Native.Nat.{ℕ, zero, suc, _+_, _*_, _/_, _%_, _≤_, _<_}
-use mathlib.Core.List.{List, _∷_, _++_, append-assoc}
+use mathlib.Core.List.{append-assoc}
 use mathlib.Core.Bool.{Bool, true, false, cond, _&&_, _||_, and-eq-true-iff}
-use mathlib.Core.Path.{_≡_, refl, sym, ap, _∙_}
+use mathlib.Core.Path.{_≡_, refl, ap}
 use native.Mathlib.Omega.{arith}
 use lib.Dec.{eqb, leb, ltb}
 use lib.IntN.{ℤ, pos, negsuc, negℤ, natAbs}
 use borrow.Author.Tests.{leb-true, le-leb, ltb-true, lt-ltb, eqb-true}
-use Rattle.digits.specs.Digits.{digits}
-use Rattle.digits.proofs.Tests.{by-test}
-use Rattle.times.specs.Clock.{clock, aDay}
+use Rattle.digits.proofs.Tests.{and-true}
+use Rattle.times.specs.Clock.{aDay}
 use Rattle.times.specs.Net.{isBelow}
 use Rattle.times.proofs.ClockLaws.{split-ticks, time-text}
 use Rattle.frames.specs.Timing.{signOf}
-use Rattle.frames.specs.NetTimes.{Writing, textOf, sizeOf, valueOf, isWriting, isValue}
+use Rattle.frames.specs.NetTimes.{Writing, textOf, sizeOf, valueOf, fitsDigits, isWriting, wasWriting, isValue}
 use Rattle.frames.specs.inside.Timing.{netText}
 use Rattle.frames.proofs.RuleLaws.{or-cases}
 
@@ -66,7 +65,7 @@ record IsWriting (w : Writing) : Type 0 where
 writing-is : (w : Writing) → isWriting w ≡ true → IsWriting w
 unfolding isWriting
 writing-is w e =
-    let a = and-eq-true-iff _ (eqb (w .sign) 43 || (eqb (w .sign) 45 && ltb 0 (sizeOf w))) .0 e in
+    let a = and-eq-true-iff (fitsDigits w) (eqb (w .sign) 43 || (eqb (w .sign) 45 && ltb 0 (sizeOf w))) .0 e in
     let b = and-eq-true-iff _ (leb (w .days) 9999999) .0 (a .0) in
     let c = and-eq-true-iff _ (leb (w .fraction) 9999) .0 (b .0) in
     let d = and-eq-true-iff _ (leb (w .seconds) 59) .0 (c .0) in
@@ -128,17 +127,16 @@ writing-value w e =
     let d = g .days in
     le-leb (natAbs (valueOf w)) 8639999999999999 (omega (arith, value-size w))
 
--- with a plus, or with at least one day, every time of day is good: so what was good when the minus covered only the days is good still
-pub writing-before : (w : Writing) → w .hours ≤ 23 → w .minutes ≤ 59 → w .seconds ≤ 59 → w .fraction ≤ 9999 → w .days ≤ 9999999
-    → (eqb (w .sign) 43 || (eqb (w .sign) 45 && ltb 0 (w .days))) ≡ true → isWriting w ≡ true
-unfolding isWriting
-writing-before w h m s f d e =
-    rw (le-leb (w .hours) 23 h, le-leb (w .minutes) 59 m, le-leb (w .seconds) 59 s, le-leb (w .fraction) 9999 f, le-leb (w .days) 9999999 d)
-    (by-test (ltb 0 (w .days))
-    (λ t. let k = ltb-true 0 (w .days) t in rw (lt-ltb 0 (sizeOf w) (omega arith)) (rw t at e))
-    (λ t. only-plus (eqb (w .sign) 43) (eqb (w .sign) 45) (ltb 0 (sizeOf w)) (rw t at e)))
-  where
-    only-plus : (p m z : Bool) → (p || (m && false)) ≡ true → (p || (m && z)) ≡ true
-    only-plus true m z q = refl
-    only-plus false true z q = absurd (let z : _≡_ {A = ℕ} 0 1 = cc in omega arith)
-    only-plus false false z q = absurd (let z : _≡_ {A = ℕ} 0 1 = cc in omega arith)
+-- a good writing of the rule before is good still
+pub writing-stays : (w : Writing) → wasWriting w ≡ true → isWriting w ≡ true
+unfolding wasWriting isWriting
+writing-stays w e =
+    let a = and-eq-true-iff (fitsDigits w) (eqb (w .sign) 43 || (eqb (w .sign) 45 && ltb 0 (w .days))) .0 e in
+    and-true (a .0)
+    (or-cases (eqb (w .sign) 43) (eqb (w .sign) 45 && ltb 0 (w .days)) ((eqb (w .sign) 43 || (eqb (w .sign) 45 && ltb 0 (sizeOf w))) ≡ true)
+    (λ p. rw p)
+    (λ p.
+    let q = and-eq-true-iff (eqb (w .sign) 45) (ltb 0 (w .days)) .0 p in
+    let k = ltb-true 0 (w .days) (q .1) in
+    rw (eqb-true (w .sign) 45 (q .0), lt-ltb 0 (sizeOf w) (omega arith)))
+    (a .1))

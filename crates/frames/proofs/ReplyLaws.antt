@@ -1,10 +1,10 @@
 -- The static reply: its layout is sound, and what the code's steps compute. Assumes nothing.
-use Prim.Native.Nat.{ℕ, _+_, _≤_}
+use Prim.Native.Nat.{ℕ, _≤_}
 use mathlib.Core.List.{List, [], _∷_, _++_, append-assoc}
 use mathlib.Core.Bool.{Bool, true, false, cond, _||_}
 use mathlib.Core.Path.{_≡_, refl, sym, ap, _∙_}
 use native.Mathlib.Omega.{arith}
-use lib.Dec.{T, eqb, ltb, ltb→lt}
+use lib.Dec.{eqb}
 use borrow.Author.Tests.{eq-eqb, ne-eqb}
 use lib.ListN.{length, getD, set, length-append}
 use lib.Seq.{sets}
@@ -151,28 +151,20 @@ times-wrong r =
 pub reply-wrong-is : (r : StaticReply) → wrongUnless (isAddress (r .head .address)) 2 (headWrong (r .head) (timingWrong (kindIn r) (r .timing) (r .«raw_time») (r .«raw_date») (r .spare))) ≡ wrongIn reply r
 reply-wrong-is r = ap (λ w. wrongUnless (isAddress (r .head .address)) 2 (headWrong (r .head) w)) (timing-wrong-is (kindIn r) (r .timing) (r .«raw_time») (r .«raw_date») (r .spare)) ∙ times-wrong r
 
-last-none : (t : Bool) (at rest : ℕ) → wrongUnless t at rest ≡ 0 → T (ltb 0 at) → rest ≡ 0
-last-none t at rest e h = unless-none t at rest (ltb→lt 0 at h) e .1
+-- the same head with another letter
+abbrev pub lettered : ReplyHead → ℕ → ReplyHead
+lettered h letter =
+    record { address = h .address; program = h .program; mode = h .mode; status = h .status; requester = h .requester; number = h .number; bib = h .bib; group = h .group; run = h .run; physical = h .physical; channel = h .channel; information = letter }
 
-pub head-none : (h : ReplyHead) (rest : ℕ) → headWrong h rest ≡ 0 → rest ≡ 0
-unfolding headWrong
-head-none h rest e =
-    last-none (isLetter (h .information)) _ _
-    (last-none (isReplyChannel (h .channel)) _ _
-    (last-none (upTo 999 (h .physical)) _ _
-    (last-none (between (leastRun (h .status)) 250 (h .run)) _ _
-    (last-none (upTo 199 (h .group)) _ _
-    (last-none (upTo 59999 (h .bib)) _ _
-    (last-none (upTo 99999 (h .number)) _ _
-    (last-none (isRequester (h .requester)) _ _
-    (last-none (isStatus (h .status)) _ _
-    (last-none (isRaw (h .mode)) _ _
-    (last-none (isRaw (h .program)) _ _ e tt) tt) tt) tt) tt) tt) tt) tt) tt) tt) tt
+-- a head and the rest that are not wrong; with any good letter the head leaves what the rest says
+pub record HeadFine (h : ReplyHead) (rest : ℕ) : Type 0 where
+  pub none : rest ≡ 0
+  pub status : isStatus (h .status) ≡ true
+  pub passes : (letter : ℕ) → isLetter letter ≡ true → (other : ℕ) → headWrong (lettered h letter) other ≡ other
 
--- a head that is not wrong leaves what the rest says
-pub head-passes : (h : ReplyHead) → headWrong h 0 ≡ 0 → (rest : ℕ) → headWrong h rest ≡ rest
+pub head-fine : (h : ReplyHead) (rest : ℕ) → headWrong h rest ≡ 0 → HeadFine h rest
 unfolding headWrong
-head-passes h e rest =
+head-fine h rest e =
     let program = unless-none (isRaw (h .program)) 3 _ (omega arith) e in
     let mode = unless-none (isRaw (h .mode)) 4 _ (omega arith) (program .1) in
     let status = unless-none (isStatus (h .status)) 5 _ (omega arith) (mode .1) in
@@ -184,15 +176,15 @@ head-passes h e rest =
     let physical = unless-none (upTo 999 (h .physical)) 23 _ (omega arith) (run .1) in
     let channel = unless-none (isReplyChannel (h .channel)) 26 _ (omega arith) (physical .1) in
     let letter = unless-none (isLetter (h .information)) 29 _ (omega arith) (channel .1) in
-    rw (program .0, mode .0, status .0, requester .0, number .0, bib .0, group .0, run .0, physical .0, channel .0, letter .0)
-
-pub head-status : (h : ReplyHead) (rest : ℕ) → headWrong h rest ≡ 0 → isStatus (h .status) ≡ true
-unfolding headWrong
-head-status h rest e = unless-none (isStatus (h .status)) 5 _ (omega arith) (last-none (isRaw (h .mode)) _ _ (last-none (isRaw (h .program)) _ _ e tt) tt) .0
+    record {
+      none = letter .1;
+      status = status .0;
+      passes = λ letter good other. rw (program .0, mode .0, status .0, requester .0, number .0, bib .0, group .0, run .0, physical .0, channel .0, good);
+    }
 
 -- if a record is well formed, so are its time and date
 pub times-fine : (r : StaticReply) → wrongIn reply r ≡ 0 → recordWrong (timed (kindIn r)) (tailOf r .times) ≡ 0
-times-fine r e = head-none (r .head) _ (last-none (isAddress (r .head .address)) 2 _ (times-wrong r ∙ e) tt)
+times-fine r e = head-fine (r .head) _ (unless-none (isAddress (r .head .address)) 2 _ (omega arith) (times-wrong r ∙ e) .1) .none
 
 -- ---- what the code reads of a frame
 

@@ -123,7 +123,7 @@ clock-of (Clock ticks d m y) ticks′ day e a b = rw (← a, ← b)
 clock-of (Net value) ticks day e a b = absurd (let z : _≡_ {A = ℕ} 0 1 = cc in omega arith)
 clock-of Raw ticks day e a b = absurd (let z : _≡_ {A = ℕ} 0 1 = cc in omega arith)
 
-sign-back : (m : Bool) → eqb (signOf m) 45 ≡ m
+pub sign-back : (m : Bool) → eqb (signOf m) 45 ≡ m
 sign-back true = refl
 sign-back false = refl
 

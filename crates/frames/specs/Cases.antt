@@ -2,6 +2,7 @@
 use Prim.Native.Nat.{ℕ, zero, suc}
 use Prim.Native.String.{String}
 use mathlib.Core.List.{List, [], _∷_, _++_}
+use mathlib.Core.Bool.{Bool, true, false}
 use mathlib.Core.Path.{_≡_}
 use lib.IntN.{pos, negsuc}
 use lib.ListN.{set}
@@ -26,6 +27,11 @@ use Rattle.frames.specs.Dynamic.{dynamic}
 -- a frame is accepted
 abbrev pub Good : {R : Type 0} → Kind R → List ℕ → Type 0
 Good {R} k s = (r : R) × (read k s ≡ gives r)
+
+-- whether an answer is a record
+abbrev pub isGood : {R : Type 0} → Told R → Bool
+isGood (gives r) = true
+isGood (refuses f) = false
 
 -- a frame is refused with FIELD, which is 5, at this offset, and the spoiled byte is there too
 abbrev pub FieldAt : {R : Type 0} → Kind R → List ℕ → ℕ → Type 0

@@ -1,15 +1,17 @@
 -- Worked cases of the dynamic request: one written out in full, each byte after the address damaged, both sides of each rule, and each part of its record out of range.
 use Prim.Native.Nat.{ℕ}
 use Prim.Native.String.{String}
-use mathlib.Core.List.{List, [], _∷_, _++_}
+use mathlib.Core.List.{List, [], _∷_, _++_, map}
+use mathlib.Core.Bool.{true, false}
 use mathlib.Core.Path.{_≡_}
+use lib.ListN.{replicate}
 use lib.Seq.{sets}
 use Rattle.digits.specs.Text.{codes}
 use Rattle.digits.specs.Told.{gives}
 use Rattle.frames.specs.declared.dynamic.DynamicRequest.{DynamicRequest}
 use Rattle.frames.specs.Kind.{read, wrongIn, frameOf}
 use Rattle.frames.specs.Dynamic.{dynamic}
-use Rattle.frames.specs.Cases.{Good, FieldAt, damaged, fieldsAt}
+use Rattle.frames.specs.Cases.{isGood, Good, FieldAt, damaged, fieldsAt}
 
 -- a good dynamic request in which no two parts are alike; its time is 12:34:56.7890
 abbrev pub good : List ℕ
@@ -31,6 +33,9 @@ pub record DynamicWorked : Type 0 where
   -- the minus of a Taux of zero is kept when read and when written
   pub minus-zero : read dynamic (but 27 "100000000000") ≡ gives (orders 57 67 98 34567 178 209 45678 193 214 1 0 0 8642 66)
   pub minus-zero-written : frameOf dynamic (orders 57 67 98 34567 178 209 45678 193 214 1 0 0 8642 66) ≡ but 27 "100000000000"
+  -- minus zero with each order, with the shortest period and with none
+  pub minus-zero-orders : map (λ order. isGood (read dynamic (sets (but 27 "10000000000000001") 4 (codes order)))) ("A" ∷ "B" ∷ "a" ∷ "b" ∷ "T" ∷ "t" ∷ []) ≡ replicate 6 true
+  pub minus-zero-no-period : map (λ order. isGood (read dynamic (sets (but 27 "10000000000000000") 4 (codes order)))) ("A" ∷ "B" ∷ "a" ∷ "b" ∷ "T" ∷ "t" ∷ []) ≡ false ∷ false ∷ true ∷ true ∷ true ∷ true ∷ []
   -- each byte of the fields damaged in turn: requester, order, bib, channel, run; stop bib, channel and run; sign, time, days; period, output
   pub offsets : damaged dynamic good 3 42 ≡ fieldsAt 3 (3 ∷ 4 ∷ 5 ∷ 5 ∷ 5 ∷ 5 ∷ 5 ∷ 10 ∷ 10 ∷ 10 ∷ 13 ∷ 13 ∷ 13
       ∷ 16 ∷ 16 ∷ 16 ∷ 16 ∷ 16 ∷ 21 ∷ 21 ∷ 21 ∷ 24 ∷ 24 ∷ 24 ∷ 27 ∷ 28 ∷ 28 ∷ 28 ∷ 28 ∷ 28 ∷ 28 ∷ 28 ∷ 28 ∷ 28 ∷ 28 ∷ 38 ∷ 39 ∷ 39 ∷ 39 ∷ 39 ∷ 39 ∷ 44 ∷ [])

@@ -2,19 +2,21 @@
 use Prim.Native.Nat.{ℕ}
 use Prim.Native.String.{String}
 use mathlib.Core.List.{List, [], _∷_, map}
+use mathlib.Core.Bool.{true}
 use mathlib.Core.Path.{_≡_}
 use lib.IntN.{ℤ, pos, negsuc}
-use lib.ListN.{replicate}
+use lib.ListN.{set, replicate}
 use lib.Seq.{sets}
 use Rattle.digits.specs.Text.{codes}
 use Rattle.digits.specs.Refusals.{placed, spoiledAt}
-use Rattle.digits.specs.Told.{Told, gives, refuses}
-use Rattle.frames.specs.declared.timing.Timing.the-variants.{Net}
+use Rattle.digits.specs.Told.{gives, refuses}
+use Rattle.frames.specs.declared.timing.Timing.the-variants.{Net, Raw}
 use Rattle.frames.specs.declared.reply.StaticReply.{StaticReply}
 use Rattle.frames.specs.Kind.{read, wrongIn, frameOf, writeTried}
 use Rattle.frames.specs.Reply.{reply}
-use Rattle.frames.specs.Cases.{Good, FieldAt}
-use Rattle.frames.specs.ReplyCases.{but, tails}
+use Rattle.frames.specs.Cases.{isGood, FieldAt}
+use Rattle.frames.specs.RuleCases.{taken}
+use Rattle.frames.specs.ReplyCases.{but, tells, tails}
 
 -- time and date of net replies, and their values; `negsuc n` is -1 - n
 abbrev pub texts : List String
@@ -37,30 +39,34 @@ tooFar = pos 8640000000000000 ∷ negsuc 8639999999999999 ∷ pos 92233720368547
 abbrev pub valued : ℤ → StaticReply
 valued v = tails 50 (Net v) (replicate 10 0) (replicate 8 0) (117 ∷ 118 ∷ [])
 
--- the good net reply with zero time, a minus and zero days, or with one tick, and this text at a place
-abbrev pub minusZero : ℕ → String → List ℕ
-minusZero at text = sets (but 30 "0000000000-0000000") at (codes text)
+-- the good net reply with this status, letter, time and date
+abbrev pub shown : String → String → String → List ℕ
+shown status letter text = sets (sets (but 5 status) 29 (codes letter)) 30 (codes text)
 
-abbrev pub minusTick : ℕ → String → List ℕ
-minusTick at text = sets (but 30 "0000000001-0000000") at (codes text)
+-- the same with each status and letter of a net reply
+abbrev pub eachNet : String → List (List ℕ)
+eachNet text = shown "R" "1" text ∷ shown "R" "2" text ∷ shown "R" "3" text ∷ shown "E" "1" text ∷ shown "E" "2" text ∷ shown "E" "3" text ∷ []
+
+-- the letters with which the good net reply is accepted if it has this status, time and date
+abbrev pub lettersWith : String → String → List ℕ
+lettersWith status text = taken (λ b. isGood (read reply (set (shown status "1" text) 29 b))) 256
 
 pub record NetWorked : Type 0 where
   pub read-as : map (λ t. read reply (but 30 t)) texts ≡ map (λ v. gives (valued v)) values
   pub written-as : map (λ v. frameOf reply (valued v)) values ≡ map (λ t. but 30 t) texts
   pub well-formed : map (λ v. writeTried (wrongIn reply (valued v)) 51 51) values ≡ replicate 15 (gives tt)
   pub too-far : map (λ v. writeTried (wrongIn reply (valued v)) 51 51) tooFar ≡ replicate 4 (refuses (placed 6 40))
-  -- minus zero with each letter and status of a net reply
-  pub zero-1 : FieldAt reply (minusZero 29 "1") 40
-  pub zero-2 : FieldAt reply (minusZero 29 "2") 40
-  pub zero-3 : FieldAt reply (minusZero 29 "3") 40
-  pub zero-R : FieldAt reply (minusZero 5 "R") 40
-  pub zero-E : FieldAt reply (minusZero 5 "E") 40
-  -- one tick below zero
-  pub tick-1 : Good reply (minusTick 29 "1")
-  pub tick-2 : Good reply (minusTick 29 "2")
-  pub tick-3 : Good reply (minusTick 29 "3")
-  pub tick-R : Good reply (minusTick 5 "R")
-  -- raw bytes are not looked at; a date of the clock has no sign
-  pub zero-Z : Good reply (minusZero 5 "Z")
-  pub zero-raw : Good reply (minusZero 29 "Q")
-  pub zero-clock : FieldAt reply (minusZero 29 "K") 40
+  -- minus zero, and one tick below zero
+  pub minus-zero : map (read reply) (eachNet "0000000000-0000000") ≡ replicate 6 (refuses (spoiledAt 5 40 40))
+  pub minus-tick : map (λ s. isGood (read reply s)) (eachNet "0000000001-0000000") ≡ replicate 6 true
+  -- in a raw date minus zero is text; a date of the clock has no sign
+  pub zero-Z : read reply (shown "Z" "2" "0000000000-0000000") ≡ gives (tells 53 80 109 90 68 12345 23456 78 209 345 167 50 Raw (codes "0000000000") (codes "-0000000") (117 ∷ 118 ∷ []))
+  pub zero-raw : read reply (shown "E" "Q" "0000000000-0000000") ≡ gives (tails 81 Raw (codes "0000000000") (codes "-0000000") (117 ∷ 118 ∷ []))
+  pub zero-clock : FieldAt reply (shown "E" "K" "0000000000-0000000") 40
+  -- with each status, the letters that go with one second below zero, with minus zero, and with a time of day and a date
+  pub letters-below : map (λ status. lettersWith status "0000010000-0000000") ("R" ∷ "E" ∷ "Z" ∷ [])
+      ≡ codes "123456789AGHIJPQRTWXghijkpuw" ∷ codes "123456789AGHIJPQRTWXghijkpuw" ∷ codes "0123456789AGHIJKPQRSTWXaghijkpsuw" ∷ []
+  pub letters-zero : map (λ status. lettersWith status "0000000000-0000000") ("R" ∷ "E" ∷ "Z" ∷ [])
+      ≡ codes "456789AGHIJPQRTWXghijkpuw" ∷ codes "456789AGHIJPQRTWXghijkpuw" ∷ codes "0123456789AGHIJKPQRSTWXaghijkpsuw" ∷ []
+  pub letters-dated : map (λ status. lettersWith status "000001000029022024") ("R" ∷ "E" ∷ "Z" ∷ [])
+      ≡ codes "0456789AGHIJKPQRSTWXaghijkpsuw" ∷ codes "0456789AGHIJKPQRSTWXaghijkpsuw" ∷ codes "0123456789AGHIJKPQRSTWXaghijkpsuw" ∷ []

@@ -5,12 +5,12 @@ use Prim.Native.Nat.{ℕ, zero, suc, _+_, _-_, _*_, _/_, _%_, _≤_, _<_}
 use native.Mathlib.Omega.{arith}
 use lib.Dec.{eqb, leb}
 use lib.IntN.{ℤ, pos, negsuc, negℤ, natAbs, subℕ}
-use borrow.Author.Tests.{leb-true, le-leb, lt-leb, eq-eqb, ne-eqb, not-true}
+use borrow.Author.Tests.{leb-true, le-leb, lt-leb, ne-eqb, not-true}
 use Rattle.digits.proofs.Tests.{by-less}
 use Rattle.times.specs.declared.net.NetParts.{NetParts}
 use Rattle.times.specs.declared.net.NetValue.the-variants.{Is, Wrong as no-value}
 use Rattle.times.specs.Clock.{aDay, lastTick}
-use Rattle.times.specs.Net.{signed, isBelow, isNet, netSum, netValue, netParts, NetInverse, isNetValue, NetRange}
+use Rattle.times.specs.Net.{isBelow, isNet, netSum, netValue, netParts, NetInverse, NetRange, parts, NetWorked}
 use Rattle.times.proofs.SignedLaws.{sub-none, neg-sub}
 
 -- ---- a value is the sum of its parts
@@ -20,9 +20,6 @@ sum-of-parts (pos n) = ap pos (omega arith)
 sum-of-parts (negsuc n) = let e : suc n / aDay * aDay + suc n % aDay ≡ suc n = omega arith in ap (λ (m : ℕ). negℤ (pos m)) e
 
 -- ---- and the parts of a sum are those that were added, if a minus is not in front of zero
-
-abbrev parts : Bool → ℕ → ℕ → NetParts
-parts m d t = record { minus = m; days = d; time = t }
 
 parts-of-sum : (m : Bool) (d t : ℕ) → t < aDay → (m ≡ true → 0 < d * aDay + t) → netParts (netSum (parts m d t)) ≡ parts m d t
 parts-of-sum true d t h q =
@@ -95,3 +92,17 @@ net-range v =
         by-less (suc n) aDay
         (λ h. rw (ne-eqb (suc n % aDay) 0 (λ z. absurd (omega (arith, z)))) (and-none (eqb (suc n / aDay) 0)))
         (λ h. rw (ne-eqb (suc n / aDay) 0 (λ z. absurd (omega (arith, z)))) refl)
+
+pub net-worked : NetWorked
+unfolding netValue isNet
+net-worked = record {
+  plus = refl;
+  minus-second = refl;
+  minus-day = refl;
+  plus-zero = refl;
+  minus-zero = refl;
+  of-plus = refl;
+  of-minus-second = refl;
+  of-minus-day = refl;
+  of-zero = refl;
+}

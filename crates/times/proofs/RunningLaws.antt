@@ -37,4 +37,4 @@ module _ (o : RunningOf) where
 
 pub running-worked : RunningWorked
 unfolding runningTime inRange
-running-worked = record { minus = refl; minus-zero = refl; tnow = refl; tev = refl; tev-of-none = refl; sign = refl; days = refl; time = refl }
+running-worked = record { minus = refl; minus-no-days = refl; minus-of-none = refl; plus-of-none = refl; minus-zero = refl; tnow = refl; tev = refl; tev-of-none = refl; sign = refl; days = refl; time = refl }

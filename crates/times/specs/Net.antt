@@ -31,7 +31,7 @@ netSum p = signed (p .minus) (p .days * aDay + p .time)
 unfoldable pub netValue : NetParts → NetValue
 netValue p = cond (isNet p) (Is (netSum p)) no-value
 
--- the parts of a value: its sign, and of what is left without the sign the whole days and the time
+-- the parts of a value: its sign, and the whole days and the time of the value without its sign
 abbrev pub netParts : ℤ → NetParts
 netParts v = record { minus = isBelow v; days = natAbs v / aDay; time = natAbs v % aDay }
 
@@ -46,3 +46,18 @@ isNetValue v = leb (natAbs v) 8639999999999999
 
 abbrev pub NetRange : Type 0
 NetRange = (v : ℤ) → isNet (netParts v) ≡ isNetValue v
+
+-- worked cases: parts from sign, days and time; what a plus and a minus are worth, and zero
+abbrev pub parts : Bool → ℕ → ℕ → NetParts
+parts minus days time = record { minus = minus; days = days; time = time }
+
+pub record NetWorked : Type 0 where
+  pub plus : netValue (parts false 0 725400) ≡ Is (pos 725400)
+  pub minus-second : netValue (parts true 0 10000) ≡ Is (negsuc 9999)
+  pub minus-day : netValue (parts true 1 863990000) ≡ Is (negsuc 1727989999)
+  pub plus-zero : netValue (parts false 0 0) ≡ Is (pos 0)
+  pub minus-zero : netValue (parts true 0 0) ≡ no-value
+  pub of-plus : netParts (pos 864000001) ≡ parts false 1 1
+  pub of-minus-second : netParts (negsuc 9999) ≡ parts true 0 10000
+  pub of-minus-day : netParts (negsuc 1727989999) ≡ parts true 1 863990000
+  pub of-zero : netParts (pos 0) ≡ parts false 0 0
