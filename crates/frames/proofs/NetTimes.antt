@@ -5,8 +5,8 @@ use mathlib.Core.Bool.{true}
 use mathlib.Core.Path.{_≡_, refl, sym, ap, ap₂, _∙_}
 use native.Mathlib.Omega.{arith}
 use lib.IntN.{ℤ, pos, negsuc, natAbs}
-use lib.ListN.{length, getD, take, drop}
-use lib.Seq.{sets, slice, length-sets, take-take, take-append-add, drop-append-add, getD-take, getD-drop}
+use lib.ListN.{length, getD, set, take, drop, length-set, take-append-drop}
+use lib.Seq.{sets, slice, length-sets, length-slice, sets-eq, set-set, set-getD, getD-set-other, take-take, take-append-add, drop-append-add, getD-take, getD-drop}
 use borrow.Author.Tests.{leb-true, le-leb}
 use Rattle.digits.specs.declared.Number.the-variants.{Is}
 use Rattle.digits.specs.Text.{codes, oneOf}
@@ -25,7 +25,7 @@ use Rattle.frames.specs.Timing.{signOf}
 use Rattle.frames.specs.Reply.{reply, Whole}
 use Rattle.frames.specs.Places.{replyOffsets}
 use Rattle.frames.specs.Spoiled.{WellFormed, Begun, Occurs, own, Named}
-use Rattle.frames.specs.NetTimes.{Writing, textOf, valueOf, isWriting, isNetStatus, isNetLetter, netBy, NetTimesAreOneToOne}
+use Rattle.frames.specs.NetTimes.{Writing, textOf, valueOf, isWriting, wasWriting, isNetStatus, isNetLetter, netBy, NetTimesAreOneToOne}
 use Rattle.frames.specs.inside.Reply.{headText}
 use Rattle.frames.proofs.KindLaws.{Own, frame-back, frame-again}
 use Rattle.frames.proofs.ReplyLaws.{reply-sound, lettered, length-reply, length-head}
@@ -185,6 +185,31 @@ module _ (s : List ℕ) (r : StaticReply) (e : read reply s ≡ gives r) (net : 
       let q = names .once shown (f .0) (f .1 .0) 40 40 (names .named shown (f .0) (f .1 .0) (f .1 .1)) named-40 in
       f .1 .1 ∙ ap₂ (λ (a b : ℕ). refuses (spoiledAt 5 a b)) (q .0) (q .1)
 
+-- ---- replies of the rule before
+
+-- with any letter, and then with its own letter, time and date again, a reply is itself
+shows-own : (s : List ℕ) (b : ℕ) → 48 ≤ length s → sets (set s 29 b) 29 (getD s 29 0 ∷ slice 30 48 s) ≡ s
+shows-own s b h =
+    let own = slice 30 48 s in
+    let long : length own ≡ 18 = length-slice 30 48 s h in
+    ap (λ (l : List ℕ). sets l 30 own) (set-set s 29 b (getD s 29 0) ∙ set-getD s 29 0)
+    ∙ sets-eq own s 30 (omega arith)
+    ∙ ap (λ (n : ℕ). (take 30 s ++ own) ++ drop (30 + n) s) long
+    ∙ ap (λ (l : List ℕ). (l ++ own) ++ drop 48 s) (sym (take-take 30 48 s (omega arith)))
+    ∙ ap (λ (l : List ℕ). l ++ drop 48 s) (take-append-drop 30 (take 48 s))
+    ∙ take-append-drop 48 s
+
+still-accepted : (s : List ℕ) (r : StaticReply) → read reply (set s 29 80) ≡ gives r → isNetStatus (getD s 5 0) ≡ true → isNetLetter (getD s 29 0) ≡ true
+    → (w : Writing) → wasWriting w ≡ true → slice 30 48 s ≡ textOf w → read reply s ≡ gives (netBy r (getD s 29 0) (valueOf w))
+still-accepted s r e net of-net w was shown =
+    let o = N.own (set s 29 80) r e status in
+    let long : length s ≡ 51 = sym (length-set s 29 80) ∙ ap length (sym (o .bytes)) ∙ length-reply r (o .fine) in
+    ap (read reply) (sym (shows-own s 80 (omega arith)) ∙ ap (λ (t : List ℕ). sets (set s 29 80) 29 (getD s 29 0 ∷ t)) shown)
+    ∙ N.takes-writing (set s 29 80) r e status (getD s 29 0) of-net w (writing-stays w was)
+  where
+    status : isNetStatus (getD (set s 29 80) 5 0) ≡ true
+    status = ap isNetStatus (getD-set-other s 29 5 80 0 (λ z. absurd (omega (arith, z)))) ∙ net
+
 -- ---- all of it
 
 pub net-times-are-one-to-one : NetTimesAreOneToOne
@@ -201,6 +226,7 @@ net-times-are-one-to-one = record {
       (net .0, (net .1, (w .0, (w .1 .0, (same-value (sym (w .1 .1 .1) ∙ is), w .1 .1 .0)))));
   judges = N.made-judged;
   stays = writing-stays;
+  stays-accepted = still-accepted;
 }
   where
     same-value : {a b : ℤ} → Net a ≡ Net b → a ≡ b

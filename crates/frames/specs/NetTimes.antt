@@ -5,7 +5,7 @@ use mathlib.Core.Bool.{Bool, true, cond, _&&_, _||_}
 use mathlib.Core.Path.{_≡_}
 use lib.Dec.{eqb, leb, ltb}
 use lib.IntN.{ℤ, pos, negℤ, natAbs}
-use lib.ListN.{getD, replicate}
+use lib.ListN.{getD, set, replicate}
 use lib.Seq.{sets, slice}
 use Rattle.digits.specs.Text.{codes, oneOf}
 use Rattle.digits.specs.Digits.{digits}
@@ -63,7 +63,13 @@ isNetLetter = oneOf (codes "123")
 -- the same record as a net reply with this letter and value
 abbrev pub netBy : StaticReply → ℕ → ℤ → StaticReply
 netBy r letter v =
-    record { head = record { address = r .head .address; program = r .head .program; mode = r .head .mode; status = r .head .status; requester = r .head .requester; number = r .head .number; bib = r .head .bib; group = r .head .group; run = r .head .run; physical = r .head .physical; channel = r .head .channel; information = letter }; timing = Net v; «raw_time» = replicate 10 0; «raw_date» = replicate 8 0; spare = r .spare }
+    record {
+      head = record { address = r .head .address; program = r .head .program; mode = r .head .mode; status = r .head .status; requester = r .head .requester; number = r .head .number; bib = r .head .bib; group = r .head .group; run = r .head .run; physical = r .head .physical; channel = r .head .channel; information = letter };
+      timing = Net v;
+      «raw_time» = replicate 10 0;
+      «raw_date» = replicate 8 0;
+      spare = r .spare;
+    }
 
 pub record NetTimesAreOneToOne : Type 0 where
   -- writings and values: each writing has a value of this range, each value of this range has a writing, and no two writings have the same value
@@ -88,3 +94,6 @@ pub record NetTimesAreOneToOne : Type 0 where
       → (v : ℤ) → wrongIn reply (netBy r letter v) ≡ cond (isValue v) 0 40
   -- every good writing of the rule before is good still
   pub stays : (w : Writing) → wasWriting w ≡ true → isWriting w ≡ true
+  -- so every net reply of the rule before is accepted still: one that shows a good writing of that rule, and is accepted with the letter P (80), by which time and date are raw
+  pub stays-accepted : (s : List ℕ) (r : StaticReply) → read reply (set s 29 80) ≡ gives r → isNetStatus (getD s 5 0) ≡ true → isNetLetter (getD s 29 0) ≡ true
+      → (w : Writing) → wasWriting w ≡ true → slice 30 48 s ≡ textOf w → read reply s ≡ gives (netBy r (getD s 29 0) (valueOf w))
