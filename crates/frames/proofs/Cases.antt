@@ -289,8 +289,8 @@ net-worked = record {
   zero-Z = refl;
   zero-raw = refl;
   zero-clock = refl;
-  letters-below = refl;
   letters-zero = refl;
+  letters-below = refl;
   letters-dated = refl;
 }
 

@@ -2,7 +2,7 @@
 use Prim.Native.Nat.{ℕ}
 use Prim.Native.String.{String}
 use mathlib.Core.List.{List, [], _∷_, map}
-use mathlib.Core.Bool.{true}
+use mathlib.Core.Bool.{Bool, true, cond}
 use mathlib.Core.Path.{_≡_}
 use lib.IntN.{ℤ, pos, negsuc}
 use lib.ListN.{set, replicate}
@@ -15,7 +15,6 @@ use Rattle.frames.specs.declared.reply.StaticReply.{StaticReply}
 use Rattle.frames.specs.Kind.{read, wrongIn, frameOf, writeTried}
 use Rattle.frames.specs.Reply.{reply}
 use Rattle.frames.specs.Cases.{isGood, FieldAt}
-use Rattle.frames.specs.RuleCases.{taken}
 use Rattle.frames.specs.ReplyCases.{but, tells, tails}
 
 -- time and date of net replies, and their values; `negsuc n` is -1 - n
@@ -47,9 +46,14 @@ shown status letter text = sets (sets (but 5 status) 29 (codes letter)) 30 (code
 abbrev pub eachNet : String → List (List ℕ)
 eachNet text = shown "R" "1" text ∷ shown "R" "2" text ∷ shown "R" "3" text ∷ shown "E" "1" text ∷ shown "E" "2" text ∷ shown "E" "3" text ∷ []
 
--- the letters with which the good net reply is accepted if it has this status, time and date
-abbrev pub lettersWith : String → String → List ℕ
-lettersWith status text = taken (λ b. isGood (read reply (set (shown status "1" text) 29 b))) 256
+-- the numbers of a list that a rule takes
+abbrev pub among : (ℕ → Bool) → List ℕ → List ℕ
+among rule [] = []
+among rule (b ∷ l) = cond (rule b) (b ∷ among rule l) (among rule l)
+
+-- those of these letters with which the good net reply is accepted if it has this status, time and date
+abbrev pub lettersWith : String → String → String → List ℕ
+lettersWith letters text status = among (λ b. isGood (read reply (set (shown status "1" text) 29 b))) (codes letters)
 
 pub record NetWorked : Type 0 where
   pub read-as : map (λ t. read reply (but 30 t)) texts ≡ map (λ v. gives (valued v)) values
@@ -63,10 +67,8 @@ pub record NetWorked : Type 0 where
   pub zero-Z : read reply (shown "Z" "2" "0000000000-0000000") ≡ gives (tells 53 80 109 90 68 12345 23456 78 209 345 167 50 Raw (codes "0000000000") (codes "-0000000") (117 ∷ 118 ∷ []))
   pub zero-raw : read reply (shown "E" "Q" "0000000000-0000000") ≡ gives (tails 81 Raw (codes "0000000000") (codes "-0000000") (117 ∷ 118 ∷ []))
   pub zero-clock : FieldAt reply (shown "E" "K" "0000000000-0000000") 40
-  -- with each status, the letters that go with one second below zero, with minus zero, and with a time of day and a date
-  pub letters-below : map (λ status. lettersWith status "0000010000-0000000") ("R" ∷ "E" ∷ "Z" ∷ [])
-      ≡ codes "123456789AGHIJPQRTWXghijkpuw" ∷ codes "123456789AGHIJPQRTWXghijkpuw" ∷ codes "0123456789AGHIJKPQRSTWXaghijkpsuw" ∷ []
-  pub letters-zero : map (λ status. lettersWith status "0000000000-0000000") ("R" ∷ "E" ∷ "Z" ∷ [])
+  -- of the 41 letters of a request, those that go with minus zero, for each status; of the letters of clock and net, those that go with one second below zero, and with a date
+  pub letters-zero : map (lettersWith "*0123456789AGHIJKLPQRSTWXabcdghijklpqstuw" "0000000000-0000000") ("R" ∷ "E" ∷ "Z" ∷ [])
       ≡ codes "456789AGHIJPQRTWXghijkpuw" ∷ codes "456789AGHIJPQRTWXghijkpuw" ∷ codes "0123456789AGHIJKPQRSTWXaghijkpsuw" ∷ []
-  pub letters-dated : map (λ status. lettersWith status "000001000029022024") ("R" ∷ "E" ∷ "Z" ∷ [])
-      ≡ codes "0456789AGHIJKPQRSTWXaghijkpsuw" ∷ codes "0456789AGHIJKPQRSTWXaghijkpsuw" ∷ codes "0123456789AGHIJKPQRSTWXaghijkpsuw" ∷ []
+  pub letters-below : map (lettersWith "0123KSas" "0000010000-0000000") ("R" ∷ "E" ∷ "Z" ∷ []) ≡ codes "123" ∷ codes "123" ∷ codes "0123KSas" ∷ []
+  pub letters-dated : map (lettersWith "0123KSas" "000001000029022024") ("R" ∷ "E" ∷ "Z" ∷ []) ≡ codes "0KSas" ∷ codes "0KSas" ∷ codes "0123KSas" ∷ []
