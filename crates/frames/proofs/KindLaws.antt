@@ -13,7 +13,6 @@ use Rattle.digits.specs.declared.refusal.Refusal.{Refusal}
 use Rattle.digits.specs.Refusals.{FIELD}
 use Rattle.digits.specs.Told.{Told, gives, refuses, tried}
 use Rattle.frames.specs.declared.refusals.ReadRefusal.{ReadRefusal}
-use Rattle.frames.specs.declared.refusals.ReadRefusal.the-variants.{Kind as kind}
 use Rattle.frames.specs.declared.refusals.ReadVerdict.{ReadVerdict}
 use Rattle.frames.specs.declared.refusals.ReadVerdict.the-variants.{Read, Refused as turned}
 use Rattle.frames.specs.declared.refusals.WriteRefusal.{WriteRefusal}

@@ -16,7 +16,7 @@ use Rattle.digits.proofs.Writing.{length-digits, sets-append}
 use Rattle.digits.proofs.Laws.{read-was-written}
 use Rattle.digits.proofs.Parts.{joined, read-in-parts, written-in-parts}
 use Rattle.digits.proofs.Forms.{number-lawful, number-back, renamed-lawful}
-use Rattle.times.specs.Clock.{aDay, lastTick, isTime, isHour, isSixtieth, hours, minutes, seconds, fraction, ticksOf, clockNumber, clock, ClockInverse}
+use Rattle.times.specs.Clock.{aDay, lastTick, isHour, isSixtieth, hours, minutes, seconds, fraction, ticksOf, clockNumber, clock, ClockInverse}
 use Rattle.times.specs.inside.Clock.{partOf, ticksFrom}
 
 -- what follows for HHMMSSdddd if it has ticks
