@@ -14,13 +14,14 @@ use Rattle.desk.specs.Key.{keyIn, seatKey}
 use Rattle.desk.specs.Hearing.{heard, hasKey}
 use Rattle.desk.specs.Seats.{seatAt, usedBit, keyed, keyedAt, seatWith}
 use Rattle.desk.specs.Memory.{Memory}
-use Rattle.desk.specs.Mix.{Event, toOpen, toReply, addressed, framesTo, seated, expected, repliesTo, awaited, RepliesAreAwaited}
+use Rattle.desk.specs.Events.{Event, toOpen, toReply, addressed, framesTo}
+use Rattle.desk.specs.Mix.{seated, expected, repliesTo, awaited, RepliesAreAwaited}
 use Rattle.digits.proofs.Tests.{by-test}
 use Rattle.desk.proofs.Below.{and-false-r, count-ext, count-none, count-one}
 use Rattle.desk.proofs.ClauseLaws.{Facts, desk-facts}
 use Rattle.desk.proofs.StepLaws.{found-keyed, fresh-below}
 use Rattle.desk.proofs.RuleLaws.{addressed-heard}
-use Rattle.desk.proofs.MixLaws.{one-seat}
+use Rattle.desk.proofs.ViewLaws.{one-seat}
 
 module _ (m : Memory) where
   -- the open requests that an event is addressed to

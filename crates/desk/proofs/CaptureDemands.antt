@@ -18,10 +18,11 @@ use Rattle.desk.specs.declared.capture.Fate.the-variants.{Opened, Collec
 use Rattle.desk.specs.Memory.{Memory, heldBy}
 use Rattle.desk.specs.Desk.{isDesk}
 use Rattle.desk.specs.Calls.{opens, replies, emptied}
-use Rattle.desk.specs.Mix.{Event, toOpen, toReply, run, openings}
+use Rattle.desk.specs.Events.{Event, toOpen, toReply, run, openings}
 use Rattle.desk.specs.Capture.{fateBy, dynamicFate, openLead, replyLead, meets, fates, afterAll, isDynamic, howMany, countsOf, captures}
 use Rattle.desk.specs.CaptureDemands.{events, CaptureIsRun, CaptureSorts, isGiven, dynamicIn, CountsAreRight}
-use Rattle.desk.proofs.MixLaws.{stays-desk, sorts-opened-requests}
+use Rattle.desk.proofs.DeskLaws.{stays-desk}
+use Rattle.desk.proofs.MixLaws.{sorts-opened-requests}
 use Rattle.desk.proofs.CaptureLaws.{counts-add-up}
 use Rattle.desk.proofs.CellLaws.{all-cells, all-seats}
 

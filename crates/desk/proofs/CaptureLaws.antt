@@ -26,7 +26,7 @@ use Rattle.desk.specs.Calls.{opens, replies, Did}
 use Rattle.desk.specs.Capture.{fateBy, dynamicFate, Step, openLead, replyLead, meets, meetsPiece, fates, afterAll, isOpened, isCollected, isDynamic, isRefused, howMany, countsOf, TookCapture, CountsAddUp}
 use Rattle.desk.specs.inside.Counting.{Meets, oneMore}
 use Rattle.digits.proofs.Tests.{by-test}
-use Rattle.desk.proofs.MixLaws.{stays-desk}
+use Rattle.desk.proofs.DeskLaws.{stays-desk}
 
 -- ---- one frame, by its lead byte
 

@@ -14,16 +14,18 @@ use Rattle.frames.specs.Reply as P
 use Rattle.desk.specs.Below.{allBelow, countBelow, first}
 use Rattle.desk.specs.Key.{sameKey, isKey}
 use Rattle.desk.specs.Hearing.{heard, ends, inPlace}
+use Rattle.desk.specs.Step.{step}
 use Rattle.desk.specs.Seats.{keyed, seatWith, lowestClear}
 use Rattle.desk.specs.Memory.{capacityOf, recordsOf}
 use Rattle.desk.specs.Desk.{isZero, markNames, lastEnds, isDesk}
 use Rattle.desk.specs.Calls.{keyTried, requestTried, openTried, opens, seatTried, labelTried, replyTried, replies, seatsInUse}
-use Rattle.desk.specs.Mix.{run, repliesTo}
+use Rattle.desk.specs.Events.{run}
+use Rattle.desk.specs.Mix.{repliesTo}
 use Rattle.desk.specs.Cases.{Worked, MixWorked, AddressMixWorked}
 use Rattle.desk.specs.DeskCases.{DeskWorked}
 
 pub worked : Worked
-unfolding numberAt numberFrom oneOf between upTo isAddress isRaw isRequester isOutput allFrom fieldsOf headTold read timingKind timed Q.isInformation Q.isRequestChannel Q.requestFields isStatus P.isLetter P.isReplyChannel P.leastRun P.fromBib P.replyFields allBelow countBelow first sameKey isKey heard ends inPlace keyed seatWith lowestClear capacityOf isZero markNames lastEnds isDesk keyTried requestTried openTried opens seatTried labelTried replyTried replies run seatsInUse recordsOf firstOff digitFrom
+unfolding numberAt numberFrom oneOf between upTo isAddress isRaw isRequester isOutput allFrom fieldsOf headTold read timingKind timed Q.isInformation Q.isRequestChannel Q.requestFields isStatus P.isLetter P.isReplyChannel P.leastRun P.fromBib P.replyFields allBelow countBelow first sameKey isKey heard ends inPlace keyed seatWith lowestClear capacityOf isZero markNames lastEnds isDesk keyTried requestTried openTried opens step seatTried labelTried replyTried replies run seatsInUse recordsOf firstOff digitFrom
 worked = record {
   no-desk-opens = refl;
   no-desk-replies = refl;
@@ -67,11 +69,11 @@ worked = record {
 }
 
 pub mix-worked : MixWorked
-unfolding numberAt numberFrom oneOf between upTo isAddress isRaw isRequester isOutput allFrom fieldsOf headTold read timingKind timed Q.isInformation Q.isRequestChannel Q.requestFields isStatus P.isLetter P.isReplyChannel P.leastRun P.fromBib P.replyFields allBelow countBelow first sameKey isKey heard ends inPlace keyed seatWith lowestClear capacityOf isZero markNames lastEnds isDesk keyTried requestTried openTried opens seatTried labelTried replyTried replies run repliesTo recordsOf firstOff digitFrom
+unfolding numberAt numberFrom oneOf between upTo isAddress isRaw isRequester isOutput allFrom fieldsOf headTold read timingKind timed Q.isInformation Q.isRequestChannel Q.requestFields isStatus P.isLetter P.isReplyChannel P.leastRun P.fromBib P.replyFields allBelow countBelow first sameKey isKey heard ends inPlace keyed seatWith lowestClear capacityOf isZero markNames lastEnds isDesk keyTried requestTried openTried opens step seatTried labelTried replyTried replies run repliesTo recordsOf firstOff digitFrom
 mix-worked = record { answers = refl; marks = refl; count = refl; bits = refl; seats = refl; held-by-1 = refl; held-by-A = refl; held-by-z = refl; bound = refl }
 
 pub address-mix-worked : AddressMixWorked
-unfolding numberAt numberFrom oneOf between upTo isAddress isRaw isRequester isOutput allFrom fieldsOf headTold read timingKind timed Q.isInformation Q.isRequestChannel Q.requestFields isStatus P.isLetter P.isReplyChannel P.leastRun P.fromBib P.replyFields allBelow countBelow first sameKey isKey heard ends inPlace keyed seatWith lowestClear capacityOf isZero markNames lastEnds isDesk keyTried requestTried openTried opens seatTried labelTried replyTried replies run repliesTo recordsOf firstOff digitFrom
+unfolding numberAt numberFrom oneOf between upTo isAddress isRaw isRequester isOutput allFrom fieldsOf headTold read timingKind timed Q.isInformation Q.isRequestChannel Q.requestFields isStatus P.isLetter P.isReplyChannel P.leastRun P.fromBib P.replyFields allBelow countBelow first sameKey isKey heard ends inPlace keyed seatWith lowestClear capacityOf isZero markNames lastEnds isDesk keyTried requestTried openTried opens step seatTried labelTried replyTried replies run repliesTo recordsOf firstOff digitFrom
 address-mix-worked = record { answers = refl; marks = refl; count = refl; seats = refl; held-at-space = refl; held-at-0 = refl; held-at-9 = refl; bound = refl }
 
 pub desk-worked : DeskWorked

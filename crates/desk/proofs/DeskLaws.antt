@@ -12,41 +12,32 @@ use borrow.Author.Tests.{eq-eqb, ne-eqb, lt-ltb}
 use Rattle.desk.specs.declared.key.Key.{Key}
 use Rattle.desk.specs.declared.opening.Opening.{Opening}
 use Rattle.desk.specs.declared.reply.Taking.{Taking}
+use Rattle.desk.specs.declared.step.Progress.{Progress}
 use Rattle.desk.specs.Limits.{seatCount, cellSize}
-use Rattle.desk.specs.Below.{countBelow}
 use Rattle.desk.specs.Key.{keyIn, seatKey, sameKey, isKey}
-use Rattle.desk.specs.Hearing.{heard, endedIn}
+use Rattle.desk.specs.Step.{progressOf, advanced, none, replay}
 use Rattle.desk.specs.Seats.{zeroSeat, seatAt, usedBit, keyed}
 use Rattle.desk.specs.Memory.{Memory, capacity, capacityOf, cellAt, markAt, recordsOf, heldBy}
-use Rattle.desk.specs.Desk.{isZero, apartAt, markNames, markGood, cellKeyed, named, lastEnds}
-use Rattle.desk.specs.Calls.{newSeat, opened, grown, taken, emptyRow, emptied}
-use Rattle.desk.specs.inside.Clauses.{takes, takenAt}
-use Rattle.digits.proofs.Tests.{and-r, and-true, by-test}
-use Rattle.desk.proofs.Below.{never, below-case, eq-case, count-ext, count-more}
+use Rattle.desk.specs.Desk.{isZero, apartAt, markNames, markGood}
+use Rattle.desk.specs.Replay.{rowGood}
+use Rattle.desk.specs.Calls.{Outcome, newSeat, opens, opened, grown, taken, replies, emptyRow, emptied}
+use Rattle.desk.specs.Mix.{StaysDesk}
+use Rattle.digits.proofs.Tests.{and-l, and-r, and-true, by-test}
+use Rattle.desk.proofs.Below.{never, below-case, eq-case}
 use Rattle.desk.proofs.Bits.{set-own, set-other, set-below, none-used}
 use Rattle.desk.proofs.KeyLaws.{same-key, own-key}
-use Rattle.desk.proofs.ClauseLaws.{Facts}
+use Rattle.desk.proofs.ClauseLaws.{replay-more, Facts, desk-facts, facts-desk}
 use Rattle.desk.proofs.WrittenLaws.{length-with, cell-before, cell-new}
-use Rattle.desk.proofs.StepLaws.{Took, took-used, took-key, Room, took-room, Opens}
+use Rattle.desk.proofs.StepLaws.{Took, took-used, took-key, Room, took-room, Opens, by-reply, by-opening}
 
 -- ---- rows that stay
 
--- what the first n rows say depends only on these rows
-module _ (cells marks cells′ marks′ : List ℕ) where
-  named-same : (s n : ℕ) → ((j : ℕ) → j < n → markAt marks′ j ≡ markAt marks j) → named marks′ s n ≡ named marks s n
-  named-same s n em = count-ext n (λ i. eqb (markAt marks′ i) s) (λ i. eqb (markAt marks i) s) (λ j l. ap (λ (x : ℕ). eqb x s) (em j l))
-
-  ends-same : (s n : ℕ) → ((j : ℕ) → j < n → markAt marks′ j ≡ markAt marks j) → ((j : ℕ) → j < n → cellAt cells′ j ≡ cellAt cells j) → lastEnds cells′ marks′ s n ≡ lastEnds cells marks s n
-  unfolding lastEnds
-  ends-same s zero em ec = refl
-  ends-same s (suc n) em ec =
-      rw (em n (omega arith), ec n (omega arith), ends-same s n (λ j l. em j (omega arith)) (λ j l. ec j (omega arith)))
-
-  records-same : (s n : ℕ) → ((j : ℕ) → j < n → markAt marks′ j ≡ markAt marks j) → ((j : ℕ) → j < n → cellAt cells′ j ≡ cellAt cells j) → recordsOf cells′ marks′ s n ≡ recordsOf cells marks s n
-  unfolding recordsOf
-  records-same s zero em ec = refl
-  records-same s (suc n) em ec =
-      rw (em n (omega arith), ec n (omega arith), records-same s n (λ j l. em j (omega arith)) (λ j l. ec j (omega arith)))
+-- the records of a seat among the first n rows depend only on these rows
+records-same : (cells marks cells′ marks′ : List ℕ) (s n : ℕ) → ((j : ℕ) → j < n → markAt marks′ j ≡ markAt marks j) → ((j : ℕ) → j < n → cellAt cells′ j ≡ cellAt cells j) → recordsOf cells′ marks′ s n ≡ recordsOf cells marks s n
+unfolding recordsOf
+records-same cells marks cells′ marks′ s zero em ec = refl
+records-same cells marks cells′ marks′ s (suc n) em ec =
+    rw (em n (omega arith), ec n (omega arith), records-same cells marks cells′ marks′ s n (λ j l. em j (omega arith)) (λ j l. ec j (omega arith)))
 
 -- ---- the memory after a taken reply
 
@@ -85,26 +76,13 @@ module _ (m : Memory) (f : List ℕ) (t : Taking) (k : Took m f t) where
   new-cell : cellAt (taken m f t .cells) (m .count) ≡ f
   new-cell = cell-new (m .cells) (m .count * cellSize) f (room .cells) (room .frame)
 
-  old-named : (i n : ℕ) → n ≤ m .count → named (taken m f t .marks) i n ≡ named (m .marks) i n
-  old-named i n l = named-same (m .cells) (m .marks) (taken m f t .cells) (taken m f t .marks) i n (λ j h. old-mark j (omega arith))
-
-  old-ends : (i n : ℕ) → n ≤ m .count → lastEnds (taken m f t .cells) (taken m f t .marks) i n ≡ lastEnds (m .cells) (m .marks) i n
-  old-ends i n l =
-      ends-same (m .cells) (m .marks) (taken m f t .cells) (taken m f t .marks) i n (λ j h. old-mark j (omega arith)) (λ j h. old-cell j (omega arith))
-
-  new-named : (i : ℕ) → named (taken m f t .marks) i (m .count + 1) ≡ cond (eqb (t .seat) i) (named (m .marks) i (m .count) + 1) (named (m .marks) i (m .count))
-  new-named i =
-      count-more (m .count) (λ j. eqb (markAt (taken m f t .marks) j) i)
-      ∙ rw (new-mark, old-named i (m .count) (omega arith))
-
-  new-ends : (i : ℕ) → lastEnds (taken m f t .cells) (taken m f t .marks) i (m .count + 1) ≡ cond (eqb (t .seat) i) (endedIn (heard f)) (lastEnds (m .cells) (m .marks) i (m .count))
-  unfolding lastEnds
-  new-ends i = rw (add-one (m .count), new-mark, new-cell, old-ends i (m .count) (omega arith))
+  old-records : (i n : ℕ) → n ≤ m .count → recordsOf (taken m f t .cells) (taken m f t .marks) i n ≡ recordsOf (m .cells) (m .marks) i n
+  old-records i n l =
+      records-same (m .cells) (m .marks) (taken m f t .cells) (taken m f t .marks) i n (λ j h. old-mark j (omega arith)) (λ j h. old-cell j (omega arith))
 
   new-records : (i : ℕ) → heldBy (taken m f t) i ≡ heldBy m i ++ cond (eqb (t .seat) i) (f ∷ []) []
   unfolding recordsOf
-  new-records i =
-      rw (add-one (m .count), new-mark, new-cell, records-same (m .cells) (m .marks) (taken m f t .cells) (taken m f t .marks) i (m .count) old-mark old-cell)
+  new-records i = rw (add-one (m .count), new-mark, new-cell, old-records i (m .count) (omega arith))
 
   pub records-own : heldBy (taken m f t) (t .seat) ≡ heldBy m (t .seat) ++ (f ∷ [])
   records-own = new-records (t .seat) ∙ rw (eq-eqb (t .seat) (t .seat) refl)
@@ -118,41 +96,20 @@ module _ (m : Memory) (f : List ℕ) (t : Taking) (k : Took m f t) where
   unfolding keyed
   same-apart i j = rw (taken-key i, taken-key j)
 
-  mark-facts : (i : ℕ) → i < m .count + 1 → markGood (m .bits) (taken m f t .marks) i ≡ true
+  row-facts : (i : ℕ) → i < m .count + 1 → rowGood (taken m f t .row) (m .bits) (taken m f t .cells) (taken m f t .marks) i ≡ true
   unfolding markNames
-  mark-facts i l =
+  row-facts i l =
       below-case i (m .count) (omega arith)
-      (λ h. rw (old-mark i h) (k .facts .marks i h))
-      (λ e. rw (e, new-mark) (and-true (lt-ltb (t .seat) seatCount (k .below)) (took-used m f t k)))
-
-  cell-facts : (i : ℕ) → i < m .count + 1 → cellKeyed (taken m f t .row) (taken m f t .cells) (taken m f t .marks) i ≡ true
-  cell-facts i l =
-      below-case i (m .count) (omega arith)
-      (λ h. rw (old-mark i h, old-cell i h, taken-key (markAt (m .marks) i)) (k .facts .cells i h))
-      (λ e. rw (e, new-mark, new-cell, taken-key (t .seat), k .hears, took-key m f t k) (own-key (keyIn (k .label))))
-
-  taken-facts : (i : ℕ) → i < m .count + 1 → takenAt (taken m f t .cells) (taken m f t .marks) i ≡ true
-  unfolding takes
-  taken-facts i l =
-      below-case i (m .count) (omega arith)
-      (λ h. rw (old-mark i h, old-cell i h, old-named (markAt (m .marks) i) i (omega arith), old-ends (markAt (m .marks) i) i (omega arith)) (k .facts .taken i h))
+      (λ h. rw (old-mark i h, old-cell i h, taken-key (markAt (m .marks) i), old-records (markAt (m .marks) i) i (omega arith)) (k .facts .rows i h))
       (λ e.
-      rw (e, new-mark, new-cell, old-named (t .seat) (m .count) (omega arith), old-ends (t .seat) (m .count) (omega arith), k .hears, k .status, ← k .facts .held (t .seat) (k .below) (took-used m f t k), ← k .facts .ended (t .seat) (k .below) (took-used m f t k))
-      (and-true (eq-eqb _ 0 (k .going)) (k .placed)))
+      rw (e, new-mark, new-cell, taken-key (t .seat), k .hears, k .status, took-key m f t k, old-records (t .seat) (m .count) (omega arith), ← k .facts .agree (t .seat) (k .below) (took-used m f t k))
+      (and-true (and-true (lt-ltb (t .seat) seatCount (k .below)) (took-used m f t k)) (and-true (own-key (keyIn (k .label))) (k .steps))))
 
-  held-facts : (i : ℕ) → i < seatCount → usedBit (m .bits) i ≡ true → seatAt (taken m f t .row) i .held ≡ named (taken m f t .marks) i (m .count + 1)
-  held-facts i l u =
+  agree-facts : (i : ℕ) → i < seatCount → usedBit (m .bits) i ≡ true → progressOf (seatAt (taken m f t .row) i) ≡ replay none (heldBy (taken m f t) i)
+  agree-facts i l u =
       eq-case i (t .seat)
-      (λ e.
-      rw (new-named i, eq-eqb (t .seat) i (sym e), e, taken-own)
-      (ap (λ (n : ℕ). n + 1) (k .facts .held (t .seat) (k .below) (took-used m f t k))))
-      (λ n. rw (new-named i, ne-eqb (t .seat) i (λ e. n (sym e)), taken-other i n) (k .facts .held i l u))
-
-  ended-facts : (i : ℕ) → i < seatCount → usedBit (m .bits) i ≡ true → seatAt (taken m f t .row) i .ended ≡ lastEnds (taken m f t .cells) (taken m f t .marks) i (m .count + 1)
-  ended-facts i l u =
-      eq-case i (t .seat)
-      (λ e. rw (new-ends i, eq-eqb (t .seat) i (sym e), e, taken-own, k .hears, k .status))
-      (λ n. rw (new-ends i, ne-eqb (t .seat) i (λ e. n (sym e)), taken-other i n) (k .facts .ended i l u))
+      (λ e. rw (e, records-own, replay-more none (heldBy m (t .seat)) f, k .hears, k .status, taken-own) (ap (λ (p : Progress). advanced p (t .status)) (k .facts .agree (t .seat) (k .below) (took-used m f t k))))
+      (λ n. rw (records-other i n, taken-other i n) (k .facts .agree i l u))
 
   pub taken-desk : Facts (taken m f t)
   taken-desk = record {
@@ -162,30 +119,16 @@ module _ (m : Memory) (f : List ℕ) (t : Taking) (k : Took m f t) where
     apart = λ i l j h. same-apart i j ∙ k .facts .apart i l j h;
     zeros = λ i l u. rw (taken-other i (λ e. never (usedBit (m .bits) i) (rw e (took-used m f t k)) u)) (k .facts .zeros i l u);
     fits = rw taken-capacity (let r = k .room in omega arith);
-    marks = mark-facts;
-    cells = cell-facts;
-    taken = taken-facts;
-    held = held-facts;
-    ended = ended-facts;
+    rows = row-facts;
+    agree = agree-facts;
   }
 
 -- ---- a seat that no mark names
 
-module _ (cells marks : List ℕ) (i : ℕ) where
-  unnamed : (n : ℕ) → ((j : ℕ) → j < n → markAt marks j ≡ i → ⊥) → named marks i n ≡ 0
-  unfolding countBelow
-  unnamed zero h = refl
-  unnamed (suc n) h = rw (ne-eqb (markAt marks n) i (h n (omega arith))) (unnamed n (λ j l. h j (omega arith)))
-
-  unended : (n : ℕ) → ((j : ℕ) → j < n → markAt marks j ≡ i → ⊥) → lastEnds cells marks i n ≡ 0
-  unfolding lastEnds
-  unended zero h = refl
-  unended (suc n) h = rw (ne-eqb (markAt marks n) i (h n (omega arith))) (unended n (λ j l. h j (omega arith)))
-
-  unheld : (n : ℕ) → ((j : ℕ) → j < n → markAt marks j ≡ i → ⊥) → recordsOf cells marks i n ≡ []
-  unfolding recordsOf
-  unheld zero h = refl
-  unheld (suc n) h = rw (ne-eqb (markAt marks n) i (h n (omega arith)), unheld n (λ j l. h j (omega arith)))
+unheld : (cells marks : List ℕ) (i n : ℕ) → ((j : ℕ) → j < n → markAt marks j ≡ i → ⊥) → recordsOf cells marks i n ≡ []
+unfolding recordsOf
+unheld cells marks i zero h = refl
+unheld cells marks i (suc n) h = rw (ne-eqb (markAt marks n) i (h n (omega arith)), unheld cells marks i n (λ j l. h j (omega arith)))
 
 -- ---- the memory after an opening
 
@@ -213,7 +156,7 @@ module _ (m : Memory) (f : List ℕ) (o : Opening) (k : Opens m f o) where
 
   mark-used : (i : ℕ) → i < m .count → usedBit (m .bits) (markAt (m .marks) i) ≡ true
   unfolding markNames
-  mark-used i l = and-r (ltb (markAt (m .marks) i) seatCount) _ (k .facts .marks i l)
+  mark-used i l = and-r (ltb (markAt (m .marks) i) seatCount) _ (and-l (markGood (m .bits) (m .marks) i) _ (k .facts .rows i l))
 
   unmarked : (j : ℕ) → j < m .count → markAt (m .marks) j ≡ o .seat → ⊥
   unmarked j l e = used-other (markAt (m .marks) j) (mark-used j l) e
@@ -251,9 +194,9 @@ module _ (m : Memory) (f : List ℕ) (o : Opening) (k : Opens m f o) where
       (λ e. rw e (apart-own j (rw e at h)))
       (λ n. eq-case j (o .seat) (λ e. rw e (apart-under i l n (usedBit (m .bits) i) refl)) (λ p. apart-else i j n p ∙ k .facts .apart i l j h))
 
-  mark-stays : (i : ℕ) → i < m .count → markGood (opened m o .bits) (m .marks) i ≡ true
+  row-stays : (i : ℕ) → i < m .count → rowGood (opened m o .row) (opened m o .bits) (m .cells) (m .marks) i ≡ true
   unfolding markNames
-  mark-stays i l = rw (other-bit (markAt (m .marks) i) (unmarked i l)) (k .facts .marks i l)
+  row-stays i l = rw (other-bit (markAt (m .marks) i) (unmarked i l), opened-other (markAt (m .marks) i) (unmarked i l)) (k .facts .rows i l)
 
   key-facts : (i : ℕ) → i < seatCount → usedBit (opened m o .bits) i ≡ true → isKey (seatKey (seatAt (opened m o .row) i)) ≡ true
   key-facts i l u =
@@ -267,17 +210,12 @@ module _ (m : Memory) (f : List ℕ) (o : Opening) (k : Opens m f o) where
       (λ e. never (usedBit (opened m o .bits) i) (rw e opened-bit) u)
       (λ n. rw (opened-other i n) (k .facts .zeros i l (rw (other-bit i n) at u)))
 
-  still-held : (i : ℕ) → i < seatCount → usedBit (opened m o .bits) i ≡ true → seatAt (opened m o .row) i .held ≡ named (m .marks) i (m .count)
-  still-held i l u =
+  still-agree : (i : ℕ) → i < seatCount → usedBit (opened m o .bits) i ≡ true → progressOf (seatAt (opened m o .row) i) ≡ replay none (heldBy m i)
+  unfolding replay
+  still-agree i l u =
       eq-case i (o .seat)
-      (λ e. rw (e, opened-own) (sym (unnamed (m .cells) (m .marks) (o .seat) (m .count) unmarked)))
-      (λ n. rw (opened-other i n) (k .facts .held i l (rw (other-bit i n) at u)))
-
-  still-ended : (i : ℕ) → i < seatCount → usedBit (opened m o .bits) i ≡ true → seatAt (opened m o .row) i .ended ≡ lastEnds (m .cells) (m .marks) i (m .count)
-  still-ended i l u =
-      eq-case i (o .seat)
-      (λ e. rw (e, opened-own) (sym (unended (m .cells) (m .marks) (o .seat) (m .count) unmarked)))
-      (λ n. rw (opened-other i n) (k .facts .ended i l (rw (other-bit i n) at u)))
+      (λ e. rw (e, opened-own, opened-holds))
+      (λ n. rw (opened-other i n) (k .facts .agree i l (rw (other-bit i n) at u)))
 
   pub opened-desk : Facts (opened m o)
   opened-desk = record {
@@ -287,11 +225,8 @@ module _ (m : Memory) (f : List ℕ) (o : Opening) (k : Opens m f o) where
     apart = apart-facts;
     zeros = zero-facts;
     fits = k .facts .fits;
-    marks = mark-stays;
-    cells = λ i l. rw (opened-other (markAt (m .marks) i) (unmarked i l)) (k .facts .cells i l);
-    taken = k .facts .taken;
-    held = still-held;
-    ended = still-ended;
+    rows = row-stays;
+    agree = still-agree;
   }
 
 -- ---- an emptied desk
@@ -308,9 +243,21 @@ emptied-desk m = record {
   apart = λ i l j h. rw (none-used i);
   zeros = λ i l u. rw (empty-seat i l);
   fits = omega arith;
-  marks = λ i l. absurd (omega arith);
-  cells = λ i l. absurd (omega arith);
-  taken = λ i l. absurd (omega arith);
-  held = λ i l u. never (usedBit 0 i) u (none-used i);
-  ended = λ i l u. never (usedBit 0 i) u (none-used i);
+  rows = λ i l. absurd (omega arith);
+  agree = λ i l u. never (usedBit 0 i) u (none-used i);
+}
+
+-- ---- a desk stays a desk
+
+pub reply-facts : (m : Memory) (f : List ℕ) → Facts m → Facts (replies m f .after)
+reply-facts m f d = by-reply m f (λ (o : Outcome). Facts (o .after)) (taken-desk m f) (λ why. d)
+
+pub opening-facts : (m : Memory) (f : List ℕ) → Facts m → Facts (opens m f .after)
+opening-facts m f d = by-opening m f (λ (o : Outcome). Facts (o .after)) (opened-desk m f) (λ why. d)
+
+pub stays-desk : StaysDesk
+stays-desk = record {
+  opening = λ m f d. facts-desk (opens m f .after) (opening-facts m f (desk-facts m d));
+  reply = λ m f d. facts-desk (replies m f .after) (reply-facts m f (desk-facts m d));
+  reset = λ m. facts-desk (emptied m) (emptied-desk m);
 }

@@ -6,17 +6,14 @@ use mathlib.Core.Path.{_≡_, refl, ap, _∙_}
 use native.Mathlib.Omega.{arith}
 use lib.ListN.{length, drop}
 use lib.Seq.{drop-set-lt}
-use Rattle.digits.specs.Told.{Told, gives, refuses}
 use Rattle.finder.specs.Pieces.{Piece, whole, cut}
-use Rattle.desk.specs.declared.reply.Taking.{Taking}
 use Rattle.desk.specs.Limits.{mostCells, cellSize, storeSize}
 use Rattle.desk.specs.Memory.{Memory}
 use Rattle.desk.specs.Desk.{isDesk}
-use Rattle.desk.specs.Calls.{opens, replyTried, replies}
+use Rattle.desk.specs.Calls.{Outcome, opens, replies}
 use Rattle.desk.specs.Capture.{Step, meets, meetsPiece, afterAll}
 use Rattle.desk.proofs.WrittenLaws.{drop-with}
-use Rattle.desk.proofs.StepLaws.{took, took-room}
-use Rattle.desk.proofs.MixLaws.{after-taken, after-refused}
+use Rattle.desk.proofs.StepLaws.{took-room, by-reply}
 use Rattle.desk.proofs.KeepsLaws.{keeps-memory}
 use Rattle.desk.proofs.CaptureLaws.{by-lead, meets-desk}
 
@@ -30,17 +27,13 @@ pub record Leaves (m x : Memory) : Type 0 where
 same : (m : Memory) → Leaves m m
 same m = record { cells = refl; marks = refl; cells-after = refl; marks-after = refl }
 
-leaves-by : (m : Memory) (f : List ℕ) (a : Told Taking) → replyTried m f ≡ a → Leaves m (replies m f .after)
-leaves-by m f (gives t) e =
-    let r = took-room m f t (took m f t e) in
+reply-leaves : (m : Memory) (f : List ℕ) → Leaves m (replies m f .after)
+reply-leaves m f =
     let s = keeps-memory .reply-sizes m f in
-    record {
-      cells = s .0;
-      marks = s .1;
-      cells-after = rw (after-taken m f t e) (drop-with (m .cells) (m .count * cellSize) f (r .cells) (r .frame) storeSize (omega (arith, r .count)));
-      marks-after = rw (after-taken m f t e) (drop-set-lt mostCells (m .marks) (m .count) (t .seat) (r .count));
-    }
-leaves-by m f (refuses why) e = rw (after-refused m f why e) (same m)
+    let after = by-reply m f (λ (o : Outcome). (drop storeSize (o .after .cells) ≡ drop storeSize (m .cells)) × (drop mostCells (o .after .marks) ≡ drop mostCells (m .marks)))
+        (λ t k. let r = took-room m f t k in (drop-with (m .cells) (m .count * cellSize) f (r .cells) (r .frame) storeSize (omega (arith, r .count)), drop-set-lt mostCells (m .marks) (m .count) (t .seat) (r .count)))
+        (λ why. (refl, refl)) in
+    record { cells = s .0; marks = s .1; cells-after = after .0; marks-after = after .1 }
 
 open-leaves : (m : Memory) (f : List ℕ) → Leaves m (opens m f .after)
 open-leaves m f =
@@ -49,7 +42,7 @@ open-leaves m f =
     record { cells = ap length c; marks = ap length k; cells-after = ap (drop storeSize) c; marks-after = ap (drop mostCells) k }
 
 meets-leaves : (m : Memory) (f : List ℕ) → Leaves m (meets m f .after)
-meets-leaves m f = by-lead (λ (x : Step). Leaves m (x .after)) m f (open-leaves m f) (leaves-by m f (replyTried m f) refl) (same m)
+meets-leaves m f = by-lead (λ (x : Step). Leaves m (x .after)) m f (open-leaves m f) (reply-leaves m f) (same m)
 
 piece-leaves : (m : Memory) (p : Piece) → Leaves m (meetsPiece m p .after)
 piece-leaves m (whole a f) = meets-leaves m f

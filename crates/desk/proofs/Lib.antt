@@ -10,6 +10,7 @@ pub mod HeldLaws
 pub mod ReadBackLaws
 pub mod DeskLaws
 pub mod RuleLaws
+pub mod ViewLaws
 pub mod MixLaws
 pub mod AwaitedLaws
 pub mod Cases

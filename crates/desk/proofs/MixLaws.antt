@@ -1,14 +1,15 @@
 -- Mixed replies: each request holds what the rule says of the frames addressed to it, and they were answered as it says. Assumes nothing.
 use Prim.Native.Nat.{ℕ, _+_, _<_, _≤_}
 use mathlib.Core.Bool.{Bool, true, false, cond, not}
-use mathlib.Core.Path.{_≡_, refl, sym, ap, _∙_}
-use mathlib.Core.List.{List, [], _∷_, _++_, append-assoc, append-nil}
+use mathlib.Core.Path.{_≡_, refl, sym, ap, subst, _∙_}
+use mathlib.Core.List.{List, [], _∷_, _++_}
 use native.Mathlib.Omega.{arith}
 use lib.Dec.{eqb, ltb}
-use borrow.Author.Tests.{ne-eqb, lt-ltb}
-use Rattle.digits.specs.declared.refusal.Refusal.{Refusal}
-use Rattle.digits.specs.Refusals.{ENDED, OUT-OF-PLACE}
-use Rattle.digits.specs.Told.{Told, gives, refuses, tried}
+use lib.ListN.{length}
+use borrow.Author.Tests.{lt-ltb}
+use Rattle.digits.specs.Told.{Told, gives, refuses}
+use Rattle.digits.proofs.Tests.{by-test}
+use Rattle.digits.proofs.Sure.{not-refused}
 use Rattle.frames.specs.Kind.{read}
 use Rattle.frames.specs.Request.{request}
 use Rattle.frames.specs.declared.request.StaticRequest.{StaticRequest}
@@ -16,268 +17,152 @@ use Rattle.frames.specs.declared.reply.ReplyLabel.{ReplyLabel}
 use Rattle.desk.specs.declared.key.Key.{Key}
 use Rattle.desk.specs.declared.opening.Opening.{Opening}
 use Rattle.desk.specs.declared.reply.Taking.{Taking}
+use Rattle.desk.specs.declared.step.Progress.{Progress}
 use Rattle.desk.specs.Limits.{seatCount}
-use Rattle.desk.specs.Below.{first}
-use Rattle.desk.specs.Key.{requestKey, keyIn, seatKey, sameKey}
-use Rattle.desk.specs.Hearing.{heard, hasKey, ends, inPlace, endedBy, statusIn}
+use Rattle.desk.specs.Key.{requestKey, keyIn, seatKey}
+use Rattle.desk.specs.Hearing.{heard, hasKey, statusIn}
+use Rattle.desk.specs.Step.{step}
 use Rattle.desk.specs.Seats.{seatAt, usedBit, keyed, keyedAt, seatWith}
 use Rattle.desk.specs.Memory.{Memory, capacity, heldBy}
-use Rattle.desk.specs.Calls.{Outcome, over, newSeat, openTried, openOutcome, opens, opened, seatTried, labelTried, replyTried, replyOutcome, replies, taken, emptied}
+use Rattle.desk.specs.Desk.{isDesk}
+use Rattle.desk.specs.Calls.{Outcome, opens, opened, replies, taken, emptied}
 use Rattle.desk.specs.Rule.{Frame}
-use Rattle.desk.specs.Mix.{Event, toOpen, toReply, run, openings, heardAll, Stretch, addressed, framesTo, answersTo, seated, expected, repliesTo, Sorted, SortsFromAnyDesk, SortsOpenedRequests, StaysDesk}
-use Rattle.digits.proofs.Tests.{and-true, by-test}
-use Rattle.digits.proofs.Sure.{not-refused}
-use Rattle.desk.proofs.Below.{never, false-or, first-at, first-ext}
+use Rattle.desk.specs.Events.{Event, toOpen, toReply, frameOf, happens, run, openings, heardAll, Stands, addressed, framesTo, answersTo}
+use Rattle.desk.specs.Views.{View, viewAt, progressIn, newView, Seen, replySeen, seatStep, cellFree, Steps}
+use Rattle.desk.specs.Mix.{Stretch, seated, expected, repliesTo, MayStand, CallsMayStand, CellsFor, viewAfter, saysTo, FoldsWhatMayStand, Sorted, SortsFromAnyDesk, SortsOpenedRequests}
+use Rattle.desk.proofs.Below.{never, first-ext}
 use Rattle.desk.proofs.KeyLaws.{own-key}
-use Rattle.desk.proofs.RuleLaws.{fits, endsIt, keeps, says, addressed-heard, keeps-kept, says-said}
+use Rattle.desk.proofs.RuleLaws.{addressed-heard, fold-is-rule}
 use Rattle.desk.proofs.ClauseLaws.{Facts, desk-facts, facts-desk}
-use Rattle.desk.proofs.StepLaws.{keyed-used, keyed-key, Took, took, took-key, opens-taken}
-use Rattle.desk.proofs.DeskLaws.{taken-own, taken-other, taken-key, taken-capacity, records-own, records-other, taken-desk, opened-own, opened-other, opened-bit, other-bit, used-other, opened-holds, opened-desk, emptied-desk}
+use Rattle.desk.proofs.StepLaws.{held-records, Took, took-key, Opens, by-reply, by-opening}
+use Rattle.desk.proofs.DeskLaws.{taken-key, taken-capacity, used-other, emptied-desk, reply-facts, opening-facts, stays-desk, taken-desk}
+use Rattle.desk.proofs.ViewLaws.{taken-moves, opened-moves, own-seat, is-local}
 
--- ---- what a call leaves, by the result of its tests
+-- ---- openings and replies may stand in a stretch
 
-module _ (m : Memory) (f : Frame) where
-  pub after-taken : (t : Taking) → replyTried m f ≡ gives t → replies m f ≡ record { answer = gives (t .seat); after = taken m f t }
-  unfolding replies
-  after-taken t e = ap (replyOutcome m f) e
+hears-own : (m : Memory) (f : Frame) (t : Taking) → Took m f t → addressed (viewAt m (t .seat) .key) (toReply f) ≡ true
+hears-own m f t k = rw (addressed-heard (viewAt m (t .seat) .key) f, k .hears, took-key m f t k) (own-key (keyIn (k .label)))
 
-  pub after-refused : (why : Refusal) → replyTried m f ≡ refuses why → replies m f ≡ record { answer = refuses why; after = m }
-  unfolding replies
-  after-refused why e = ap (replyOutcome m f) e
+reply-other : (m : Memory) (f : Frame) (s : ℕ) → addressed (viewAt m s .key) (toReply f) ≡ false → viewAt (replies m f .after) s ≡ viewAt m s
+reply-other m f s h =
+    by-reply m f (λ (o : Outcome). viewAt (o .after) s ≡ viewAt m s)
+    (λ t k. taken-moves m f t k .others s (λ q. never _ (hears-own m f t k) (rw q at h)))
+    (λ why. refl)
 
-  pub after-opened : (o : Opening) → openTried m f ≡ gives o → opens m f ≡ record { answer = gives (o .seat); after = opened m o }
-  unfolding opens
-  after-opened o e = ap (openOutcome m) e
+opening-other : (m : Memory) (f : Frame) (s : ℕ) → viewAt m s .used ≡ true → viewAt (opens m f .after) s ≡ viewAt m s
+opening-other m f s u = by-opening m f (λ (o : Outcome). viewAt (o .after) s ≡ viewAt m s) (λ o k. opened-moves m f o k .others s (used-other m f o k s u)) (λ why. refl)
 
-  pub after-not-opened : (why : Refusal) → openTried m f ≡ refuses why → opens m f ≡ record { answer = refuses why; after = m }
-  unfolding opens
-  after-not-opened why e = ap (openOutcome m) e
+pub calls-may-stand : CallsMayStand
+unfolding addressed
+calls-may-stand = record { desk = desk; own = own; other = other }
+  where
+    desk : (m : Memory) (e : Event) → true ≡ true → isDesk m ≡ true → isDesk (happens m e .after) ≡ true
+    desk m (toOpen f) y d = stays-desk .opening m f d
+    desk m (toReply f) y d = stays-desk .reply m f d
 
--- ---- a desk stays a desk, with its keys and its cells
+    own : (m : Memory) (e : Event) (s : ℕ) → true ≡ true → isDesk m ≡ true → s < seatCount → viewAt m s .used ≡ true → addressed (viewAt m s .key) e ≡ true → Steps m e s
+    own m (toOpen f) s y d l u h = never true refl (sym h)
+    own m (toReply f) s y d l u h = is-local .to-seat m f s d l u h
 
+    other : (m : Memory) (e : Event) (s : ℕ) → true ≡ true → isDesk m ≡ true → s < seatCount → viewAt m s .used ≡ true → addressed (viewAt m s .key) e ≡ false → viewAt (happens m e .after) s ≡ viewAt m s
+    other m (toOpen f) s y d l u h = opening-other m f s u
+    other m (toReply f) s y d l u h = reply-other m f s h
+
+-- ---- a request goes by its own frames alone
+
+-- a step leaves use and key
+step-keeps : (s : ℕ) (v : View) (f : Frame) (t : Told Progress) → (replySeen s v f t .view .used ≡ v .used) × (replySeen s v f t .view .key ≡ v .key)
+step-keeps s v f (gives p) = (refl, refl)
+step-keeps s v f (refuses why) = (refl, refl)
+
+-- an event that is addressed to a request is a reply
+as-reply : (s : ℕ) (free : Bool) (v : View) (k : Key) (e : Event) → addressed k e ≡ true → seatStep s free v e ≡ seatStep s free v (toReply (frameOf e))
+unfolding addressed
+as-reply s free v k (toOpen f) h = never true refl (sym h)
+as-reply s free v k (toReply f) h = refl
+
+module _ (may : Event → Bool) (stand : MayStand may) where
+  fold : (es : List Event) (m : Memory) (s : ℕ) (k : Key) → isDesk m ≡ true → Stands may es → s < seatCount → viewAt m s .used ≡ true → viewAt m s .key ≡ k → CellsFor k m es
+      → (viewAt (run m es) s ≡ viewAfter s (viewAt m s) (framesTo k es)) × (answersTo k m es ≡ saysTo s (viewAt m s) (framesTo k es))
+  unfolding run framesTo answersTo viewAfter saysTo
+  fold [] m s k d st l u q c = (refl, refl)
+  fold (e ∷ es) m s k d st l u q c =
+      let x = happens m e .after in
+      let v = viewAt m s in
+      let d′ = stand .desk m e (st .0) d in
+      by-test (addressed k e)
+      (λ h.
+      let w = stand .own m e s (st .0) d l u (rw q h) in
+      let g : seatStep s (cellFree m) v e ≡ seatStep s true v (toReply (frameOf e)) = ap (λ (b : Bool). seatStep s b v e) (c .0 h) ∙ as-reply s true v k e h in
+      let own = w .own ∙ ap (λ (y : Seen). y .view) g in
+      let kept = step-keeps s v (frameOf e) (step (progressIn v) true (statusIn (heard (frameOf e)))) in
+      let ih = fold es x s k d′ (st .1) l (ap (λ (y : View). y .used) own ∙ kept .0 ∙ u) (ap (λ (y : View). y .key) own ∙ kept .1 ∙ q) (c .1) in
+      rw h
+      (ih .0 ∙ ap (λ (y : View). viewAfter s y (framesTo k es)) own,
+      λ i. (w .answer ∙ ap (λ (y : Seen). y .answer) g) i ∷ (ih .1 ∙ ap (λ (y : View). saysTo s y (framesTo k es)) own) i))
+      (λ h.
+      let own = stand .other m e s (st .0) d l u (rw q h) in
+      let ih = fold es x s k d′ (st .1) l (ap (λ (y : View). y .used) own ∙ u) (ap (λ (y : View). y .key) own ∙ q) (c .1) in
+      rw h (ih .0 ∙ ap (λ (y : View). viewAfter s y (framesTo k es)) own, ih .1 ∙ ap (λ (y : View). saysTo s y (framesTo k es)) own))
+
+pub folds-what-may-stand : FoldsWhatMayStand
+folds-what-may-stand may stand m es s d st l u c = fold may stand es m s (viewAt m s .key) d st l u refl c
+
+-- ---- a stretch with cells enough has a free cell for each of its replies
+
+-- a reply leaves keys, bits and the size of the store
 record Next (m x : Memory) : Type 0 where
-  facts : Facts x
-  key : (i : ℕ) → seatKey (seatAt (x .row) i) ≡ seatKey (seatAt (m .row) i)
+  key : (i : ℕ) → viewAt x i .key ≡ viewAt m i .key
   bits : x .bits ≡ m .bits
   cap : capacity x ≡ capacity m
 
-next-by : (m : Memory) (f : Frame) → Facts m → (a : Told Taking) → replyTried m f ≡ a → Next m (replies m f .after)
-next-by m f d (gives t) e =
-    let k = took m f t e in
-    rw (after-taken m f t e) (record { facts = taken-desk m f t k; key = taken-key m f t k; bits = refl; cap = taken-capacity m f t k })
-next-by m f d (refuses why) e = rw (after-refused m f why e) (record { facts = d; key = λ i. refl; bits = refl; cap = refl })
+next : (m : Memory) (f : Frame) → Next m (replies m f .after)
+next m f =
+    by-reply m f (λ (o : Outcome). Next m (o .after))
+    (λ t k. record { key = taken-key m f t k; bits = refl; cap = taken-capacity m f t k })
+    (λ why. record { key = λ i. refl; bits = refl; cap = refl })
 
-next : (m : Memory) (f : Frame) → Facts m → Next m (replies m f .after)
-next m f d = next-by m f d (replyTried m f) refl
-
-open-by : (m : Memory) (f : Frame) → Facts m → (a : Told Opening) → openTried m f ≡ a → Facts (opens m f .after)
-open-by m f d (gives o) e = rw (after-opened m f o e) (opened-desk m f o (opens-taken m f o e))
-open-by m f d (refuses why) e = rw (after-not-opened m f why e) d
-
-pub stays-desk : StaysDesk
-stays-desk = record {
-  opening = λ m f d. facts-desk (opens m f .after) (open-by m f (desk-facts m d) (openTried m f) refl);
-  reply = λ m f d. facts-desk (replies m f .after) (next m f (desk-facts m d) .facts);
-  reset = λ m. facts-desk (emptied m) (emptied-desk m);
-}
-
--- ---- only one seat has a key
-
-clash : (m : Memory) (k : Key) (i j : ℕ) → Facts m → i < seatCount → j < i → keyedAt (m .row) (m .bits) k i ≡ true → keyedAt (m .row) (m .bits) k j ≡ true → ⊥
-clash m k i j d l h hi hj =
-    let u = keyed-used (m .row) (m .bits) k i hi in
-    let e = keyed-key (m .row) (m .bits) k i hi in
-    let a : not (keyedAt (m .row) (m .bits) k j) ≡ true = rw (u, e) at (d .apart i l j h) in
-    never (not (keyedAt (m .row) (m .bits) k j)) a (ap not hj)
-
-pub one-seat : (m : Memory) (k : Key) (s : ℕ) → Facts m → s < seatCount → keyedAt (m .row) (m .bits) k s ≡ true → seatWith (m .row) (m .bits) k ≡ s
-unfolding seatWith
-one-seat m k s d l h =
-    first-at seatCount s (keyedAt (m .row) (m .bits) k) l
-    (λ j i. false-or (keyedAt (m .row) (m .bits) k j) (λ hj. clash m k s j d l i h hj))
-    h
-
--- it depends only on keys and bits
 with-same : (m x : Memory) (k : Key) → Next m x → seatWith (x .row) (x .bits) k ≡ seatWith (m .row) (m .bits) k
 unfolding seatWith keyed
-with-same m x k n =
-    first-ext seatCount (keyedAt (x .row) (x .bits) k) (keyedAt (m .row) (m .bits) k) (λ i l. rw (n .key i, n .bits))
-
--- ---- cells enough
+with-same m x k n = first-ext seatCount (keyedAt (x .row) (x .bits) k) (keyedAt (m .row) (m .bits) k) (λ i l. rw (n .key i, n .bits))
 
 seated-same : (m x : Memory) (got : Told ReplyLabel) → Next m x → seated x got ≡ seated m got
 seated-same m x (gives c) n = ap (λ (s : ℕ). ltb s seatCount) (with-same m x (keyIn c) n)
 seated-same m x (refuses why) n = refl
 
-expected-same : (m x : Memory) (e : Event) → Next m x → expected x e ≡ expected m e
-expected-same m x (toOpen f) n = refl
-expected-same m x (toReply f) n = seated-same m x (heard f) n
-
 replies-same : (m x : Memory) (es : List Event) → Next m x → repliesTo x es ≡ repliesTo m es
 unfolding repliesTo
 replies-same m x [] n = refl
-replies-same m x (e ∷ es) n = rw (expected-same m x e n, replies-same m x es n)
+replies-same m x (toOpen f ∷ es) n = rw (replies-same m x es n)
+replies-same m x (toReply f ∷ es) n = rw (seated-same m x (heard f) n, replies-same m x es n)
 
-taken-expected : (m : Memory) (f : Frame) (t : Taking) → Took m f t → expected m (toReply f) ≡ true
-taken-expected m f t k = rw (k .hears, k .found) (lt-ltb (t .seat) seatCount (k .below))
+count-next : (m : Memory) (f : Frame) → replies m f .after .count ≤ m .count + cond (expected m (toReply f)) 1 0
+count-next m f =
+    by-reply m f (λ (o : Outcome). o .after .count ≤ m .count + cond (expected m (toReply f)) 1 0)
+    (λ t k. rw (k .hears, k .found, lt-ltb (t .seat) seatCount (k .below)) (omega arith))
+    (λ why. omega arith)
 
-count-by : (m : Memory) (f : Frame) (es : List Event) (a : Told Taking) → replyTried m f ≡ a → replies m f .after .count + repliesTo m es ≤ m .count + repliesTo m (toReply f ∷ es)
-unfolding repliesTo
-count-by m f es (gives t) e = rw (after-taken m f t e, taken-expected m f t (took m f t e)) (omega arith)
-count-by m f es (refuses why) e = rw (after-refused m f why e) (omega arith)
-
-room-next : (m : Memory) (f : Frame) (es : List Event) → Facts m → m .count + repliesTo m (toReply f ∷ es) ≤ capacity m → replies m f .after .count + repliesTo (replies m f .after) es ≤ capacity (replies m f .after)
-room-next m f es d h =
-    let n = next m f d in
-    let a = replies-same m (replies m f .after) es n in
-    let b = count-by m f es (replyTried m f) refl in
-    let c = n .cap in
-    omega arith
-
--- ---- a frame that is not addressed to a seat leaves that seat unchanged
-
-record Kept (m x : Memory) (s : ℕ) : Type 0 where
-  seat : seatAt (x .row) s ≡ seatAt (m .row) s
-  held : heldBy x s ≡ heldBy m s
-
-hears-own : (m : Memory) (f : Frame) (t : Taking) → Took m f t → addressed (seatKey (seatAt (m .row) (t .seat))) (toReply f) ≡ true
-hears-own m f t k = rw (addressed-heard (seatKey (seatAt (m .row) (t .seat))) f, k .hears, took-key m f t k) (own-key (keyIn (k .label)))
-
-else-by : (m : Memory) (f : Frame) (s : ℕ) → addressed (seatKey (seatAt (m .row) s)) (toReply f) ≡ false → (a : Told Taking) → replyTried m f ≡ a → Kept m (replies m f .after) s
-else-by m f s h (gives t) e =
-    let k = took m f t e in
-    let n : s ≡ t .seat → ⊥ = λ q. never _ (hears-own m f t k) (rw q at h) in
-    rw (after-taken m f t e) (record { seat = taken-other m f t k s n; held = records-other m f t k s n })
-else-by m f s h (refuses why) e = rw (after-refused m f why e) (record { seat = refl; held = refl })
-
--- ---- a frame that is addressed to a seat is answered by that seat only
-
-abbrev anyAt : Memory → ℕ → Bool
-anyAt m s = not (eqb (seatAt (m .row) s .held) 0)
-
-abbrev overAt : Memory → ℕ → Bool
-overAt m s = over (seatAt (m .row) s)
-
-data Own (m : Memory) (f : Frame) (s : ℕ) : Type 0 where
-  late : overAt m s ≡ true → replies m f ≡ record { answer = refuses ENDED; after = m } → Own m f s
-  astray : overAt m s ≡ false → fits (anyAt m s) f ≡ false → replies m f ≡ record { answer = refuses OUT-OF-PLACE; after = m } → Own m f s
-  kept-one : (status : ℕ) → overAt m s ≡ false → fits (anyAt m s) f ≡ true → statusIn (heard f) ≡ status → Took m f (record { seat = s; status = status })
-      → replies m f ≡ record { answer = gives s; after = taken m f (record { seat = s; status = status }) } → Own m f s
-
-not-not : (b : Bool) → not (not b) ≡ b
-not-not true = refl
-not-not false = refl
-
-place-fits : (m : Memory) (f : Frame) (s : ℕ) (c : ReplyLabel) → heard f ≡ gives c → inPlace (seatAt (m .row) s .held) (c .status) ≡ fits (anyAt m s) f
-unfolding inPlace
-place-fits m f s c e = rw (e, not-not (eqb (seatAt (m .row) s .held) 0))
-
--- the tests of a frame whose seat is s
-own-tried : (m : Memory) (f : Frame) (s : ℕ) (c : ReplyLabel) → Facts m → s < seatCount → usedBit (m .bits) s ≡ true → m .count < capacity m
-    → heard f ≡ gives c → sameKey (seatKey (seatAt (m .row) s)) (keyIn c) ≡ true
-    → replyTried m f ≡ seatTried (seatAt (m .row) s) true (record { seat = s; status = c .status })
-unfolding replyTried labelTried keyed
-own-tried m f s c d l u r e h =
-    rw (facts-desk m d, e, one-seat m (keyIn c) s d l (and-true u h), lt-ltb s seatCount l, lt-ltb (m .count) (capacity m) r)
-
-own-case : (m : Memory) (f : Frame) (s : ℕ) (c : ReplyLabel) → heard f ≡ gives c
-    → replyTried m f ≡ seatTried (seatAt (m .row) s) true (record { seat = s; status = c .status })
-    → (a b : Bool) → overAt m s ≡ a → fits (anyAt m s) f ≡ b → Own m f s
-unfolding seatTried
-own-case m f s c e q true b ea eb = late ea (after-refused m f ENDED (q ∙ rw ea))
-own-case m f s c e q false false ea eb = astray ea eb (after-refused m f OUT-OF-PLACE (q ∙ rw (ea, place-fits m f s c e, eb)))
-own-case m f s c e q false true ea eb =
-    let t : Taking = record { seat = s; status = c .status } in
-    let p : replyTried m f ≡ gives t = q ∙ rw (ea, place-fits m f s c e, eb) in
-    kept-one (c .status) ea eb (ap statusIn e) (took m f t p) (after-taken m f t p)
-
-own-heard : (m : Memory) (f : Frame) (s : ℕ) → Facts m → s < seatCount → usedBit (m .bits) s ≡ true → m .count < capacity m
-    → (got : Told ReplyLabel) → heard f ≡ got → hasKey (seatKey (seatAt (m .row) s)) got ≡ true → Own m f s
-own-heard m f s d l u r (gives c) e h = own-case m f s c e (own-tried m f s c d l u r e h) (overAt m s) (fits (anyAt m s) f) refl refl
-own-heard m f s d l u r (refuses why) e h = never true refl (sym h)
-
-own : (m : Memory) (f : Frame) (s : ℕ) → Facts m → s < seatCount → usedBit (m .bits) s ≡ true → m .count < capacity m
-    → addressed (seatKey (seatAt (m .row) s)) (toReply f) ≡ true → Own m f s
-own m f s d l u r h = own-heard m f s d l u r (heard f) refl (rw (addressed-heard (seatKey (seatAt (m .row) s)) f) at h)
-
--- a frame addressed to a used seat is one of those that are counted, and so a cell is free for it
-own-seated : (m : Memory) (s : ℕ) → Facts m → s < seatCount → usedBit (m .bits) s ≡ true → (got : Told ReplyLabel) → hasKey (seatKey (seatAt (m .row) s)) got ≡ true → seated m got ≡ true
-unfolding keyed
-own-seated m s d l u (gives c) h = rw (one-seat m (keyIn c) s d l (and-true u h)) (lt-ltb s seatCount l)
+-- a frame addressed to a used seat is one of those that are counted
+own-seated : (m : Memory) (s : ℕ) → Facts m → s < seatCount → usedBit (m .bits) s ≡ true → (got : Told ReplyLabel) → hasKey (viewAt m s .key) got ≡ true → seated m got ≡ true
+own-seated m s d l u (gives c) h = rw (own-seat m s c d l u h) (lt-ltb s seatCount l)
 own-seated m s d l u (refuses why) h = h
 
-own-room : (m : Memory) (f : Frame) (s : ℕ) (es : List Event) → Facts m → s < seatCount → usedBit (m .bits) s ≡ true → addressed (seatKey (seatAt (m .row) s)) (toReply f) ≡ true
-    → m .count + repliesTo m (toReply f ∷ es) ≤ capacity m → m .count < capacity m
+cells-for : (es : List Event) (m : Memory) (s : ℕ) (k : Key) → Facts m → Stretch es → m .count + repliesTo m es ≤ capacity m → s < seatCount → usedBit (m .bits) s ≡ true → viewAt m s .key ≡ k → CellsFor k m es
 unfolding repliesTo
-own-room m f s es d l u h r =
-    let k : m .count + (1 + repliesTo m es) ≤ capacity m = rw (own-seated m s d l u (heard f) (rw (addressed-heard (seatKey (seatAt (m .row) s)) f) at h)) at r in
-    omega arith
-
--- ---- the mix
-
-record Ends (m : Memory) (es : List Event) (s : ℕ) (k : Key) (before : List Frame) (any ended : Bool) (mine : List Frame) : Type 0 where
-  held : heldBy (run m es) s ≡ before ++ keeps any ended mine
-  answers : answersTo k m es ≡ says s any ended mine
-
-ends-any : (status : ℕ) → not (eqb (endedBy status) 0) ≡ ends status
-ends-any status = by-test (ends status) (λ e. rw e) (λ e. rw e)
-
-more-any : (n : ℕ) → not (eqb (n + 1) 0) ≡ true
-more-any n = ap not (ne-eqb (n + 1) 0 (λ e. omega arith))
-
--- the rest of the mix, after a call with this outcome
-abbrev Rest : Outcome → List Event → ℕ → Key → Type 0
-Rest o es s k = Ends (o .after) es s k (heldBy (o .after) s) (anyAt (o .after) s) (overAt (o .after) s) (framesTo k es)
-
--- the same with the frame that was just answered in front
-record Own-ends (m : Memory) (f : Frame) (es : List Event) (s : ℕ) (k : Key) : Type 0 where
-  held : heldBy (run (replies m f .after) es) s ≡ heldBy m s ++ keeps (anyAt m s) (overAt m s) (f ∷ framesTo k es)
-  answers : replies m f .answer ∷ answersTo k (replies m f .after) es ≡ says s (anyAt m s) (overAt m s) (f ∷ framesTo k es)
-
-own-ends : (m : Memory) (f : Frame) (es : List Event) (s : ℕ) (k : Key) → Own m f s → Rest (replies m f) es s k → Own-ends m f es s k
-unfolding keeps says
-own-ends m f es s k (late eo e) ih =
-    let r = rw e at ih in
-    record { held = rw (eo, e) (rw eo at (r .held)); answers = rw (eo, e) (ap (λ (l : List (Told ℕ)). refuses ENDED ∷ l) (rw eo at (r .answers))) }
-own-ends m f es s k (astray eo ef e) ih =
-    let r = rw e at ih in
-    record { held = rw (eo, ef, e) (rw eo at (r .held)); answers = rw (eo, ef, e) (ap (λ (l : List (Told ℕ)). refuses OUT-OF-PLACE ∷ l) (rw eo at (r .answers))) }
-own-ends m f es s k (kept-one status eo ef st q e) ih =
-    let t : Taking = record { seat = s; status = status } in
-    let r = rw e at ih in
-    let own-seat = taken-own m f t q in
-    let own-held = records-own m f t q in
-    let a : anyAt (taken m f t) s ≡ true = rw own-seat (more-any (seatAt (m .row) s .held)) in
-    let b : overAt (taken m f t) s ≡ endsIt f = rw (own-seat, st) (ends-any status) in
-    record {
-      held = rw (eo, ef, e) (rw (a, b, own-held) at (r .held) ∙ append-assoc (heldBy m s) (f ∷ []) (keeps true (endsIt f) (framesTo k es)));
-      answers = rw (eo, ef, e) (ap (λ (l : List (Told ℕ)). gives s ∷ l) (rw (a, b) at (r .answers)));
-    }
-
-own-mix : (m : Memory) (f : Frame) (es : List Event) (s : ℕ) (k : Key) → Own-ends m f es s k → addressed k (toReply f) ≡ true
-    → Ends m (toReply f ∷ es) s k (heldBy m s) (anyAt m s) (overAt m s) (framesTo k (toReply f ∷ es))
-unfolding run answersTo framesTo
-own-mix m f es s k x h = record { held = rw h (x .held); answers = rw h (x .answers) }
-
-else-mix : (m : Memory) (f : Frame) (es : List Event) (s : ℕ) (k : Key) → Kept m (replies m f .after) s → addressed k (toReply f) ≡ false → Rest (replies m f) es s k
-    → Ends m (toReply f ∷ es) s k (heldBy m s) (anyAt m s) (overAt m s) (framesTo k (toReply f ∷ es))
-unfolding run answersTo framesTo
-else-mix m f es s k q h ih =
-    record { held = rw h (rw (q .held, q .seat) at (ih .held)); answers = rw h (rw (q .seat) at (ih .answers)) }
-
-mix : (es : List Event) (m : Memory) (s : ℕ) (k : Key) → Facts m → Stretch es → m .count + repliesTo m es ≤ capacity m → s < seatCount → usedBit (m .bits) s ≡ true
-    → seatKey (seatAt (m .row) s) ≡ k → Ends m es s k (heldBy m s) (anyAt m s) (overAt m s) (framesTo k es)
-unfolding run answersTo framesTo keeps says
-mix [] m s k d st r l u ek = record { held = sym (append-nil (heldBy m s)); answers = refl }
-mix (toOpen f ∷ es) m s k d st r l u ek = never true refl (sym (st .0))
-mix (toReply f ∷ es) m s k d st r l u ek =
-    let n = next m f d in
-    let ih = mix es (replies m f .after) s k (n .facts) (st .1) (room-next m f es d r) l (rw (n .bits) u) (n .key s ∙ ek) in
-    by-test (addressed k (toReply f))
-    (λ h.
-    let g : addressed (seatKey (seatAt (m .row) s)) (toReply f) ≡ true = rw ek h in
-    own-mix m f es s k (own-ends m f es s k (own m f s d l u (own-room m f s es d l u g r) g) ih) h)
-    (λ h. else-mix m f es s k (else-by m f s (rw ek h) (replyTried m f) refl) h ih)
+cells-for [] m s k d st r l u q = tt
+cells-for (toOpen f ∷ es) m s k d st r l u q = never true refl (sym (st .0))
+cells-for (toReply f ∷ es) m s k d st r l u q =
+    let n = next m f in
+    let a = replies-same m (replies m f .after) es n in
+    let b = count-next m f in
+    let c = n .cap in (
+      λ h.
+      let own : addressed (viewAt m s .key) (toReply f) ≡ true = rw q h in
+      let g = own-seated m s d l u (heard f) (sym (addressed-heard (viewAt m s .key) f) ∙ own) in
+      let t : m .count + (1 + repliesTo m es) ≤ capacity m = rw g at r in
+      lt-ltb (m .count) (capacity m) (omega arith),
+      cells-for es (replies m f .after) s k (reply-facts m f d) (st .1) (omega (arith, a, b, c, r)) l (rw (n .bits) u) (n .key s ∙ q),
+    )
 
 -- ---- as if its frames had come alone
 
@@ -307,22 +192,35 @@ heard-stretch : (l : List Frame) → Stretch (heardAll l)
 heard-stretch [] = tt
 heard-stretch (f ∷ l) = (refl, heard-stretch l)
 
+all-stand : (es : List Event) → Stands (λ e. true) es
+all-stand [] = tt
+all-stand (e ∷ es) = (refl, all-stand es)
+
+-- the request at a seat, by its view
+abbrev SortedBy : Memory → List Event → ℕ → Key → View → Type 0
+SortedBy m es s k v = Sorted m es s k (v .records) (not (eqb (length (v .records)) 0)) (not (eqb (v .ended) 0))
+
+folded : (m : Memory) (es : List Event) (s : ℕ) (k : Key) → Facts m → Stretch es → m .count + repliesTo m es ≤ capacity m → s < seatCount → usedBit (m .bits) s ≡ true → viewAt m s .key ≡ k
+    → (viewAt (run m es) s ≡ viewAfter s (viewAt m s) (framesTo k es)) × (answersTo k m es ≡ saysTo s (viewAt m s) (framesTo k es))
+folded m es s k d st r l u ek = fold (λ e. true) calls-may-stand es m s k (facts-desk m d) (all-stand es) l u ek (cells-for es m s k d st r l u ek)
+
 sorted : (m : Memory) (es : List Event) (s : ℕ) (k : Key) → Facts m → Stretch es → m .count + repliesTo m es ≤ capacity m → s < seatCount → usedBit (m .bits) s ≡ true
-    → seatKey (seatAt (m .row) s) ≡ k → Sorted m es s k (heldBy m s) (anyAt m s) (overAt m s)
+    → viewAt m s .key ≡ k → SortedBy m es s k (viewAt m s)
 sorted m es s k d st r l u ek =
-    let a = mix es m s k d st r l u ek in
+    let a = folded m es s k d st r l u ek in
     let w = fewer m k es st in
-    let b = mix (heardAll (framesTo k es)) m s k d (heard-stretch (framesTo k es)) (omega arith) l u ek in
-    let i = frames-alone k es st in
+    let b = rw (frames-alone k es st) at (folded m (heardAll (framesTo k es)) s k d (heard-stretch (framesTo k es)) (omega arith) l u ek) in
+    let rule = fold-is-rule s (viewAt m s) (framesTo k es) in
     record {
-      held = a .held ∙ ap (λ (l : List Frame). heldBy m s ++ l) (keeps-kept (anyAt m s) (overAt m s) (framesTo k es));
-      answers = a .answers ∙ says-said s (anyAt m s) (overAt m s) (framesTo k es);
-      held-alone = a .held ∙ sym (rw i at (b .held));
-      answers-alone = a .answers ∙ sym (rw i at (b .answers));
+      held = ap (λ (v : View). v .records) (a .0) ∙ rule .records;
+      answers = a .1 ∙ rule .answers;
+      held-alone = ap (λ (v : View). v .records) (a .0 ∙ sym (b .0));
+      answers-alone = a .1 ∙ sym (b .1);
     }
 
 pub sorts-from-any-desk : SortsFromAnyDesk
-sorts-from-any-desk m es s d st r l u = sorted m es s (seatKey (seatAt (m .row) s)) (desk-facts m d) st r l u refl
+sorts-from-any-desk m es s d st r l u =
+    rw (← held-records m s (desk-facts m d) l u) at (sorted m es s (viewAt m s .key) (desk-facts m d) st r l u refl)
 
 -- ---- openings first
 
@@ -332,27 +230,8 @@ pub record Lent (m x : Memory) : Type 0 where
   pub cells : x .cells ≡ m .cells
   pub marks : x .marks ≡ m .marks
 
-lent-by : (m : Memory) (f : Frame) (a : Told Opening) → openTried m f ≡ a → Lent m (opens m f .after)
-lent-by m f (gives o) e = rw (after-opened m f o e) (record { count = refl; cells = refl; marks = refl })
-lent-by m f (refuses why) e = rw (after-not-opened m f why e) (record { count = refl; cells = refl; marks = refl })
-
 pub lent : (m : Memory) (f : Frame) → Lent m (opens m f .after)
-lent m f = lent-by m f (openTried m f) refl
-
--- a request that was just opened, at seat s
-record Fresh (m : Memory) (s : ℕ) (k : Key) : Type 0 where
-  below : s < seatCount
-  used : usedBit (m .bits) s ≡ true
-  seat : seatAt (m .row) s ≡ newSeat k
-  held : heldBy m s ≡ []
-
-fresh-by : (m : Memory) (f : Frame) (s : ℕ) (k : Key) → Fresh m s k → (a : Told Opening) → openTried m f ≡ a → Fresh (opens m f .after) s k
-fresh-by m f s k h (gives o) e =
-    let q = opens-taken m f o e in
-    let n = used-other m f o q s (h .used) in
-    rw (after-opened m f o e)
-    (record { below = h .below; used = other-bit m f o q s n ∙ h .used; seat = opened-other m f o q s n ∙ h .seat; held = h .held })
-fresh-by m f s k h (refuses why) e = rw (after-not-opened m f why e) h
+lent m f = by-opening m f (λ (o : Outcome). Lent m (o .after)) (λ o k. record { count = refl; cells = refl; marks = refl }) (λ why. record { count = refl; cells = refl; marks = refl })
 
 record Ready (m x : Memory) : Type 0 where
   facts : Facts x
@@ -364,40 +243,35 @@ ready-run m x [] h = h
 ready-run m x (f ∷ l) h =
     let k = lent x f in
     ready-run m (opens x f .after) l
-    (record { facts = open-by x f (h .facts) (openTried x f) refl; lent = record { count = k .count ∙ h .lent .count; cells = k .cells ∙ h .lent .cells; marks = k .marks ∙ h .lent .marks } })
+    (record { facts = opening-facts x f (h .facts); lent = record { count = k .count ∙ h .lent .count; cells = k .cells ∙ h .lent .cells; marks = k .marks ∙ h .lent .marks } })
 
-fresh-run : (m : Memory) (s : ℕ) (k : Key) (l : List Frame) → Fresh m s k → Fresh (run m (openings l)) s k
+-- a request that was just opened keeps its view through further openings
+fresh-run : (m : Memory) (s : ℕ) (k : Key) (l : List Frame) → viewAt m s ≡ newView k → viewAt (run m (openings l)) s ≡ newView k
 unfolding run
 fresh-run m s k [] h = h
-fresh-run m s k (f ∷ l) h = fresh-run (opens m f .after) s k l (fresh-by m f s k h (openTried m f) refl)
+fresh-run m s k (f ∷ l) h = fresh-run (opens m f .after) s k l (opening-other m f s (ap (λ (v : View). v .used) h) ∙ h)
 
 run-both : (m : Memory) (a b : List Frame) → run m (openings (a ++ b)) ≡ run (run m (openings a)) (openings b)
 unfolding run
 run-both m [] b = refl
 run-both m (f ∷ a) b = run-both (opens m f .after) a b
 
-just-opened : (m : Memory) (f : Frame) (r : StaticRequest) (s : ℕ) → read request f ≡ gives r → (a : Told Opening) → openTried m f ≡ a → opens m f .answer ≡ gives s → Fresh (opens m f .after) s (requestKey r)
-just-opened m f r s e (gives o) q h =
-    let k = opens-taken m f o q in
-    let g : gives (o .seat) ≡ gives s = rw (after-opened m f o q) at h in
-    let es : o .seat ≡ s = cc in
-    let i : gives (k .asked) ≡ gives r = sym (k .reads) ∙ e in
-    let er : k .asked ≡ r = cc in
-    let ek : o .key ≡ requestKey r = sym (k .key) ∙ ap requestKey er in
-    rw (after-opened m f o q, ← es, ← ek)
-    (record { below = k .below; used = opened-bit m f o k; seat = opened-own m f o k; held = opened-holds m f o k })
-just-opened m f r s e (refuses why) q h =
-    absurd (not-refused s why (sym (rw (after-not-opened m f why q) at h)))
+just-opened : (m : Memory) (f : Frame) (r : StaticRequest) (s : ℕ) → read request f ≡ gives r → opens m f .answer ≡ gives s → (s < seatCount) × (viewAt (opens m f .after) s ≡ newView (requestKey r))
+just-opened m f r s e h =
+    let below = by-opening m f (λ (o : Outcome). o .answer ≡ gives s → s < seatCount)
+        (λ o k g. let q : o .seat ≡ s = cc in rw q at (k .below))
+        (λ why g. absurd (not-refused s why (sym g))) in
+    (below h, rw e at (is-local .opening m f s h .1 .own))
 
 pub sorts-opened-requests : SortsOpenedRequests
 unfolding run
 sorts-opened-requests m before after f r es s e h st room =
     let x = run (emptied m) (openings before) in
     let y = run (emptied m) (openings (before ++ f ∷ after)) in
-    let q : y ≡ run (opens x f .after) (openings after) = run-both (emptied m) before (f ∷ after) in
-    let n : Fresh y s (requestKey r) = rw q (fresh-run (opens x f .after) s (requestKey r) after (just-opened x f r s e (openTried x f) refl h)) in
+    let o = just-opened x f r s e h in
+    let n : viewAt y s ≡ newView (requestKey r) = ap (λ (z : Memory). viewAt z s) (run-both (emptied m) before (f ∷ after)) ∙ fresh-run (opens x f .after) s (requestKey r) after (o .1) in
     let g = ready-run (emptied m) (emptied m) (before ++ f ∷ after) (record { facts = emptied-desk m; lent = record { count = refl; cells = refl; marks = refl } }) in
     let c : capacity y ≡ capacity m = rw (g .lent .cells, g .lent .marks) in
     let z : y .count ≡ 0 = g .lent .count in
-    let w = sorted y es s (requestKey r) (g .facts) st (omega arith) (n .below) (n .used) (rw (n .seat)) in
-    rw (n .held, n .seat) at w
+    subst (SortedBy y es s (requestKey r)) n
+    (sorted y es s (requestKey r) (g .facts) st (omega arith) (o .0) (ap (λ (v : View). v .used) n) (ap (λ (v : View). v .key) n))

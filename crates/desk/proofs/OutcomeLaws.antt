@@ -1,8 +1,8 @@
 -- How the steps of a call make up its outcome. Assumes nothing.
 use Prim.Native.Nat.{ℕ}
 use mathlib.Core.List.{List}
-use mathlib.Core.Bool.{true, false}
-use mathlib.Core.Path.{_≡_, refl, ap}
+use mathlib.Core.Bool.{Bool, true, false}
+use mathlib.Core.Path.{_≡_, refl, sym, ap, _∙_}
 use lib.ListN.{set}
 use lib.Seq.{set-getD}
 use lib.Dec.{ltb}
@@ -11,19 +11,33 @@ use Rattle.digits.specs.Refusals.{DESK}
 use Rattle.digits.specs.Told.{Told, gives, refuses}
 use Rattle.frames.specs.Kind.{read}
 use Rattle.frames.specs.Request.{request}
+use Rattle.desk.specs.declared.state.Seat.{Seat}
+use Rattle.desk.specs.declared.step.Progress.{Progress}
+use Rattle.desk.specs.declared.step.Stepped.{Stepped}
 use Rattle.desk.specs.declared.opening.Opening.{Opening}
 use Rattle.desk.specs.declared.reply.Taking.{Taking}
 use Rattle.desk.specs.Hearing.{heard}
+use Rattle.desk.specs.Step.{progressOf, step}
 use Rattle.desk.specs.Seats.{zeroSeat, seatAt}
 use Rattle.desk.specs.Memory.{Memory, capacity}
 use Rattle.desk.specs.Desk.{isDesk}
-use Rattle.desk.specs.Calls.{whatIsGiven, requestTried, openTried, labelTried, replyTried, opens, opened, replies, taken, Did}
+use Rattle.desk.specs.Calls.{whatIsGiven, requestTried, openTried, seatTried, labelTried, replyTried, opens, opened, replies, taken, Did}
+use Rattle.desk.specs.inside.Judging.{stepTold}
 
 -- ---- further tests of an answer that is known
 
 module _ {A B : Type 0} where
   pub given-on : (further : A → Told B) {t u : Told A} → t ≡ u → whatIsGiven t further ≡ whatIsGiven u further
   given-on further e = ap (λ (y : Told A). whatIsGiven y further) e
+
+-- ---- the step of the code is the step of the seat
+
+pub step-judged : (s : Seat) (free : Bool) (t : Taking) {p : Progress} {r is : Stepped} → p ≡ progressOf s → stepTold p (t .status) r ≡ step p free (t .status) → r ≡ is
+    → whatIsGiven (stepTold p (t .status) is) (λ p. gives t) ≡ seatTried s free t
+unfolding seatTried
+step-judged s free t {p} {r} {is} e h q =
+    ap (λ (x : Stepped). whatIsGiven (stepTold p (t .status) x) (λ p. gives t)) (sym q)
+    ∙ ap (λ (x : Told Progress). whatIsGiven x (λ p. gives t)) (h ∙ ap (λ (x : Progress). step x free (t .status)) e)
 
 -- ---- DESK is tested first
 

@@ -1,127 +1,127 @@
--- The rule, which uses letters and keys, agrees with the desk's own tests, frame by frame. Assumes nothing.
-use Prim.Native.Nat.{ℕ}
-use mathlib.Core.List.{List, [], _∷_}
-use mathlib.Core.Bool.{Bool, true, false, cond, not, _||_}
-use mathlib.Core.Path.{_≡_, refl, ap}
+-- The steps of a request, one after the other, are the rule of mixed replies, which is spelled over letters and keys. Assumes nothing.
+use Prim.Native.Nat.{ℕ, suc}
+use mathlib.Core.List.{List, [], _∷_, _++_, append-assoc, append-nil}
+use mathlib.Core.Bool.{Bool, true, false, not, _||_}
+use mathlib.Core.Path.{_≡_, refl, sym, ap, _∙_}
+use native.Mathlib.Omega.{arith}
+use lib.ListN.{length, length-append}
+use lib.Dec.{eqb}
+use borrow.Author.Tests.{ne-eqb}
+use Rattle.digits.specs.declared.refusal.Refusal.{Refusal}
 use Rattle.digits.specs.Refusals.{ENDED, OUT-OF-PLACE}
 use Rattle.digits.specs.Told.{Told, gives, refuses}
+use Rattle.digits.proofs.Tests.{by-test}
 use Rattle.frames.specs.Kind.{read}
-use Rattle.frames.specs.Status.{isZ}
 use Rattle.frames.specs.Reply.{reply, labelled}
 use Rattle.frames.specs.declared.reply.StaticReply.{StaticReply}
 use Rattle.desk.specs.declared.key.Key.{Key}
+use Rattle.desk.specs.declared.step.Progress.{Progress}
 use Rattle.desk.specs.Key.{sameKey}
-use Rattle.desk.specs.Hearing as C
-use Rattle.desk.specs.Rule.{Frame, isTo, letterIn, hasStatusE, hasStatusZ, withoutZ, upToE, keptFirst, kept, saidEnded, saidAmong, saidFirst, said}
-use Rattle.desk.specs.Mix.{toReply, addressed}
-
--- ---- how the desk tests a frame
-
--- a request that holds records takes no Z
-abbrev pub fits : Bool → Frame → Bool
-fits any f = not (isZ (C.statusIn (C.heard f))) || not any
-
-abbrev pub endsIt : Frame → Bool
-endsIt f = C.ends (C.statusIn (C.heard f))
-
-unfoldable pub keeps : Bool → Bool → List Frame → List Frame
-keeps any ended [] = []
-keeps any true (f ∷ fs) = keeps any true fs
-keeps any false (f ∷ fs) = cond (fits any f) (f ∷ keeps true (endsIt f) fs) (keeps any false fs)
-
-unfoldable pub says : ℕ → Bool → Bool → List Frame → List (Told ℕ)
-says s any ended [] = []
-says s any true (f ∷ fs) = refuses ENDED ∷ says s any true fs
-says s any false (f ∷ fs) = cond (fits any f) (gives s ∷ says s true (endsIt f) fs) (refuses OUT-OF-PLACE ∷ says s any false fs)
+use Rattle.desk.specs.Hearing.{heard, hasKey, statusIn, ends, inPlace, endedBy}
+use Rattle.desk.specs.Step.{advanced, step}
+use Rattle.desk.specs.Rule.{Frame, isTo, letterIn, hasStatusE, hasStatusZ, kept, said}
+use Rattle.desk.specs.Events.{toReply, addressed}
+use Rattle.desk.specs.Views.{View, Seen, seatStep}
+use Rattle.desk.specs.Mix.{viewAfter, saysTo, StepsAreRule, FoldIsRule}
 
 -- ---- status and key are the record's
 
-letter-told : (t : Told StaticReply) → C.statusIn (labelled t) ≡ letterIn t
+letter-told : (t : Told StaticReply) → statusIn (labelled t) ≡ letterIn t
 letter-told (gives r) = refl
 letter-told (refuses why) = refl
 
-letter : (f : Frame) → C.statusIn (C.heard f) ≡ letterIn (read reply f)
-unfolding C.heard
+letter : (f : Frame) → statusIn (heard f) ≡ letterIn (read reply f)
+unfolding heard
 letter f = letter-told (read reply f)
 
-to-told : (k : Key) (t : Told StaticReply) → isTo k t ≡ C.hasKey k (labelled t)
+to-told : (k : Key) (t : Told StaticReply) → isTo k t ≡ hasKey k (labelled t)
 unfolding sameKey
 to-told k (gives r) = refl
 to-told k (refuses why) = refl
 
-pub addressed-heard : (k : Key) (f : Frame) → addressed k (toReply f) ≡ C.hasKey k (C.heard f)
-unfolding addressed C.heard
+pub addressed-heard : (k : Key) (f : Frame) → addressed k (toReply f) ≡ hasKey k (heard f)
+unfolding addressed heard
 addressed-heard k f = to-told k (read reply f)
 
--- ---- what is kept
+-- ---- one step, by the letter
 
-keeps-none : (any : Bool) (fs : List Frame) → keeps any true fs ≡ []
-unfolding keeps
-keeps-none any [] = refl
-keeps-none any (f ∷ fs) = keeps-none any fs
+abbrev withMark : View → Frame → ℕ → View
+withMark v f mark = record { used = v .used; key = v .key; records = v .records ++ (f ∷ []); ended = mark }
 
-among-by : (z e : Bool) (f : Frame) (fs : List Frame) → hasStatusE f ≡ e → keeps true false fs ≡ upToE (withoutZ fs)
-    → cond (not z || not true) (f ∷ keeps true (e || z) fs) (keeps true false fs) ≡ upToE (cond z (withoutZ fs) (f ∷ withoutZ fs))
-among-by true e f fs q h = h
-among-by false true f fs q h = rw q (ap (λ (l : List Frame). f ∷ l) (keeps-none true fs))
-among-by false false f fs q h = rw q (ap (λ (l : List Frame). f ∷ l) h)
+module _ (s : ℕ) (v : View) (f : Frame) where
+  abbrev seenNow : Seen
+  seenNow = seatStep s true v (toReply f)
 
-keeps-among : (fs : List Frame) → keeps true false fs ≡ upToE (withoutZ fs)
-unfolding keeps C.ends
-keeps-among [] = refl
-keeps-among (f ∷ fs) = rw (letter f) (among-by (hasStatusZ f) (hasStatusE f) f fs refl (keeps-among fs))
+  step-late : eqb (v .ended) 0 ≡ false → seenNow ≡ record { answer = refuses ENDED; view = v }
+  unfolding step
+  step-late e = rw e
 
-first-by : (z e : Bool) (f : Frame) (fs : List Frame) → hasStatusE f ≡ e
-    → cond (not z || not false) (f ∷ keeps true (e || z) fs) (keeps false false fs) ≡ cond z (f ∷ []) (upToE (cond z (withoutZ fs) (f ∷ withoutZ fs)))
-first-by true true f fs q = ap (λ (l : List Frame). f ∷ l) (keeps-none true fs)
-first-by true false f fs q = ap (λ (l : List Frame). f ∷ l) (keeps-none true fs)
-first-by false true f fs q = rw q (ap (λ (l : List Frame). f ∷ l) (keeps-none true fs))
-first-by false false f fs q = rw q (ap (λ (l : List Frame). f ∷ l) (keeps-among fs))
+  step-astray : eqb (v .ended) 0 ≡ true → eqb (length (v .records)) 0 ≡ false → hasStatusZ f ≡ true → seenNow ≡ record { answer = refuses OUT-OF-PLACE; view = v }
+  unfolding step inPlace
+  step-astray e n z = rw (e, letter f, z, n)
 
-keeps-first : (fs : List Frame) → keeps false false fs ≡ keptFirst fs
-unfolding keeps C.ends
-keeps-first [] = refl
-keeps-first (f ∷ fs) = rw (letter f) (first-by (hasStatusZ f) (hasStatusE f) f fs refl)
+  step-taken : eqb (v .ended) 0 ≡ true → not (hasStatusZ f) || eqb (length (v .records)) 0 ≡ true → seenNow ≡ record { answer = gives s; view = withMark v f (endedBy (letterIn (read reply f))) }
+  unfolding step inPlace
+  step-taken e p = rw (e, letter f, p)
 
-pub keeps-kept : (any ended : Bool) (fs : List Frame) → keeps any ended fs ≡ kept any ended fs
-keeps-kept any true fs = keeps-none any fs
-keeps-kept true false fs = keeps-among fs
-keeps-kept false false fs = keeps-first fs
+-- ---- all steps
 
--- ---- what is answered
+abbrev Rules : ℕ → View → Bool → Bool → List Frame → Type 0
+Rules s v any ended fs = (viewAfter s v fs .records ≡ v .records ++ kept any ended fs) × (saysTo s v fs ≡ said s any ended fs)
 
 module _ (s : ℕ) where
-  says-ended : (any : Bool) (fs : List Frame) → says s any true fs ≡ saidEnded fs
-  unfolding says
-  says-ended any [] = refl
-  says-ended any (f ∷ fs) = ap (λ (l : List (Told ℕ)). refuses ENDED ∷ l) (says-ended any fs)
+  -- a frame with this outcome, in front of others
+  front : (v w : View) (a : Told ℕ) (f : Frame) (fs ks : List Frame) (ss : List (Told ℕ)) → seatStep s true v (toReply f) ≡ record { answer = a; view = w }
+      → viewAfter s w fs .records ≡ v .records ++ ks → saysTo s w fs ≡ ss → (viewAfter s v (f ∷ fs) .records ≡ v .records ++ ks) × (saysTo s v (f ∷ fs) ≡ a ∷ ss)
+  unfolding viewAfter saysTo
+  front v w a f fs ks ss e p q =
+      (ap (λ (x : Seen). viewAfter s (x .view) fs .records) e ∙ p, ap (λ (x : Seen). x .answer ∷ saysTo s (x .view) fs) e ∙ ap (λ (l : List (Told ℕ)). a ∷ l) q)
 
-  said-among-by : (z e : Bool) (f : Frame) (fs : List Frame) → hasStatusE f ≡ e → says s true false fs ≡ saidAmong s fs
-      → cond (not z || not true) (gives s ∷ says s true (e || z) fs) (refuses OUT-OF-PLACE ∷ says s true false fs)
-      ≡ cond z (refuses OUT-OF-PLACE ∷ saidAmong s fs) (gives s ∷ cond (hasStatusE f) (saidEnded fs) (saidAmong s fs))
-  said-among-by true e f fs q h = ap (λ (l : List (Told ℕ)). refuses OUT-OF-PLACE ∷ l) h
-  said-among-by false true f fs q h = rw q (ap (λ (l : List (Told ℕ)). gives s ∷ l) (says-ended true fs))
-  said-among-by false false f fs q h = rw q (ap (λ (l : List (Told ℕ)). gives s ∷ l) h)
+  late : (any : Bool) (v : View) (fs : List Frame) → eqb (v .ended) 0 ≡ false → Rules s v any true fs
+  unfolding viewAfter saysTo
+  late any v [] e = (sym (append-nil (v .records)), refl)
+  late any v (f ∷ fs) e = let h = late any v fs e in front v v (refuses ENDED) f fs [] _ (step-late s v f e) (h .0) (h .1)
 
-  says-among : (fs : List Frame) → says s true false fs ≡ saidAmong s fs
-  unfolding says C.ends
-  says-among [] = refl
-  says-among (f ∷ fs) = rw (letter f) (said-among-by (hasStatusZ f) (hasStatusE f) f fs refl (says-among fs))
+  -- a frame that is taken, in front of others
+  taken : (v : View) (f : Frame) (fs ks : List Frame) (ss : List (Told ℕ)) (mark : ℕ) → eqb (v .ended) 0 ≡ true → not (hasStatusZ f) || eqb (length (v .records)) 0 ≡ true
+      → endedBy (letterIn (read reply f)) ≡ mark → (viewAfter s (withMark v f mark) fs .records ≡ (v .records ++ (f ∷ [])) ++ ks) × (saysTo s (withMark v f mark) fs ≡ ss)
+      → (viewAfter s v (f ∷ fs) .records ≡ v .records ++ (f ∷ ks)) × (saysTo s v (f ∷ fs) ≡ gives s ∷ ss)
+  taken v f fs ks ss mark o p q h =
+      front v (withMark v f mark) (gives s) f fs (f ∷ ks) ss (step-taken s v f o p ∙ ap (λ (n : ℕ). record { answer = gives s; view = withMark v f n }) q)
+      (h .0 ∙ append-assoc (v .records) (f ∷ []) ks) (h .1)
 
-  said-first-by : (z e : Bool) (f : Frame) (fs : List Frame) → hasStatusE f ≡ e
-      → cond (not z || not false) (gives s ∷ says s true (e || z) fs) (refuses OUT-OF-PLACE ∷ says s false false fs)
-      ≡ cond z (gives s ∷ saidEnded fs) (cond z (refuses OUT-OF-PLACE ∷ saidAmong s fs) (gives s ∷ cond (hasStatusE f) (saidEnded fs) (saidAmong s fs)))
-  said-first-by true true f fs q = ap (λ (l : List (Told ℕ)). gives s ∷ l) (says-ended true fs)
-  said-first-by true false f fs q = ap (λ (l : List (Told ℕ)). gives s ∷ l) (says-ended true fs)
-  said-first-by false true f fs q = rw q (ap (λ (l : List (Told ℕ)). gives s ∷ l) (says-ended true fs))
-  said-first-by false false f fs q = rw q (ap (λ (l : List (Told ℕ)). gives s ∷ l) (says-among fs))
+  more-any : (l : List Frame) (f : Frame) → eqb (length (l ++ (f ∷ []))) 0 ≡ false
+  more-any l f = let e = length-append l (f ∷ []) in ne-eqb (length (l ++ (f ∷ []))) 0 (λ (h : length (l ++ (f ∷ [])) ≡ 0). omega (arith, e, h))
 
-  says-first : (fs : List Frame) → says s false false fs ≡ saidFirst s fs
-  unfolding says C.ends
-  says-first [] = refl
-  says-first (f ∷ fs) = rw (letter f) (said-first-by (hasStatusZ f) (hasStatusE f) f fs refl)
+  -- one that is no Z, when the request holds records or not
+  plain : (v : View) (f : Frame) (fs : List Frame) → ((w : View) → eqb (w .ended) 0 ≡ true → eqb (length (w .records)) 0 ≡ false → Rules s w true false fs)
+      → eqb (v .ended) 0 ≡ true → hasStatusZ f ≡ false → Rules s v true false (f ∷ fs)
+  unfolding ends
+  plain v f fs ih o z =
+      by-test (hasStatusE f)
+      (λ e. rw (z, e) (taken v f fs [] _ 1 o (rw z) (rw e) (late true (withMark v f 1) fs refl)))
+      (λ e. rw (z, e) (taken v f fs _ _ 0 o (rw z) (rw (e, z)) (ih (withMark v f 0) refl (more-any (v .records) f))))
 
-  pub says-said : (any ended : Bool) (fs : List Frame) → says s any ended fs ≡ said s any ended fs
-  says-said any true fs = says-ended any fs
-  says-said true false fs = says-among fs
-  says-said false false fs = says-first fs
+  among : (fs : List Frame) (v : View) → eqb (v .ended) 0 ≡ true → eqb (length (v .records)) 0 ≡ false → Rules s v true false fs
+  unfolding viewAfter saysTo
+  among [] v o n = (sym (append-nil (v .records)), refl)
+  among (f ∷ fs) v o n =
+      by-test (hasStatusZ f)
+      (λ z. let h = among fs v o n in rw z (front v v (refuses OUT-OF-PLACE) f fs _ _ (step-astray s v f o n z) (h .0) (h .1)))
+      (λ z. plain v f fs (among fs) o z)
+
+  first : (fs : List Frame) (v : View) → eqb (v .ended) 0 ≡ true → eqb (length (v .records)) 0 ≡ true → Rules s v false false fs
+  unfolding viewAfter saysTo ends
+  first [] v o n = (sym (append-nil (v .records)), refl)
+  first (f ∷ fs) v o n =
+      by-test (hasStatusZ f)
+      (λ z. rw z (taken v f fs [] _ 1 o (rw (z, n)) (by-test (hasStatusE f) (λ e. rw e) (λ e. rw (e, z))) (late true (withMark v f 1) fs refl)))
+      (λ z. let h = plain v f fs (among fs) o z in rw z (rw z at h))
+
+pub fold-is-rule : FoldIsRule
+fold-is-rule s v fs =
+    by-test (eqb (v .ended) 0)
+    (λ o. by-test (eqb (length (v .records)) 0)
+    (λ n. let h = first s fs v o n in record { records = rw (o, n) (h .0); answers = rw (o, n) (h .1) })
+    (λ n. let h = among s fs v o n in record { records = rw (o, n) (h .0); answers = rw (o, n) (h .1) }))
+    (λ o. let h = late s (not (eqb (length (v .records)) 0)) v fs o in record { records = rw o (h .0); answers = rw o (h .1) })

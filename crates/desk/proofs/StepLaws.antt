@@ -6,7 +6,8 @@ use mathlib.Core.Path.{_≡_, refl, sym, ap, _∙_}
 use native.Mathlib.Omega.{arith}
 use lib.ListN.{length}
 use lib.Dec.{eqb, leb, ltb}
-use borrow.Author.Tests.{eqb-true, ltb-true, leb-true, not-true, not-false}
+use borrow.Author.Tests.{ltb-true, leb-true, not-true}
+use Rattle.digits.specs.declared.refusal.Refusal.{Refusal}
 use Rattle.digits.specs.Told.{Told, gives, refuses}
 use Rattle.digits.proofs.Sure.{not-refused}
 use Rattle.frames.specs.Kind.{read}
@@ -18,18 +19,20 @@ use Rattle.desk.specs.declared.state.Seat.{Seat}
 use Rattle.desk.specs.declared.key.Key.{Key}
 use Rattle.desk.specs.declared.opening.Opening.{Opening}
 use Rattle.desk.specs.declared.reply.Taking.{Taking}
+use Rattle.desk.specs.declared.step.Progress.{Progress}
 use Rattle.desk.specs.Limits.{seatCount, mostCells, cellSize}
 use Rattle.desk.specs.Key.{requestKey, keyIn, seatKey, isKey}
 use Rattle.desk.specs.Hearing.{heard, inPlace}
+use Rattle.desk.specs.Step.{progressOf, step, none, goes}
 use Rattle.desk.specs.Seats.{seatAt, usedBit, keyed, keyedAt, seatWith, clearAt, lowestClear}
-use Rattle.desk.specs.Memory.{Memory, capacity, capacityOf}
+use Rattle.desk.specs.Memory.{Memory, capacity, capacityOf, heldBy}
 use Rattle.desk.specs.Desk.{isDesk}
-use Rattle.desk.specs.Calls.{over, keyTried, requestTried, whatIsGiven, openTried, seatTried, labelTried, replyTried}
-use Rattle.digits.proofs.Tests.{and-l, and-r}
-use Rattle.desk.proofs.Below.{first-sound, first-before, count-most}
+use Rattle.desk.specs.Calls.{Outcome, keyTried, requestTried, whatIsGiven, openTried, openOutcome, opens, opened, seatTried, labelTried, replyTried, replyOutcome, replies, taken}
+use Rattle.digits.proofs.Tests.{and-true, and-l, and-r}
+use Rattle.desk.proofs.Below.{first-sound, first-before}
 use Rattle.desk.proofs.KeyLaws.{same-key, request-legal}
 use Rattle.desk.proofs.HearingLaws.{heard-long}
-use Rattle.desk.proofs.ClauseLaws.{Facts, desk-facts}
+use Rattle.desk.proofs.ClauseLaws.{replay-held, goes-step, replayed-most, Facts, desk-facts}
 
 -- ---- answers that are not refusals
 
@@ -42,6 +45,11 @@ module _ {A B : Type 0} where
   given : (x : Told A) (further : A → Told B) (b : B) → whatIsGiven x further ≡ gives b → Given x further b
   given (gives a) further b e = record { one = a; is = refl; rest = e }
   given (refuses why) further b e = absurd (not-refused b why (sym e))
+
+-- ---- a used seat holds as many records as it says
+
+pub held-records : (m : Memory) (s : ℕ) → Facts m → s < seatCount → usedBit (m .bits) s ≡ true → seatAt (m .row) s .held ≡ length (heldBy m s)
+held-records m s d l u = let h = replay-held none (heldBy m s) in ap (λ (p : Progress). p .held) (d .agree s l u) ∙ omega (arith, h)
 
 -- ---- the seat that is found is in use and has the key
 
@@ -66,30 +74,30 @@ pub record Took (m : Memory) (f : List ℕ) (t : Taking) : Type 0 where
   pub status : label .status ≡ t .status
   pub found : seatWith (m .row) (m .bits) (keyIn label) ≡ t .seat
   pub below : t .seat < seatCount
-  pub going : seatAt (m .row) (t .seat) .ended ≡ 0
-  pub placed : inPlace (seatAt (m .row) (t .seat) .held) (t .status) ≡ true
+  pub steps : goes (step (progressOf (seatAt (m .row) (t .seat))) true (t .status)) ≡ true
   pub room : m .count < capacity m
 
 took-seat : (m : Memory) (f : List ℕ) (t : Taking) (c : ReplyLabel) (s : ℕ) → Facts m → heard f ≡ gives c → seatWith (m .row) (m .bits) (keyIn c) ≡ s → s < seatCount
     → seatTried (seatAt (m .row) s) (ltb (m .count) (capacity m)) (record { seat = s; status = c .status }) ≡ gives t → Took m f t
-unfolding seatTried
+unfolding seatTried step
 took-seat m f t c s facts h e l q =
-    let a = tried-gives (not (over (seatAt (m .row) s))) _ _ t q in
-    let b = tried-gives (inPlace (seatAt (m .row) s .held) (c .status)) _ _ t (a .1) in
-    let d = tried-gives (ltb (m .count) (capacity m)) _ _ t (b .1) in
-    let g = d .1 in
+    let p = progressOf (seatAt (m .row) s) in
+    let g = given (step p (ltb (m .count) (capacity m)) (c .status)) _ t q in
+    let a = tried-gives (eqb (p .ended) 0) _ _ _ (g .is) in
+    let b = tried-gives (inPlace (p .held) (c .status)) _ _ _ (a .1) in
+    let d = tried-gives (ltb (m .count) (capacity m)) _ _ _ (b .1) in
+    let w = g .rest in
     let is : record { seat = s; status = c .status } ≡ t = cc in
-    let p : s ≡ t .seat = ap (λ (x : Taking). x .seat) is in
-    let r : c .status ≡ t .status = ap (λ (x : Taking). x .status) is in
+    let ps : s ≡ t .seat = ap (λ (x : Taking). x .seat) is in
+    let pt : c .status ≡ t .status = ap (λ (x : Taking). x .status) is in
     record {
       facts = facts;
       label = c;
       hears = h;
-      status = r;
-      found = e ∙ p;
-      below = rw p at l;
-      going = rw p at (eqb-true (seatAt (m .row) s .ended) 0 (not-false _ (not-true _ (a .0))));
-      placed = rw (p, r) at (b .0);
+      status = pt;
+      found = e ∙ ps;
+      below = rw ps at l;
+      steps = rw (ps, pt) at (goes-step p (c .status) ∙ and-true (a .0) (b .0));
       room = ltb-true _ _ (d .0);
     }
 
@@ -125,9 +133,9 @@ pub took-room : (m : Memory) (f : List ℕ) (t : Taking) → Took m f t → Room
 unfolding capacityOf
 took-room m f t k =
     let r = k .room in
-    let n = count-most (m .count) (λ i. eqb (lib.ListN.getD (m .marks) i 0) (t .seat)) in
-    let h = k .facts .held (t .seat) (k .below) (took-used m f t k) in
-    record { seat = k .below; count = omega arith; marks = omega arith; cells = omega arith; frame = heard-long f (k .label) (k .hears); held = rw h n }
+    let n = replayed-most (m .cells) (m .marks) (t .seat) (m .count) in
+    let h = ap (λ (p : Progress). p .held) (k .facts .agree (t .seat) (k .below) (took-used m f t k)) in
+    record { seat = k .below; count = omega arith; marks = omega arith; cells = omega arith; frame = heard-long f (k .label) (k .hears); held = omega (arith, n, h) }
 
 -- ---- an opening that is taken
 
@@ -138,6 +146,7 @@ pub record Opens (m : Memory) (f : List ℕ) (o : Opening) : Type 0 where
   pub key : requestKey asked ≡ o .key
   pub legal : isKey (o .key) ≡ true
   pub fresh : (i : ℕ) → i < seatCount → keyedAt (m .row) (m .bits) (o .key) i ≡ false
+  pub lowest : o .seat ≡ lowestClear (m .bits)
   pub below : o .seat < seatCount
   pub clear : usedBit (m .bits) (o .seat) ≡ false
 
@@ -166,6 +175,7 @@ opens-key m f o r facts e q =
       key = k;
       legal = rw (← k) (request-legal f r e);
       fresh = rw (← k) (fresh-below (m .row) (m .bits) (requestKey r) (leb-true seatCount _ (a .0)));
+      lowest = sym p;
       below = rw p at l;
       clear = rw p at (lowest-is-clear (m .bits) l);
     }
@@ -177,3 +187,46 @@ opens-taken m f o q =
     let g = given (read request f) (requestTried (m .row) (m .bits)) o (d .1) in
     let a = tried-gives (not (eqb (g .one .information) 113)) _ _ o (g .rest) in
     opens-key m f o (g .one) (desk-facts m (d .0)) (g .is) (a .1)
+
+-- ---- a call is taken or refused
+
+module _ (m : Memory) (f : List ℕ) where
+  pub after-taken : (t : Taking) → replyTried m f ≡ gives t → replies m f ≡ record { answer = gives (t .seat); after = taken m f t }
+  unfolding replies
+  after-taken t e = ap (replyOutcome m f) e
+
+  pub after-refused : (why : Refusal) → replyTried m f ≡ refuses why → replies m f ≡ record { answer = refuses why; after = m }
+  unfolding replies
+  after-refused why e = ap (replyOutcome m f) e
+
+  pub after-opened : (o : Opening) → openTried m f ≡ gives o → opens m f ≡ record { answer = gives (o .seat); after = opened m o }
+  unfolding opens
+  after-opened o e = ap (openOutcome m) e
+
+  pub after-not-opened : (why : Refusal) → openTried m f ≡ refuses why → opens m f ≡ record { answer = refuses why; after = m }
+  unfolding opens
+  after-not-opened why e = ap (openOutcome m) e
+
+  -- what holds of both holds of the call
+  pub by-reply : (P : Outcome → Type 0) → ((t : Taking) → Took m f t → P (record { answer = gives (t .seat); after = taken m f t }))
+      → ((why : Refusal) → P (record { answer = refuses why; after = m })) → P (replies m f)
+  by-reply P h g = go (replyTried m f) refl
+    where
+      go : (a : Told Taking) → replyTried m f ≡ a → P (replies m f)
+      go (gives t) e = rw (after-taken t e) (h t (took m f t e))
+      go (refuses why) e = rw (after-refused why e) (g why)
+
+  pub by-opening : (P : Outcome → Type 0) → ((o : Opening) → Opens m f o → P (record { answer = gives (o .seat); after = opened m o }))
+      → ((why : Refusal) → P (record { answer = refuses why; after = m })) → P (opens m f)
+  by-opening P h g = go (openTried m f) refl
+    where
+      go : (a : Told Opening) → openTried m f ≡ a → P (opens m f)
+      go (gives o) e = rw (after-opened o e) (h o (opens-taken m f o e))
+      go (refuses why) e = rw (after-not-opened why e) (g why)
+
+  -- a refused call changes nothing
+  pub reply-refused : (why : Refusal) → replies m f .answer ≡ refuses why → replies m f .after ≡ m
+  reply-refused why = by-reply (λ (o : Outcome). o .answer ≡ refuses why → o .after ≡ m) (λ t k h. absurd (not-refused (t .seat) why h)) (λ g h. refl)
+
+  pub opening-refused : (why : Refusal) → opens m f .answer ≡ refuses why → opens m f .after ≡ m
+  opening-refused why = by-opening (λ (o : Outcome). o .answer ≡ refuses why → o .after ≡ m) (λ o k h. absurd (not-refused (o .seat) why h)) (λ g h. refl)

@@ -18,13 +18,15 @@ use Rattle.desk.specs.declared.state.Seat.{Seat}
 use Rattle.desk.specs.declared.key.Key.{Key}
 use Rattle.desk.specs.declared.opening.Opening.{Opening}
 use Rattle.desk.specs.declared.reply.Taking.{Taking}
+use Rattle.desk.specs.declared.step.Progress.{Progress}
 use Rattle.desk.specs.Limits.{seatCount}
 use Rattle.desk.specs.Key.{requestKey, keyIn}
 use Rattle.desk.specs.Seats.{seatWith, lowestClear}
 use Rattle.desk.specs.Hearing.{heard, inPlace}
+use Rattle.desk.specs.Step.{progressOf, advanced, step}
 use Rattle.desk.specs.Memory.{Memory, capacity}
 use Rattle.desk.specs.Desk.{isDesk, allSeats}
-use Rattle.desk.specs.Calls.{Outcome, whatIsGiven, letterQ, over, keyTried, requestTried, openTried, openOutcome, opens, seatTried, labelTried, replyTried, replyOutcome, replies, emptied, resets}
+use Rattle.desk.specs.Calls.{Outcome, whatIsGiven, letterQ, keyTried, requestTried, openTried, openOutcome, opens, seatTried, labelTried, replyTried, replyOutcome, replies, emptied, resets}
 
 module _ {A B : Type 0} where
   sure-given : (t : Told A) (further : A → Told B) → Sure t → ((a : A) → Sure (further a)) → Sure (whatIsGiven t further)
@@ -54,13 +56,17 @@ sure-request : (row : List Seat) (bits : ℕ) (r : StaticRequest) → Sure (requ
 unfolding requestTried
 sure-request row bits r = sure-tried (not (eqb (r .information) letterQ)) NO-ANSWER-DUE _ (λ _. refl) (sure-key row bits (requestKey r))
 
+sure-step : (p : Progress) (free : Bool) (status : ℕ) → Sure (step p free status)
+unfolding step
+sure-step p free status =
+    sure-tried (eqb (p .ended) 0) ENDED _ (λ _. refl)
+    (sure-tried (inPlace (p .held) status) OUT-OF-PLACE _ (λ _. refl)
+    (sure-tried free FULL _ (λ _. refl)
+    (sure-gives (advanced p status))))
+
 sure-seat : (s : Seat) (free : Bool) (t : Taking) → Sure (seatTried s free t)
 unfolding seatTried
-sure-seat s free t =
-    sure-tried (not (over s)) ENDED _ (λ _. refl)
-    (sure-tried (inPlace (s .held) (t .status)) OUT-OF-PLACE _ (λ _. refl)
-    (sure-tried free FULL _ (λ _. refl)
-    (sure-gives t)))
+sure-seat s free t = sure-given (step (progressOf s) free (t .status)) _ (sure-step (progressOf s) free (t .status)) (λ p. sure-gives t)
 
 sure-label : (row : List Seat) (bits : ℕ) (free : Bool) (c : ReplyLabel) → Sure (labelTried row bits free c)
 unfolding labelTried

@@ -34,7 +34,8 @@ use Rattle.desk.specs.declared.reply.ReplyAnswer.the-variants.{Taken, Re
 use Rattle.desk.specs.Limits.{seatCount, cellSize}
 use Rattle.desk.specs.Below.{first, countBelow}
 use Rattle.desk.specs.Key.{requestKey, keyIn}
-use Rattle.desk.specs.Hearing.{heard, inPlace, endedBy}
+use Rattle.desk.specs.Hearing.{heard}
+use Rattle.desk.specs.Step.{progressOf, advanced, step}
 use Rattle.desk.specs.Seats.{zeroSeat, seatAt, usedBit, seatWith, lowestClear}
 use Rattle.desk.specs.Memory.{Memory, memory, capacity, capacityOf, markAt}
 use Rattle.desk.specs.Desk.{isDesk, allSeats}
@@ -90,17 +91,9 @@ opens m f = openOutcome m (openTried m f)
 
 -- ---- a reply
 
--- the seat has had its E or Z
-abbrev pub over : Seat → Bool
-over s = not (eqb (s .ended) 0)
-
--- tested in this order: the seat has not ended, a Z is its first record, and a cell is free
+-- the step of the request at a seat
 unfoldable pub seatTried : Seat → Bool → Taking → Told Taking
-seatTried s free t =
-    tried (not (over s)) ENDED
-    (tried (inPlace (s .held) (t .status)) OUT-OF-PLACE
-    (tried free FULL
-    (gives t)))
+seatTried s free t = whatIsGiven (step (progressOf s) free (t .status)) (λ p. gives t)
 
 -- STRAY if no seat has the reply's key; otherwise that seat is tested further
 unfoldable pub labelTried : List Seat → ℕ → Bool → ReplyLabel → Told Taking
@@ -108,13 +101,20 @@ labelTried row bits free l =
     tried (ltb (seatWith row bits (keyIn l)) seatCount) STRAY
     (seatTried (seatAt row (seatWith row bits (keyIn l))) free (record { seat = seatWith row bits (keyIn l); status = l .status }))
 
--- a reply is tested in this order: desk, frame, key, and then the three tests of the seat
+-- a reply is tested in this order: desk, frame, key, and then the three tests of the step
 unfoldable pub replyTried : Memory → List ℕ → Told Taking
 replyTried m f = tried (isDesk m) DESK (whatIsGiven (heard f) (labelTried (m .row) (m .bits) (ltb (m .count) (capacity m))))
 
--- the seat with one more record, ended if the status is E or Z
+-- the seat with one more record
 abbrev pub grown : Seat → ℕ → Seat
-grown s status = record { address = s .address; requester = s .requester; number = s .number; held = s .held + 1; ended = endedBy status }
+grown s status =
+    record {
+      address = s .address;
+      requester = s .requester;
+      number = s .number;
+      held = advanced (progressOf s) status .held;
+      ended = advanced (progressOf s) status .ended;
+    }
 
 -- the cells with the frame f stored over the cell that begins at byte `at`
 abbrev pub withCell : List ℕ → ℕ → List ℕ → List ℕ

@@ -19,7 +19,8 @@ use Rattle.desk.specs.Memory.{Memory, capacity, heldBy}
 use Rattle.desk.specs.Desk.{isDesk}
 use Rattle.desk.specs.Calls.{opens, emptied, seatsInUse}
 use Rattle.desk.specs.Rule.{Frame, kept}
-use Rattle.desk.specs.Mix.{Event, toOpen, toReply, run, openings, Stretch, framesTo, repliesTo}
+use Rattle.desk.specs.Events.{Event, toOpen, toReply, run, openings, framesTo}
+use Rattle.desk.specs.Mix.{Stretch, repliesTo}
 use Rattle.desk.specs.Capture.{captures}
 
 -- ---- a capture is a run of calls

@@ -12,7 +12,8 @@ use Rattle.desk.specs.Memory.{Memory, capacityOf, heldBy}
 use Rattle.desk.specs.declared.opening.OpenRefusal.the-variants.{Desk as open-no-desk, Frame as open-frame, NoAnswerDue, InUse, NoSeat}
 use Rattle.desk.specs.declared.reply.ReplyRefusal.the-variants.{Desk as no-desk, Frame, Stray, Ended, OutOfPlace, Full}
 use Rattle.desk.specs.Calls.{opens, replies, emptied, seatsInUse, openRefused, replyRefused}
-use Rattle.desk.specs.Mix.{Event, toReply, happens, run, openings, repliesTo}
+use Rattle.desk.specs.Events.{Event, toReply, happens, run, openings}
+use Rattle.desk.specs.Mix.{repliesTo}
 
 -- no seats, and lent cells of this many bytes with this many marks
 abbrev pub lending : ℕ → ℕ → Memory

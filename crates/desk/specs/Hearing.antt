@@ -38,5 +38,4 @@ statusIn (gives l) = l .status
 statusIn (refuses f) = 0
 
 abbrev pub endedIn : Told ReplyLabel → ℕ
-endedIn (gives l) = endedBy (l .status)
-endedIn (refuses f) = 0
+endedIn got = endedBy (statusIn got)

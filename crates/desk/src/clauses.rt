@@ -1,6 +1,4 @@
 // The clauses of a desk, tested in one pass over the held cells.
-use crate::hearing::ended_by;
-use crate::hearing::in_place;
 use crate::key::has_key;
 use crate::key::is_key;
 use crate::key::key_in;
@@ -12,6 +10,10 @@ use crate::limits::SEATS;
 use crate::state::Desk;
 use crate::state::Seat;
 use crate::state::capacity;
+use crate::step::Progress;
+use crate::step::Stepped;
+use crate::step::advanced;
+use crate::step::step;
 use frames::reply::ReplyCheck;
 use frames::reply::ReplyLabel;
 use frames::reply::check_reply;
@@ -24,21 +26,17 @@ ghost use Rattle.desk.specs.Limits.{seatCount, mostCells, cellSize};
 ghost use Rattle.desk.specs.Below.{allBelow};
 ghost use Rattle.desk.specs.Memory.{memory};
 ghost use Rattle.desk.specs.Desk.{isDesk, isZero, markNames, apartBelow};
-ghost use Rattle.desk.specs.inside.Clauses.{seatGood, seatGoodAt, apart, turnOf, agrees, agreesAt, rowsHold};
+ghost use Rattle.desk.specs.Replay.{agrees, replays};
+ghost use Rattle.desk.specs.inside.Clauses.{seatGood, seatGoodAt, apart, turnOf, agreesAt};
+ghost use Rattle.desk.specs.inside.Judging.{isTaken};
 
 // The bits of all seats, set.
 const ALL: u64 = 18446744073709551615 >> (64 - SEATS);
 
-// What the rows so far say about one seat: how many marks name it, and its `ended` after the last of these rows.
-pub struct View {
-    pub held: u32,
-    pub ended: u32,
-}
-
-// The view after one more row, and whether that row is good.
+// Whether one more row of a seat is good, and how far the seat has come with it.
 pub struct Turn {
     pub good: bool,
-    pub view: View,
+    pub progress: Progress,
 }
 
 pub fn is_desk(desk: Desk, row: [Seat; SEATS], cells: &[u8], marks: &[u32]) -> bool
@@ -58,7 +56,7 @@ pub fn is_desk(desk: Desk, row: [Seat; SEATS], cells: &[u8], marks: &[u32]) -> b
     if count > capacity(cells.len(), marks.len()) {
         return false;
     }
-    rows_hold(row, bits, count, cells, marks)
+    replay_rows(row, bits, count, cells, marks)
 }
 
 // ---- the seats
@@ -137,57 +135,61 @@ fn mark_names(bits: u64, mark: u32) -> bool
 }
 
 // One more row of a seat: it must be a reply with the seat's key that the seat takes.
-fn one_more(v: View, seat: Seat, got: ReplyCheck) -> Turn
-    requires { ⌜ v .held < mostCells ⌝ }
-    ensures { λ r. ⌜ r ≡ turnOf v seat (checkTold got) ⌝ }
+fn one_more(p: Progress, seat: Seat, got: ReplyCheck) -> Turn
+    requires { ⌜ p .held < mostCells ⌝ }
+    ensures { λ r. ⌜ r ≡ turnOf p seat (checkTold got) ⌝ }
 {
     match got {
-        ReplyCheck::Good(label) => taken_turn(v, seat, label),
+        ReplyCheck::Good(label) => taken_turn(p, seat, label),
         ReplyCheck::Refused(_) => Turn {
             good: false,
-            view: View {
-                held: v.held + 1,
-                ended: 0,
-            },
+            progress: advanced(p, 0),
         },
     }
 }
 
-fn taken_turn(v: View, seat: Seat, label: ReplyLabel) -> Turn
-    requires { ⌜ v .held < mostCells ⌝ }
-    ensures { λ r. ⌜ r ≡ turnOf v seat (gives label) ⌝ }
+fn taken_turn(p: Progress, seat: Seat, label: ReplyLabel) -> Turn
+    requires { ⌜ p .held < mostCells ⌝ }
+    ensures { λ r. ⌜ r ≡ turnOf p seat (gives label) ⌝ }
 {
     let status = label.status;
     let own = same_key(key_of(seat), key_in(label));
-    let placed = (v.ended == 0) & in_place(v.held, status);
-    let view = View {
-        held: v.held + 1,
-        ended: ended_by(status),
-    };
+    let takes = is_taken(step(p, true, status));
     Turn {
-        good: own & placed,
-        view,
+        good: own & takes,
+        progress: advanced(p, status),
     }
 }
 
-// A used seat says what its rows say. A seat that is not in use has no rows.
-fn agree(v: View, seat: Seat, bits: u64, i: usize) -> bool
+fn is_taken(s: Stepped) -> bool
+    ensures { λ r. ⌜ r ≡ isTaken s ⌝ }
+{
+    match s {
+        Stepped::Taken => true,
+        Stepped::Ended => false,
+        Stepped::OutOfPlace => false,
+        Stepped::Full => false,
+    }
+}
+
+// A used seat is where its rows bring it. A seat that is not in use has no rows.
+fn agree(p: Progress, seat: Seat, bits: u64, i: usize) -> bool
     requires { ⌜ i < 64 ⌝ }
-    ensures { λ r. ⌜ r ≡ agrees v seat bits i ⌝ }
+    ensures { λ r. ⌜ r ≡ agrees p seat bits i ⌝ }
 {
     if used(bits, i) {
-        (seat.held == v.held) & (seat.ended == v.ended)
+        (seat.held == p.held) & (seat.ended == p.ended)
     } else {
         true
     }
 }
 
-fn all_agree(views: [View; SEATS], row: [Seat; SEATS], bits: u64) -> bool
-    ensures { λ r. ⌜ r ≡ allBelow seatCount (agreesAt views row bits) ⌝ }
+fn all_agree(reached: [Progress; SEATS], row: [Seat; SEATS], bits: u64) -> bool
+    ensures { λ r. ⌜ r ≡ allBelow seatCount (agreesAt reached row bits) ⌝ }
 {
     let mut i: usize = 0;
     while i < SEATS {
-        if !agree(views[i], row[i], bits, i) {
+        if !agree(reached[i], row[i], bits, i) {
             return false;
         }
         i += 1;
@@ -195,13 +197,19 @@ fn all_agree(views: [View; SEATS], row: [Seat; SEATS], bits: u64) -> bool
     true
 }
 
-// Tests all rows. Each mark and each cell is read once.
-fn rows_hold(row: [Seat; SEATS], bits: u64, count: usize, cells: &[u8], marks: &[u32]) -> bool
+// Replays all rows. Each mark and each cell is read once.
+fn replay_rows(
+    row: [Seat; SEATS],
+    bits: u64,
+    count: usize,
+    cells: &[u8],
+    marks: &[u32],
+) -> bool
     requires { ⌜ (count ≤ mostCells) × ((count ≤ length (now marks)) × (count * cellSize ≤ length (now cells))) ⌝ }
-    ensures { λ r. ⌜ r ≡ rowsHold row bits count (now (cells .entry)) (now (marks .entry)) ⌝ }
+    ensures { λ r. ⌜ r ≡ replays row bits count (now (cells .entry)) (now (marks .entry)) ⌝ }
 {
-    let none = View { held: 0, ended: 0 };
-    let mut views = [none; SEATS];
+    let none = Progress { held: 0, ended: 0 };
+    let mut reached = [none; SEATS];
     let mut i: usize = 0;
     while i < count {
         let m = marks[i];
@@ -211,13 +219,13 @@ fn rows_hold(row: [Seat; SEATS], bits: u64, count: usize, cells: &[u8], marks: &
         let s = m as usize;
         let a = i * CELL_SIZE;
         let e = a + CELL_SIZE;
-        let t = one_more(views[s], row[s], check_reply(&cells[a..e]));
+        let t = one_more(reached[s], row[s], check_reply(&cells[a..e]));
         if !t.good {
             return false;
         }
-        let v = t.view;
-        views[s] = v;
+        let p = t.progress;
+        reached[s] = p;
         i += 1;
     }
-    all_agree(views, row, bits)
+    all_agree(reached, row, bits)
 }

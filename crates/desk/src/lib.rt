@@ -8,3 +8,4 @@ pub mod limits;
 pub mod opening;
 pub mod reply;
 pub mod state;
+mod step;

@@ -1,7 +1,5 @@
 // A reply: sorted to the seat with its key, and kept.
 use crate::clauses::is_desk;
-use crate::hearing::ended_by;
-use crate::hearing::in_place;
 use crate::key::find;
 use crate::key::key_in;
 use crate::limits::CELL_SIZE;
@@ -10,6 +8,10 @@ use crate::state::Desk;
 use crate::state::Seat;
 use crate::state::capacity;
 use crate::state::with_seat;
+use crate::step::Stepped;
+use crate::step::advanced;
+use crate::step::progress_of;
+use crate::step::step;
 use digits::put_bytes;
 use digits::refusal as table;
 use digits::refusal::Refusal;
@@ -175,16 +177,11 @@ fn label_judged(row: [Seat; SEATS], bits: u64, free: bool, label: ReplyLabel) ->
 fn seat_judged(seat: Seat, free: bool, t: Taking) -> ReplyJudged
     ensures { λ r. ⌜ replyJudged r ≡ seatTried seat free t ⌝ }
 {
-    if seat.ended != 0 {
-        return ReplyJudged::Refuses(ReplyRefusal::Ended);
-    }
-    if !in_place(seat.held, t.status) {
-        return ReplyJudged::Refuses(ReplyRefusal::OutOfPlace);
-    }
-    if free {
-        ReplyJudged::Takes(t)
-    } else {
-        ReplyJudged::Refuses(ReplyRefusal::Full)
+    match step(progress_of(seat), free, t.status) {
+        Stepped::Taken => ReplyJudged::Takes(t),
+        Stepped::Ended => ReplyJudged::Refuses(ReplyRefusal::Ended),
+        Stepped::OutOfPlace => ReplyJudged::Refuses(ReplyRefusal::OutOfPlace),
+        Stepped::Full => ReplyJudged::Refuses(ReplyRefusal::Full),
     }
 }
 
@@ -192,11 +189,12 @@ fn grown_seat(seat: Seat, status: u8) -> Seat
     requires { ⌜ seat .held < mostCells ⌝ }
     ensures { λ r. ⌜ r ≡ grown seat status ⌝ }
 {
+    let p = advanced(progress_of(seat), status);
     Seat {
         address: seat.address,
         requester: seat.requester,
         number: seat.number,
-        held: seat.held + 1,
-        ended: ended_by(status),
+        held: p.held,
+        ended: p.ended,
     }
 }

@@ -25,6 +25,7 @@ use Rattle.finder.specs.Pieces.{Piece, whole, cut, pieces, walk, piecesFrom}
 use Rattle.desk.specs.Below.{allBelow, countBelow, first}
 use Rattle.desk.specs.Key.{sameKey, isKey}
 use Rattle.desk.specs.Hearing.{heard, ends, inPlace}
+use Rattle.desk.specs.Step.{step}
 use Rattle.desk.specs.Seats.{keyed, seatWith, lowestClear}
 use Rattle.desk.specs.declared.capture.Counts.{Counts}
 use Rattle.desk.specs.Memory.{Memory, capacityOf, recordsOf}
@@ -87,11 +88,11 @@ abbrev four : Counts
 four = record { opened = 2; collected = 3; dynamic = 1; refused = 2 }
 
 after-small : afterAll (store (replicate 204 0) (replicate 4 0)) found ≡ kept
-unfolding numberAt numberFrom oneOf ticksOf between upTo isAddress isRaw isRequester isOutput allFrom fieldsOf headTold read timingKind timed Q.isInformation Q.isRequestChannel Q.requestFields isStatus P.isLetter P.isReplyChannel P.leastRun P.fromBib P.replyFields D.isOrder D.isDynamicChannel D.leastPeriod D.dynamicFields allBelow countBelow first sameKey isKey heard ends inPlace keyed seatWith lowestClear capacityOf isZero markNames lastEnds isDesk keyTried requestTried openTried opens seatTried labelTried replyTried replies meets fates afterAll howMany
+unfolding numberAt numberFrom oneOf ticksOf between upTo isAddress isRaw isRequester isOutput allFrom fieldsOf headTold read timingKind timed Q.isInformation Q.isRequestChannel Q.requestFields isStatus P.isLetter P.isReplyChannel P.leastRun P.fromBib P.replyFields D.isOrder D.isDynamicChannel D.leastPeriod D.dynamicFields allBelow countBelow first sameKey isKey heard ends inPlace keyed seatWith lowestClear capacityOf isZero markNames lastEnds isDesk keyTried requestTried openTried opens step seatTried labelTried replyTried replies meets fates afterAll howMany
 after-small = refl
 
 counts-small : countsOf (fates (store (replicate 204 0) (replicate 4 0)) found) ≡ four
-unfolding numberAt numberFrom oneOf ticksOf between upTo isAddress isRaw isRequester isOutput allFrom fieldsOf headTold read timingKind timed Q.isInformation Q.isRequestChannel Q.requestFields isStatus P.isLetter P.isReplyChannel P.leastRun P.fromBib P.replyFields D.isOrder D.isDynamicChannel D.leastPeriod D.dynamicFields allBelow countBelow first sameKey isKey heard ends inPlace keyed seatWith lowestClear capacityOf isZero markNames lastEnds isDesk keyTried requestTried openTried opens seatTried labelTried replyTried replies meets fates afterAll howMany
+unfolding numberAt numberFrom oneOf ticksOf between upTo isAddress isRaw isRequester isOutput allFrom fieldsOf headTold read timingKind timed Q.isInformation Q.isRequestChannel Q.requestFields isStatus P.isLetter P.isReplyChannel P.leastRun P.fromBib P.replyFields D.isOrder D.isDynamicChannel D.leastPeriod D.dynamicFields allBelow countBelow first sameKey isKey heard ends inPlace keyed seatWith lowestClear capacityOf isZero markNames lastEnds isDesk keyTried requestTried openTried opens step seatTried labelTried replyTried replies meets fates afterAll howMany
 counts-small = refl
 
 text-small : listText kept four

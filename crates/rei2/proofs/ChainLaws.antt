@@ -14,7 +14,8 @@ use Rattle.desk.specs.Memory.{Memory, memory, capacity}
 use Rattle.desk.specs.Desk.{allSeats}
 use Rattle.desk.specs.Calls.{Outcome, resets, opens, replies, emptied}
 use Rattle.desk.specs.Rule.{Frame}
-use Rattle.desk.specs.Mix.{Event, run, openings, repliesTo, Sorted}
+use Rattle.desk.specs.Events.{Event, run, openings}
+use Rattle.desk.specs.Mix.{repliesTo, Sorted}
 use Rattle.desk.proofs.SureLaws.{sure-opens}
 use Rattle.desk.proofs.MixLaws.{sorts-opened-requests}
 use Rattle.rei2.specs.declared.lent.DeskAnswer.{DeskAnswer}

@@ -19,7 +19,7 @@ use Rattle.finder.specs.Pieces.{foundFrom}
 use Rattle.desk.specs.Memory.{Memory, memory}
 use Rattle.desk.specs.Calls.{resets, opens, replies, nextHeld}
 use Rattle.desk.specs.Capture.{captures}
-use Rattle.desk.specs.Mix.{run, openings}
+use Rattle.desk.specs.Events.{run, openings}
 use Rattle.desk.specs.Cases.{askingAt, asking, replyFrom, replying, bare, asked, sixteen}
 use Rattle.listing.specs.Listing.{listed}
 use Rattle.rei2.specs.declared.lent.DeskAnswer.{DeskAnswer}

@@ -13,7 +13,8 @@ use Rattle.desk.specs.declared.state.Desk.{Desk}
 use Rattle.desk.specs.declared.key.Key.{Key}
 use Rattle.desk.specs.Memory.{Memory, memory, capacityOf}
 use Rattle.desk.specs.Rule.{Frame}
-use Rattle.desk.specs.Mix.{Event, toOpen, toReply, happens, run, openings, Stretch, repliesTo, Sorted}
+use Rattle.desk.specs.Events.{Event, toOpen, toReply, happens, run, openings}
+use Rattle.desk.specs.Mix.{Stretch, repliesTo, Sorted}
 use Rattle.rei2.specs.declared.lent.DeskAnswer.{DeskAnswer}
 use Rattle.rei2.specs.Lent.{answerOf, ResetLent, OpenLent, ReplyLent}
 

@@ -1,7 +1,7 @@
 -- `desk::clauses::agree` meets its contract. Assumes nothing.
 use mathlib.Core.Path.{refl}
 use borrow.Author.Needs.{needs}
-use Rattle.desk.specs.inside.Clauses.{agrees}
+use Rattle.desk.specs.Replay.{agrees}
 use Rattle.desk.proofs.ClauseLaws.{if-yes, if-no}
 use Rattle.desk.proofs.clauses.agree.Statement.{statement}
 use Rattle.desk.proofs.clauses.agree.Tie as tie

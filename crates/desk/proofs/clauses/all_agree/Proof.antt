@@ -1,4 +1,4 @@
--- `desk::clauses::all_agree` meets its contract: all seats so far say what their rows say. Assumes nothing.
+-- `desk::clauses::all_agree` meets its contract: all seats so far are where their rows bring them. Assumes nothing.
 use Prim.Native.Nat.{_≤_, _-_}
 use mathlib.Core.Bool.{true}
 use mathlib.Core.Path.{_≡_, refl, sym}
@@ -11,10 +11,10 @@ use Rattle.desk.proofs.clauses.all_agree.Statement.{statement}
 use Rattle.desk.proofs.clauses.all_agree.Tie as tie
 
 abbrev Inv-loop : tie.InvT-loop
-Inv-loop bits views row i₀ i = (i ≤ seatCount) × (allBelow i (agreesAt views row bits) ≡ true)
+Inv-loop bits reached row i₀ i = (i ≤ seatCount) × (allBelow i (agreesAt reached row bits) ≡ true)
 
 abbrev μ-loop : tie.MeasureT-loop
-μ-loop bits views row i₀ i = seatCount - i
+μ-loop bits reached row i₀ i = seatCount - i
 
 loop-holds : tie.Need-loop-holds Inv-loop μ-loop
 unfolding allBelow

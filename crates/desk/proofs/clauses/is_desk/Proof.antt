@@ -3,7 +3,7 @@ use Prim.Native.Nat.{_^_}
 use native.Mathlib.Omega.{arith}
 use borrow.Author.Needs.{needs}
 use borrow.Author.Tests.{lt-ltb, le-ltb, le-leb, lt-leb}
-use Rattle.desk.specs.inside.Clauses.{rowsHold}
+use Rattle.desk.specs.Replay.{replays}
 use Rattle.desk.specs.Limits.{seatCount}
 use Rattle.desk.specs.Memory.{memory, capacity}
 use Rattle.desk.proofs.Below.{not-came, not-left, past, out}
@@ -51,15 +51,15 @@ returns-4 c =
     desk-by m (search needs)
     (past (lt-ltb (m .bits) (2 ^ seatCount) (omega arith)) (past (not-left (c .before .before .before .before .before .before .seats-good .ensures) (c .before .before .before .before .before .if2 .left)) (past (not-left (c .before .before .before .before .all-apart .ensures) (c .before .before .before .if3 .left)) (out _ (lt-leb (m .count) (capacity m) (omega arith))))))
 
-rows-hold-requires : tie.Need-rows-hold-requires
-rows-hold-requires c κs = cap-room _ _ _ (omega arith)
+replay-rows-requires : tie.Need-replay-rows-requires
+replay-rows-requires c κs = cap-room _ _ _ (omega arith)
 
 returns-5 : tie.Need-returns-5
 returns-5 c =
     let a = c .before .before .before .before .before .before .before .before .before .before .before .args in
     let m = memory (a .desk) (a .row) (a .cells .now) (a .marks .now) in
     desk-by m (search needs)
-    (past (lt-ltb (m .bits) (2 ^ seatCount) (omega arith)) (past (not-left (c .before .before .before .before .before .before .before .seats-good .ensures) (c .before .before .before .before .before .before .if2 .left)) (past (not-left (c .before .before .before .before .before .all-apart .ensures) (c .before .before .before .before .if3 .left)) (past {b = rowsHold (m .row) (m .bits) (m .count) (m .cells) (m .marks)} (le-leb (m .count) (capacity m) (omega arith)) (c .rows-hold .ensures)))))
+    (past (lt-ltb (m .bits) (2 ^ seatCount) (omega arith)) (past (not-left (c .before .before .before .before .before .before .before .seats-good .ensures) (c .before .before .before .before .before .before .if2 .left)) (past (not-left (c .before .before .before .before .before .all-apart .ensures) (c .before .before .before .before .if3 .left)) (past {b = replays (m .row) (m .bits) (m .count) (m .cells) (m .marks)} (le-leb (m .count) (capacity m) (omega arith)) (c .replay-rows .ensures)))))
 
 pub is-desk-spec : {M : Type 1} → statement M
 is-desk-spec =
@@ -73,5 +73,5 @@ is-desk-spec =
     cast-count
     capacity-requires
     returns-4
-    rows-hold-requires
+    replay-rows-requires
     returns-5)

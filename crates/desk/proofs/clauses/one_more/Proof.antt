@@ -13,15 +13,16 @@ taken-turn-requires c κs = search needs
 enum-told : tie.Need-enum-told
 enum-told c = search needs
 
-add-t6 : tie.Need-add-t6
-add-t6 c = search needs
+advanced-requires : tie.Need-advanced-requires
+advanced-requires c κs = search needs
 
 returns : tie.Need-returns
 returns c = rw (c .before .before .got .given .1) (c .taken-turn .ensures)
 
 returns-2 : tie.Need-returns-2
-returns-2 c = turn-refused _ _ _ _ (c .before .enum-told .given .1)
+returns-2 c = turn-refused _ _ _ _ _ (c .advanced .ensures) (c .before .enum-told .given .1)
 
 pub one-more-spec : {M : Type 1} → statement M
 one-more-spec =
-    tie.close (tie.spec enum-known-got taken-turn-requires enum-told add-t6 returns returns-2)
+    tie.close
+    (tie.spec enum-known-got taken-turn-requires enum-told advanced-requires returns returns-2)

@@ -1,29 +1,50 @@
 -- `desk::reply::seat_judged` meets its contract. Assumes nothing.
-use borrow.Author.Tests.{eq-eqb, ne-eqb}
-use Rattle.desk.specs.Calls.{seatTried}
-use Rattle.desk.proofs.Below.{not-came, not-left}
+use Rattle.desk.proofs.OutcomeLaws.{step-judged}
 use borrow.Author.Needs.{needs}
 use Rattle.desk.proofs.reply.seat_judged.Statement.{statement}
 use Rattle.desk.proofs.reply.seat_judged.Tie as tie
 
-returns : tie.Need-returns
-unfolding seatTried
-returns c = rw (ne-eqb _ 0 (c .if1 .taken))
+progress-of-requires : tie.Need-progress-of-requires
+progress-of-requires c κs = search needs
 
-in-place-requires : tie.Need-in-place-requires
-in-place-requires c κs = search needs
+step-requires : tie.Need-step-requires
+step-requires c κs = search needs
+
+enum-told : tie.Need-enum-told
+enum-told c = search needs
+
+enum-told-2 : tie.Need-enum-told-2
+enum-told-2 c = search needs
+
+enum-told-3 : tie.Need-enum-told-3
+enum-told-3 c = search needs
+
+enum-told-4 : tie.Need-enum-told-4
+enum-told-4 c = search needs
+
+returns : tie.Need-returns
+returns c = step-judged _ _ _ (c .before .before .before .progress-of .ensures) (c .before .before .step .ensures) (c .enum-told .given .1)
 
 returns-2 : tie.Need-returns-2
-unfolding seatTried
-returns-2 c = rw (eq-eqb _ 0 (c .before .before .if1 .left), not-came (c .before .in-place .ensures) (c .if2 .taken))
+returns-2 c = step-judged _ _ _ (c .before .before .before .progress-of .ensures) (c .before .before .step .ensures) (c .enum-told2 .given .1)
 
 returns-3 : tie.Need-returns-3
-unfolding seatTried
-returns-3 c = rw (eq-eqb _ 0 (c .before .before .before .if1 .left), not-left (c .before .before .in-place .ensures) (c .before .if2 .left), c .if3 .taken)
+returns-3 c = step-judged _ _ _ (c .before .before .before .progress-of .ensures) (c .before .before .step .ensures) (c .enum-told3 .given .1)
 
 returns-4 : tie.Need-returns-4
-unfolding seatTried
-returns-4 c = rw (eq-eqb _ 0 (c .before .before .before .if1 .left), not-left (c .before .before .in-place .ensures) (c .before .if2 .left), c .if3 .left)
+returns-4 c = step-judged _ _ _ (c .before .before .before .progress-of .ensures) (c .before .before .step .ensures) (c .enum-told4 .given .1)
 
 pub seat-judged-spec : {M : Type 1} → statement M
-seat-judged-spec = tie.close (tie.spec returns in-place-requires returns-2 returns-3 returns-4)
+seat-judged-spec =
+    tie.close
+    (tie.spec
+    progress-of-requires
+    step-requires
+    enum-told
+    enum-told-2
+    enum-told-3
+    enum-told-4
+    returns
+    returns-2
+    returns-3
+    returns-4)

@@ -1,29 +1,30 @@
--- `desk::clauses::rows_hold` meets its contract: all rows so far are good, and the views are what they say. Assumes nothing.
+-- `desk::clauses::replay_rows` meets its contract: all rows so far are good, and the seats are where they bring them. Assumes nothing.
 use Prim.Native.Nat.{ℕ, _≤_, _<_, _-_}
 use mathlib.Core.Bool.{true}
 use mathlib.Core.Path.{_≡_, refl, sym, ap, _∙_}
-use lib.Dec.{eqb}
 use lib.ListN.{getD}
 use native.Mathlib.Omega.{arith}
 use borrow.Author.Needs.{needs}
 use Rattle.desk.specs.Below.{allBelow}
 use Rattle.desk.specs.Hearing.{heard}
 use Rattle.desk.specs.Desk.{markGood}
-use Rattle.desk.specs.inside.Clauses.{turnOf, rowGood, rowsHold, noView}
+use Rattle.desk.specs.Step.{none}
+use Rattle.desk.specs.Replay.{rowGood, replays}
+use Rattle.desk.specs.inside.Clauses.{turnOf}
 use Rattle.desk.specs.Limits.{seatCount}
 use Rattle.desk.specs.Memory.{markAt, cellAt}
 use Rattle.desk.specs.Seats.{seatAt}
 use Rattle.digits.proofs.Tests.{and-true}
-use Rattle.desk.proofs.Below.{all-more, all-fails, all-to, not-came, not-left, past, out, count-most, and-false-r}
-use Rattle.desk.proofs.ClauseLaws.{part-cell, Tracks, tracks-none, tracks-next, turn-good, mark-seat, all-agree}
-use Rattle.desk.proofs.clauses.rows_hold.Statement.{statement}
-use Rattle.desk.proofs.clauses.rows_hold.Tie as tie
+use Rattle.desk.proofs.Below.{all-more, all-fails, all-to, not-came, not-left, past, out, and-false-r}
+use Rattle.desk.proofs.ClauseLaws.{replayed-most, part-cell, Tracks, tracks-none, tracks-next, turn-good, mark-seat, all-agree}
+use Rattle.desk.proofs.clauses.replay_rows.Statement.{statement}
+use Rattle.desk.proofs.clauses.replay_rows.Tie as tie
 
 abbrev Inv-loop : tie.InvT-loop
-Inv-loop bits count cells marks row views₀ i₀ views i = (i ≤ count) × ((allBelow i (rowGood row bits cells marks) ≡ true) × Tracks cells marks i views)
+Inv-loop bits count cells marks row reached₀ i₀ reached i = (i ≤ count) × ((allBelow i (rowGood row bits cells marks) ≡ true) × Tracks cells marks i reached)
 
 abbrev μ-loop : tie.MeasureT-loop
-μ-loop bits count cells marks row views₀ i₀ views i = count - i
+μ-loop bits count cells marks row reached₀ i₀ reached i = count - i
 
 loop-holds : tie.Need-loop-holds Inv-loop μ-loop
 unfolding allBelow
@@ -39,7 +40,7 @@ mark-names-requires : tie.Need-mark-names-requires Inv-loop μ-loop
 mark-names-requires c κs = search needs
 
 returns : tie.Need-returns Inv-loop μ-loop
-unfolding rowsHold
+unfolding replays
 returns c = out _ (all-fails _ (c .before .before .before .before .loop .i) _ (search needs) (sym (out _ (not-came (c .before .mark-names .ensures) (c .if1 .taken)))))
 
 cast-s : tie.Need-cast-s Inv-loop μ-loop
@@ -81,27 +82,27 @@ one-more-requires c κs =
     let i : ℕ = c .before .before .before .before .before .before .before .before .loop .i in
     let l : markAt (a .marks .now) i < seatCount = mark-seat _ _ (not-left (c .before .before .before .before .before .mark-names .ensures) (c .before .before .before .before .if1 .left)) in
     let e = c .before .before .before .before .before .before .before .before .loop .inv .1 .1 .each (markAt (a .marks .now) i) l in
-    let n = count-most i (λ j. eqb (markAt (a .marks .now) j) (markAt (a .marks .now) i)) in
+    let n = replayed-most (a .cells .now) (a .marks .now) (markAt (a .marks .now) i) i in
     rw e (omega arith)
 
 returns-2 : tie.Need-returns-2 Inv-loop μ-loop
-unfolding rowsHold heard
+unfolding replays heard
 returns-2 c =
     let a = c .before .before .before .before .before .before .before .before .before .before .before .before .before .before .args in
     let i : ℕ = c .before .before .before .before .before .before .before .before .before .before .before .loop .i in
     let k = c .before .before .before .before .before .before .before .before .before .before .before .loop .inv .1 .1 in
-    let views = c .before .before .before .before .before .before .before .before .before .before .before .loop .views in
+    let reached = c .before .before .before .before .before .before .before .before .before .before .before .loop .reached in
     let t = c .before .before .one-more .result in
     let l : markAt (a .marks .now) i < seatCount = mark-seat _ _ (not-left (c .before .before .before .before .before .before .before .before .mark-names .ensures) (c .before .before .before .before .before .before .before .if1 .left)) in
-    let e : t ≡ turnOf (getD views (markAt (a .marks .now) i) noView) (seatAt (a .t1) (markAt (a .marks .now) i)) (heard (cellAt (a .cells .now) i)) =
+    let e : t ≡ turnOf (getD reached (markAt (a .marks .now) i) none) (seatAt (a .t1) (markAt (a .marks .now) i)) (heard (cellAt (a .cells .now) i)) =
     c .before .before .one-more .ensures ∙ ap (turnOf _ _) (c .before .before .before .check-reply .ensures ∙ ap heard (part-cell (a .cells .now) i)) in
-    out _ (all-fails _ i _ (search needs) (and-false-r (markGood (a .bits) (a .marks .now) i) (not-came (turn-good (a .t1) (a .cells .now) (a .marks .now) i views k l t e) (c .if2 .taken))))
+    out _ (all-fails _ i _ (search needs) (and-false-r (markGood (a .bits) (a .marks .now) i) (not-came (turn-good (a .t1) (a .cells .now) (a .marks .now) i reached k l t e) (c .if2 .taken))))
 
-mul-views : tie.Need-mul-views Inv-loop μ-loop
-mul-views c = omega (arith, mark-seat _ _ (not-left (c .before .before .before .before .before .before .before .before .before .mark-names .ensures) (c .before .before .before .before .before .before .before .before .if1 .left)))
+mul-reached : tie.Need-mul-reached Inv-loop μ-loop
+mul-reached c = omega (arith, mark-seat _ _ (not-left (c .before .before .before .before .before .before .before .before .before .mark-names .ensures) (c .before .before .before .before .before .before .before .before .if1 .left)))
 
-array-set-from-views : tie.Need-array-set-from-views Inv-loop μ-loop
-array-set-from-views c = mark-seat _ _ (not-left (c .before .before .before .before .before .before .before .before .before .mark-names .ensures) (c .before .before .before .before .before .before .before .before .if1 .left))
+array-set-from-reached : tie.Need-array-set-from-reached Inv-loop μ-loop
+array-set-from-reached c = mark-seat _ _ (not-left (c .before .before .before .before .before .before .before .before .before .mark-names .ensures) (c .before .before .before .before .before .before .before .before .if1 .left))
 
 add-i : tie.Need-add-i Inv-loop μ-loop
 add-i c = search needs
@@ -115,27 +116,27 @@ loop-again c =
     let a = c .before .before .before .before .before .before .before .before .before .before .before .before .before .before .before .args in
     let i : ℕ = c .before .before .before .before .before .before .before .before .before .before .before .before .loop .i in
     let k = c .before .before .before .before .before .before .before .before .before .before .before .before .loop .inv .1 .1 in
-    let views = c .before .before .before .before .before .before .before .before .before .before .before .before .loop .views in
+    let reached = c .before .before .before .before .before .before .before .before .before .before .before .before .loop .reached in
     let t = c .before .before .before .one-more .result in
     let l : markAt (a .marks .now) i < seatCount = mark-seat _ _ (not-left (c .before .before .before .before .before .before .before .before .before .mark-names .ensures) (c .before .before .before .before .before .before .before .before .if1 .left)) in
-    let e : t ≡ turnOf (getD views (markAt (a .marks .now) i) noView) (seatAt (a .t1) (markAt (a .marks .now) i)) (heard (cellAt (a .cells .now) i)) =
+    let e : t ≡ turnOf (getD reached (markAt (a .marks .now) i) none) (seatAt (a .t1) (markAt (a .marks .now) i)) (heard (cellAt (a .cells .now) i)) =
     c .before .before .before .one-more .ensures ∙ ap (turnOf _ _) (c .before .before .before .before .check-reply .ensures ∙ ap heard (part-cell (a .cells .now) i)) in
-    (search needs, (all-more _ _ (c .before .before .before .before .before .before .before .before .before .before .before .before .loop .inv .1 .0) (and-true (not-left (c .before .before .before .before .before .before .before .before .before .mark-names .ensures) (c .before .before .before .before .before .before .before .before .if1 .left)) (not-left (turn-good (a .t1) (a .cells .now) (a .marks .now) i views k l t e) (c .before .if2 .left))), tracks-next (a .t1) (a .cells .now) (a .marks .now) i views k l t e))
+    (search needs, (all-more _ _ (c .before .before .before .before .before .before .before .before .before .before .before .before .loop .inv .1 .0) (and-true (not-left (c .before .before .before .before .before .before .before .before .before .mark-names .ensures) (c .before .before .before .before .before .before .before .before .if1 .left)) (not-left (turn-good (a .t1) (a .cells .now) (a .marks .now) i reached k l t e) (c .before .if2 .left))), tracks-next (a .t1) (a .cells .now) (a .marks .now) i reached k l t e))
 
 all-agree-requires : tie.Need-all-agree-requires Inv-loop μ-loop
 all-agree-requires c κs = search needs
 
 returns-3 : tie.Need-returns-3 Inv-loop μ-loop
-unfolding rowsHold
+unfolding replays
 returns-3 c =
     let a = c .before .before .before .before .before .args in
     let i : ℕ = c .before .before .loop .i in
     let n : i ≡ a .count = search needs in
     past (all-to i (a .count) _ n (c .before .before .loop .inv .1 .0))
-    (c .all-agree .ensures ∙ all-agree (a .t1) (a .bits) (a .count) (a .cells .now) (a .marks .now) (c .before .before .loop .views) (rw n at (c .before .before .loop .inv .1 .1)))
+    (c .all-agree .ensures ∙ all-agree (a .t1) (a .bits) (a .count) (a .cells .now) (a .marks .now) (c .before .before .loop .reached) (rw n at (c .before .before .loop .inv .1 .1)))
 
-pub rows-hold-spec : {M : Type 1} → statement M
-rows-hold-spec =
+pub replay-rows-spec : {M : Type 1} → statement M
+replay-rows-spec =
     tie.close
     (tie.spec
     Inv-loop
@@ -158,8 +159,8 @@ rows-hold-spec =
     check-reply-requires
     one-more-requires
     returns-2
-    mul-views
-    array-set-from-views
+    mul-reached
+    array-set-from-reached
     add-i
     loop-less
     loop-again
