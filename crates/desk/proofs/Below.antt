@@ -1,6 +1,6 @@
 -- Laws of tests, and of tests over the numbers below a bound. Assumes nothing.
 use Prim.Native.Nat.{ℕ, zero, suc, _+_, _≤_, _<_}
-use mathlib.Core.Bool.{Bool, true, false, cond, not, _&&_}
+use mathlib.Core.Bool.{Bool, true, false, not, _&&_}
 use mathlib.Core.Path.{_≡_, refl, sym, ap, ap₂, _∙_}
 use native.Mathlib.Omega.{arith}
 use native.Mathlib.Numerals.{add-one}
@@ -111,10 +111,6 @@ pub count-most : (n : ℕ) (p : ℕ → Bool) → countBelow n p ≤ n
 unfolding countBelow
 count-most zero p = omega arith
 count-most (suc n) p = let h = count-most n p in by-test (p n) (λ e. rw e (omega arith)) (λ e. rw e (omega arith))
-
-pub count-more : (n : ℕ) (p : ℕ → Bool) → countBelow (n + 1) p ≡ cond (p n) (countBelow n p + 1) (countBelow n p)
-unfolding countBelow
-count-more n p = rw (add-one n, add-one (countBelow n p))
 
 pub count-ext : (n : ℕ) (p q : ℕ → Bool) → ((k : ℕ) → k < n → p k ≡ q k) → countBelow n p ≡ countBelow n q
 unfolding countBelow

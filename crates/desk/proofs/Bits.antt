@@ -137,6 +137,15 @@ ones-count (suc w) b h =
     let z : cond (usedBit b 0) 1 0 ≡ b % 2 = ap (λ (x : Bool). cond {A = ℕ} x 1 0) (used-zero b) ∙ sym (parity b) in
     ones-step b ∙ omega (arith, i, j, f, z)
 
+-- numbers with the same bits are the same
+pub same-bits : (k b c : ℕ) → b < 2 ^ k → c < 2 ^ k → ((i : ℕ) → i < k → usedBit b i ≡ usedBit c i) → b ≡ c
+same-bits zero b c l m h = let z : 2 ^ 0 ≡ 1 = pow-zero 2 in omega arith
+same-bits (suc k) b c l m h =
+    let t = twice k in
+    let e = same-bits k (b / 2) (c / 2) (omega arith) (omega arith) (λ i j. sym (used-suc b i) ∙ h (suc i) (omega arith) ∙ used-suc c i) in
+    let low : b % 2 ≡ c % 2 = parity b ∙ ap (λ (x : Bool). cond {A = ℕ} x 1 0) (sym (used-zero b) ∙ h 0 (omega arith) ∙ used-zero c) ∙ sym (parity c) in
+    omega arith
+
 -- ---- 1 shifted to a seat's place
 
 pub shl-one : (s : ℕ) → s < 64 → 1 * 2 ^ s % 18446744073709551616 ≡ 2 ^ s

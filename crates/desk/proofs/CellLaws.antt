@@ -10,16 +10,15 @@ use Rattle.frames.specs.Dynamic.{dynamic}
 use Rattle.frames.specs.declared.dynamic.DynamicRequest.{DynamicRequest}
 use Rattle.finder.specs.Pieces.{Piece, whole, cut}
 use Rattle.desk.specs.declared.opening.Opening.{Opening}
-use Rattle.desk.specs.declared.reply.Taking.{Taking}
 use Rattle.desk.specs.declared.capture.Fate.{Fate}
 use Rattle.desk.specs.declared.capture.Fate.the-variants.{Opened, Collected}
 use Rattle.desk.specs.Seats.{usedBit}
 use Rattle.desk.specs.Memory.{Memory}
-use Rattle.desk.specs.Calls.{openTried, openOutcome, opens, opened, replyTried, replyOutcome, replies, seatsInUse}
+use Rattle.desk.specs.Calls.{Outcome, opened, seatsInUse}
 use Rattle.desk.specs.Capture.{fateBy, dynamicFate, Step, meets, meetsPiece, fates, afterAll, isOpened, isCollected, howMany}
 use Rattle.desk.proofs.Below.{count-turned}
 use Rattle.desk.proofs.CaptureLaws.{by-lead}
-use Rattle.desk.proofs.StepLaws.{Opens, opens-taken}
+use Rattle.desk.proofs.StepLaws.{Opens, by-reply, by-opening}
 use Rattle.desk.proofs.DeskLaws.{opened-bit, other-bit}
 
 -- ---- a number that grows by one with each frame of a certain fate
@@ -43,23 +42,16 @@ module _ (size : Memory → ℕ) (test : Fate → Bool) (one : (m : Memory) (p :
 
 -- ---- one more cell for each reply that is collected
 
-open-cells : (m : Memory) (t : Told Opening) → openOutcome m t .after .count ≡ m .count + cond (isCollected (fateBy Opened (openOutcome m t .answer))) 1 0
-open-cells m (gives o) = omega arith
-open-cells m (refuses why) = omega arith
-
-reply-cells : (m : Memory) (f : List ℕ) (t : Told Taking) → replyOutcome m f t .after .count ≡ m .count + cond (isCollected (fateBy Collected (replyOutcome m f t .answer))) 1 0
-reply-cells m f (gives t) = refl
-reply-cells m f (refuses why) = omega arith
-
 dynamic-cells : (m : Memory) (t : Told DynamicRequest) → m .count ≡ m .count + cond (isCollected (dynamicFate t)) 1 0
 dynamic-cells m (gives r) = omega arith
 dynamic-cells m (refuses why) = omega arith
 
 meets-cells : (m : Memory) (f : List ℕ) → meets m f .after .count ≡ m .count + cond (isCollected (meets m f .fate)) 1 0
-unfolding opens replies
 meets-cells m f =
     by-lead (λ (x : Step). x .after .count ≡ m .count + cond (isCollected (x .fate)) 1 0) m f
-    (open-cells m (openTried m f)) (reply-cells m f (replyTried m f)) (dynamic-cells m (read dynamic f))
+    (by-opening m f (λ (o : Outcome). o .after .count ≡ m .count + cond (isCollected (fateBy Opened (o .answer))) 1 0) (λ o k. omega arith) (λ why. omega arith))
+    (by-reply m f (λ (o : Outcome). o .after .count ≡ m .count + cond (isCollected (fateBy Collected (o .answer))) 1 0) (λ t k. refl) (λ why. omega arith))
+    (dynamic-cells m (read dynamic f))
 
 piece-cells : (m : Memory) (p : Piece) → meetsPiece m p .after .count ≡ m .count + cond (isCollected (meetsPiece m p .fate)) 1 0
 piece-cells m (whole a f) = meets-cells m f
@@ -77,23 +69,16 @@ more-seats m f o k =
     let l = k .below in
     count-turned 64 (o .seat) (usedBit (m .bits)) (usedBit (opened m o .bits)) (omega (arith, l)) (k .clear) (opened-bit m f o k) (λ i n. other-bit m f o k i n)
 
-open-seats : (m : Memory) (f : List ℕ) (t : Told Opening) → openTried m f ≡ t → seatsInUse (openOutcome m t .after .bits) ≡ seatsInUse (m .bits) + cond (isOpened (fateBy Opened (openOutcome m t .answer))) 1 0
-open-seats m f (gives o) e = more-seats m f o (opens-taken m f o e)
-open-seats m f (refuses why) e = omega arith
-
-reply-seats : (m : Memory) (f : List ℕ) (t : Told Taking) → seatsInUse (replyOutcome m f t .after .bits) ≡ seatsInUse (m .bits) + cond (isOpened (fateBy Collected (replyOutcome m f t .answer))) 1 0
-reply-seats m f (gives t) = omega arith
-reply-seats m f (refuses why) = omega arith
-
 dynamic-seats : (m : Memory) (t : Told DynamicRequest) → seatsInUse (m .bits) ≡ seatsInUse (m .bits) + cond (isOpened (dynamicFate t)) 1 0
 dynamic-seats m (gives r) = omega arith
 dynamic-seats m (refuses why) = omega arith
 
 meets-seats : (m : Memory) (f : List ℕ) → seatsInUse (meets m f .after .bits) ≡ seatsInUse (m .bits) + cond (isOpened (meets m f .fate)) 1 0
-unfolding opens replies
 meets-seats m f =
     by-lead (λ (x : Step). seatsInUse (x .after .bits) ≡ seatsInUse (m .bits) + cond (isOpened (x .fate)) 1 0) m f
-    (open-seats m f (openTried m f) refl) (reply-seats m f (replyTried m f)) (dynamic-seats m (read dynamic f))
+    (by-opening m f (λ (o : Outcome). seatsInUse (o .after .bits) ≡ seatsInUse (m .bits) + cond (isOpened (fateBy Opened (o .answer))) 1 0) (more-seats m f) (λ why. omega arith))
+    (by-reply m f (λ (o : Outcome). seatsInUse (o .after .bits) ≡ seatsInUse (m .bits) + cond (isOpened (fateBy Collected (o .answer))) 1 0) (λ t k. omega arith) (λ why. omega arith))
+    (dynamic-seats m (read dynamic f))
 
 piece-seats : (m : Memory) (p : Piece) → seatsInUse (meetsPiece m p .after .bits) ≡ seatsInUse (m .bits) + cond (isOpened (meetsPiece m p .fate)) 1 0
 piece-seats m (whole a f) = meets-seats m f

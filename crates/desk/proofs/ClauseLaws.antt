@@ -278,6 +278,25 @@ module _ (m : Memory) where
       (le-leb (m .count) (capacity m) (f .fits)))
       (and-true (all-of (m .count) _ (f .rows)) (all-of seatCount _ (λ s l. agreeing _ (seatAt (m .row) s) (m .bits) s (f .agree s l))))
 
+-- each mark below the count names a used seat, and each cell is a reply with its key
+pub mark-seat : (bits m : ℕ) → markNames bits m ≡ true → m < seatCount
+unfolding markNames
+mark-seat bits m h = ltb-true m seatCount (and-l (ltb m seatCount) _ h)
+
+module _ (m : Memory) (d : Facts m) (i : ℕ) (l : i < m .count) where
+  mark-good : markNames (m .bits) (markAt (m .marks) i) ≡ true
+  mark-good = and-l (markGood (m .bits) (m .marks) i) _ (d .rows i l)
+
+  pub marked : markAt (m .marks) i < seatCount
+  marked = mark-seat (m .bits) (markAt (m .marks) i) mark-good
+
+  pub mark-used : usedBit (m .bits) (markAt (m .marks) i) ≡ true
+  unfolding markNames
+  mark-used = and-r (ltb (markAt (m .marks) i) seatCount) _ mark-good
+
+  pub cell-keyed : cellKeyed (m .row) (m .cells) (m .marks) i ≡ true
+  cell-keyed = and-l _ (takenAt (m .cells) (m .marks) i) (and-r (markGood (m .bits) (m .marks) i) _ (d .rows i l))
+
 -- ---- the clauses in the definition's order, and in the order of the code
 
 turned : (s b k a z n r : Bool) → s && b && k && a && z && n && r ≡ s && (b && ((k && z) && (a && (n && r))))
@@ -359,10 +378,6 @@ pub record Tracks (cells marks : List ℕ) (n : ℕ) (reached : List Progress) :
 pub tracks-none : (cells marks : List ℕ) → Tracks cells marks 0 (replicate seatCount none)
 unfolding replay recordsOf
 tracks-none cells marks = record { size = length-replicate seatCount none; each = λ s l. getD-replicate seatCount s none none l }
-
-pub mark-seat : (bits m : ℕ) → markNames bits m ≡ true → m < seatCount
-unfolding markNames
-mark-seat bits m h = ltb-true m seatCount (and-l (ltb m seatCount) _ h)
 
 module _ (row : List Seat) (cells marks : List ℕ) (i : ℕ) (reached : List Progress) (k : Tracks cells marks i reached) (l : markAt marks i < seatCount)
     (t : Turn) (e : t ≡ turnOf (getD reached (markAt marks i) none) (seatAt row (markAt marks i)) (heard (cellAt cells i))) where

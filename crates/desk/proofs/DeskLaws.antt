@@ -7,7 +7,7 @@ use native.Mathlib.Omega.{arith}
 use native.Mathlib.Numerals.{add-one}
 use lib.ListN.{length, length-set, length-replicate, getD-replicate}
 use lib.Seq.{getD-set-same, getD-set-other}
-use lib.Dec.{eqb, ltb}
+use lib.Dec.{eqb}
 use borrow.Author.Tests.{eq-eqb, ne-eqb, lt-ltb}
 use Rattle.desk.specs.declared.key.Key.{Key}
 use Rattle.desk.specs.declared.opening.Opening.{Opening}
@@ -18,15 +18,15 @@ use Rattle.desk.specs.Key.{keyIn, seatKey, sameKey, isKey}
 use Rattle.desk.specs.Step.{progressOf, advanced, none, replay}
 use Rattle.desk.specs.Seats.{zeroSeat, seatAt, usedBit, keyed}
 use Rattle.desk.specs.Memory.{Memory, capacity, capacityOf, cellAt, markAt, recordsOf, heldBy}
-use Rattle.desk.specs.Desk.{isZero, apartAt, markNames, markGood}
+use Rattle.desk.specs.Desk.{isZero, apartAt, markNames}
 use Rattle.desk.specs.Replay.{rowGood}
 use Rattle.desk.specs.Calls.{Outcome, newSeat, opens, opened, grown, taken, replies, emptyRow, emptied}
 use Rattle.desk.specs.Mix.{StaysDesk}
-use Rattle.digits.proofs.Tests.{and-l, and-r, and-true, by-test}
+use Rattle.digits.proofs.Tests.{and-true, by-test}
 use Rattle.desk.proofs.Below.{never, below-case, eq-case}
 use Rattle.desk.proofs.Bits.{set-own, set-other, set-below, none-used}
 use Rattle.desk.proofs.KeyLaws.{same-key, own-key}
-use Rattle.desk.proofs.ClauseLaws.{replay-more, Facts, desk-facts, facts-desk}
+use Rattle.desk.proofs.ClauseLaws.{replay-more, Facts, desk-facts, facts-desk, mark-used}
 use Rattle.desk.proofs.WrittenLaws.{length-with, cell-before, cell-new}
 use Rattle.desk.proofs.StepLaws.{Took, took-used, took-key, Room, took-room, Opens, by-reply, by-opening}
 
@@ -154,12 +154,8 @@ module _ (m : Memory) (f : List ℕ) (o : Opening) (k : Opens m f o) where
   pub used-other : (i : ℕ) → usedBit (m .bits) i ≡ true → i ≡ o .seat → ⊥
   used-other i u e = never (usedBit (m .bits) i) u (rw e (k .clear))
 
-  mark-used : (i : ℕ) → i < m .count → usedBit (m .bits) (markAt (m .marks) i) ≡ true
-  unfolding markNames
-  mark-used i l = and-r (ltb (markAt (m .marks) i) seatCount) _ (and-l (markGood (m .bits) (m .marks) i) _ (k .facts .rows i l))
-
   unmarked : (j : ℕ) → j < m .count → markAt (m .marks) j ≡ o .seat → ⊥
-  unmarked j l e = used-other (markAt (m .marks) j) (mark-used j l) e
+  unmarked j l e = used-other (markAt (m .marks) j) (mark-used m (k .facts) j l) e
 
   -- the new seat holds nothing
   pub opened-holds : heldBy m (o .seat) ≡ []

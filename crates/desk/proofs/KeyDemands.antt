@@ -1,14 +1,14 @@
 -- What is demanded of keys and seats. Assumes nothing.
 use Prim.Native.Nat.{ℕ, _<_}
-use mathlib.Core.Bool.{true, false, not, false≢true, _&&_}
+use mathlib.Core.Bool.{true, not, _&&_}
 use mathlib.Core.Path.{_≡_, refl, sym, _∙_}
 use native.Mathlib.Omega.{arith}
 use lib.Dec.{eqb, leb}
 use lib.ListN.{take, replicate, length-replicate}
-use borrow.Author.Tests.{eqb-true, not-true}
+use borrow.Author.Tests.{eqb-true}
 use Rattle.digits.specs.Text.{oneOf}
 use Rattle.digits.specs.Told.{gives}
-use Rattle.digits.proofs.Tests.{by-less, and-l, and-r, and-true}
+use Rattle.digits.proofs.Tests.{and-l, and-r, and-true}
 use Rattle.frames.specs.Rules.{upTo, isAddress, isRequester, isOutput}
 use Rattle.frames.specs.Layout.{recordWrong}
 use Rattle.frames.specs.Kind.{read, wrongIn}
@@ -28,6 +28,7 @@ use Rattle.desk.specs.Desk.{isZero}
 use Rattle.desk.specs.KeyDemands.{KeysAreRight}
 use Rattle.desk.proofs.KeyLaws.{same-key, own-key, request-legal}
 use Rattle.desk.proofs.ClauseLaws.{Facts, desk-facts}
+use Rattle.desk.proofs.ViewLaws.{one-seat}
 
 -- ---- keys
 
@@ -66,14 +67,11 @@ asked-legal k a = rw (a .1 .1 .1) (request-legal (a .0) (a .1 .0) (a .1 .1 .0))
 
 -- ---- seats
 
-keys-alike : (a b : Seat) → a .address ≡ b .address → a .requester ≡ b .requester → a .number ≡ b .number → sameKey (seatKey a) (seatKey b) ≡ true
-keys-alike a b p q r = alike (seatKey a) (seatKey b) (λ i. record { address = p i; requester = q i; number = r i })
-
-not-both : (m : Memory) → Facts m → (i j : ℕ) → i < seatCount → j < i → usedBit (m .bits) i ≡ true → usedBit (m .bits) j ≡ true → sameKey (seatKey (seatAt (m .row) j)) (seatKey (seatAt (m .row) i)) ≡ true → ⊥
+one-of : (m : Memory) → Facts m → (i j : ℕ) → i < seatCount → j < seatCount → usedBit (m .bits) i ≡ true → usedBit (m .bits) j ≡ true → seatKey (seatAt (m .row) i) ≡ seatKey (seatAt (m .row) j) → i ≡ j
 unfolding keyed
-not-both m facts i j l h u v e =
-    let a : not (usedBit (m .bits) j && sameKey (seatKey (seatAt (m .row) j)) (seatKey (seatAt (m .row) i))) ≡ true = rw u at (facts .apart i l j h) in
-    false≢true (sym (not-true _ a) ∙ and-true v e)
+one-of m facts i j l k u v e =
+    let key = seatKey (seatAt (m .row) j) in
+    sym (one-seat m key i facts l (and-true u (alike _ _ e))) ∙ one-seat m key j facts k (and-true v (own-key key))
 
 zero-parts : (s : Seat) → isZero s ≡ true → s ≡ record { address = 0; requester = 0; number = 0; held = 0; ended = 0 }
 unfolding isZero
@@ -94,12 +92,6 @@ keys-are-right = record {
   same = λ a b. (same-key a b, alike a b);
   own = λ k r. (λ h. same-key k (keyOf r) (sym (same-is k r) ∙ h), λ e. same-is k r ∙ alike k (keyOf r) e);
   legal = λ k. (asked-by k, asked-legal k);
-  apart = λ m i j d l k u v p q r.
-      let facts = desk-facts m d in
-      by-less i j
-      (λ h. absurd (not-both m facts j i k h v u (keys-alike (seatAt (m .row) i) (seatAt (m .row) j) p q r)))
-      (λ h. by-less j i
-      (λ g. absurd (not-both m facts i j l g u v (keys-alike (seatAt (m .row) j) (seatAt (m .row) i) (sym p) (sym q) (sym r))))
-      (λ g. omega arith));
+  apart = λ m i j d l k u v p q r. one-of m (desk-facts m d) i j l k u v (λ n. record { address = p n; requester = q n; number = r n });
   unused = λ m i d l u. zero-parts (seatAt (m .row) i) (desk-facts m d .zeros i l u);
 }

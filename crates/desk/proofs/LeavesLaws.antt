@@ -31,8 +31,8 @@ reply-leaves : (m : Memory) (f : List ℕ) → Leaves m (replies m f .after)
 reply-leaves m f =
     let s = keeps-memory .reply-sizes m f in
     let after = by-reply m f (λ (o : Outcome). (drop storeSize (o .after .cells) ≡ drop storeSize (m .cells)) × (drop mostCells (o .after .marks) ≡ drop mostCells (m .marks)))
-        (λ t k. let r = took-room m f t k in (drop-with (m .cells) (m .count * cellSize) f (r .cells) (r .frame) storeSize (omega (arith, r .count)), drop-set-lt mostCells (m .marks) (m .count) (t .seat) (r .count)))
-        (λ why. (refl, refl)) in
+    (λ t k. let r = took-room m f t k in (drop-with (m .cells) (m .count * cellSize) f (r .cells) (r .frame) storeSize (omega (arith, r .count)), drop-set-lt mostCells (m .marks) (m .count) (t .seat) (r .count)))
+    (λ why. (refl, refl)) in
     record { cells = s .0; marks = s .1; cells-after = after .0; marks-after = after .1 }
 
 open-leaves : (m : Memory) (f : List ℕ) → Leaves m (opens m f .after)

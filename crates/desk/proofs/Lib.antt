@@ -3,6 +3,7 @@ pub mod Bits
 pub mod KeyLaws
 pub mod HearingLaws
 pub mod ClauseLaws
+pub mod SumLaws
 pub mod WrittenLaws
 pub mod StepLaws
 pub mod OutcomeLaws
@@ -12,6 +13,8 @@ pub mod DeskLaws
 pub mod RuleLaws
 pub mod ViewLaws
 pub mod MixLaws
+pub mod SameLaws
+pub mod SwapLaws
 pub mod AwaitedLaws
 pub mod Cases
 pub mod HandedOn

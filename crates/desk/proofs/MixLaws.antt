@@ -15,17 +15,16 @@ use Rattle.frames.specs.Request.{request}
 use Rattle.frames.specs.declared.request.StaticRequest.{StaticRequest}
 use Rattle.frames.specs.declared.reply.ReplyLabel.{ReplyLabel}
 use Rattle.desk.specs.declared.key.Key.{Key}
-use Rattle.desk.specs.declared.opening.Opening.{Opening}
 use Rattle.desk.specs.declared.reply.Taking.{Taking}
 use Rattle.desk.specs.declared.step.Progress.{Progress}
 use Rattle.desk.specs.Limits.{seatCount}
-use Rattle.desk.specs.Key.{requestKey, keyIn, seatKey}
+use Rattle.desk.specs.Key.{requestKey, keyIn}
 use Rattle.desk.specs.Hearing.{heard, hasKey, statusIn}
 use Rattle.desk.specs.Step.{step}
-use Rattle.desk.specs.Seats.{seatAt, usedBit, keyed, keyedAt, seatWith}
-use Rattle.desk.specs.Memory.{Memory, capacity, heldBy}
+use Rattle.desk.specs.Seats.{usedBit, keyed, keyedAt, seatWith}
+use Rattle.desk.specs.Memory.{Memory, capacity}
 use Rattle.desk.specs.Desk.{isDesk}
-use Rattle.desk.specs.Calls.{Outcome, opens, opened, replies, taken, emptied}
+use Rattle.desk.specs.Calls.{Outcome, opens, opened, replies, emptied}
 use Rattle.desk.specs.Rule.{Frame}
 use Rattle.desk.specs.Events.{Event, toOpen, toReply, frameOf, happens, run, openings, heardAll, Stands, addressed, framesTo, answersTo}
 use Rattle.desk.specs.Views.{View, viewAt, progressIn, newView, Seen, replySeen, seatStep, cellFree, Steps}
@@ -34,8 +33,8 @@ use Rattle.desk.proofs.Below.{never, first-ext}
 use Rattle.desk.proofs.KeyLaws.{own-key}
 use Rattle.desk.proofs.RuleLaws.{addressed-heard, fold-is-rule}
 use Rattle.desk.proofs.ClauseLaws.{Facts, desk-facts, facts-desk}
-use Rattle.desk.proofs.StepLaws.{held-records, Took, took-key, Opens, by-reply, by-opening}
-use Rattle.desk.proofs.DeskLaws.{taken-key, taken-capacity, used-other, emptied-desk, reply-facts, opening-facts, stays-desk, taken-desk}
+use Rattle.desk.proofs.StepLaws.{held-records, Took, took-key, by-reply, by-opening}
+use Rattle.desk.proofs.DeskLaws.{taken-key, taken-capacity, used-other, emptied-desk, reply-facts, opening-facts, stays-desk}
 use Rattle.desk.proofs.ViewLaws.{taken-moves, opened-moves, own-seat, is-local}
 
 -- ---- openings and replies may stand in a stretch
@@ -97,9 +96,10 @@ module _ (may : Event → Bool) (stand : MayStand may) where
       let own = w .own ∙ ap (λ (y : Seen). y .view) g in
       let kept = step-keeps s v (frameOf e) (step (progressIn v) true (statusIn (heard (frameOf e)))) in
       let ih = fold es x s k d′ (st .1) l (ap (λ (y : View). y .used) own ∙ kept .0 ∙ u) (ap (λ (y : View). y .key) own ∙ kept .1 ∙ q) (c .1) in
-      rw h
-      (ih .0 ∙ ap (λ (y : View). viewAfter s y (framesTo k es)) own,
-      λ i. (w .answer ∙ ap (λ (y : Seen). y .answer) g) i ∷ (ih .1 ∙ ap (λ (y : View). saysTo s y (framesTo k es)) own) i))
+      rw h (
+        ih .0 ∙ ap (λ (y : View). viewAfter s y (framesTo k es)) own,
+        λ i. (w .answer ∙ ap (λ (y : Seen). y .answer) g) i ∷ (ih .1 ∙ ap (λ (y : View). saysTo s y (framesTo k es)) own) i,
+      ))
       (λ h.
       let own = stand .other m e s (st .0) d l u (rw q h) in
       let ih = fold es x s k d′ (st .1) l (ap (λ (y : View). y .used) own ∙ u) (ap (λ (y : View). y .key) own ∙ q) (c .1) in
@@ -157,10 +157,10 @@ cells-for (toReply f ∷ es) m s k d st r l u q =
     let b = count-next m f in
     let c = n .cap in (
       λ h.
-      let own : addressed (viewAt m s .key) (toReply f) ≡ true = rw q h in
-      let g = own-seated m s d l u (heard f) (sym (addressed-heard (viewAt m s .key) f) ∙ own) in
-      let t : m .count + (1 + repliesTo m es) ≤ capacity m = rw g at r in
-      lt-ltb (m .count) (capacity m) (omega arith),
+          let own : addressed (viewAt m s .key) (toReply f) ≡ true = rw q h in
+          let g = own-seated m s d l u (heard f) (sym (addressed-heard (viewAt m s .key) f) ∙ own) in
+          let t : m .count + (1 + repliesTo m es) ≤ capacity m = rw g at r in
+          lt-ltb (m .count) (capacity m) (omega arith),
       cells-for es (replies m f .after) s k (reply-facts m f d) (st .1) (omega (arith, a, b, c, r)) l (rw (n .bits) u) (n .key s ∙ q),
     )
 
@@ -259,8 +259,8 @@ run-both m (f ∷ a) b = run-both (opens m f .after) a b
 just-opened : (m : Memory) (f : Frame) (r : StaticRequest) (s : ℕ) → read request f ≡ gives r → opens m f .answer ≡ gives s → (s < seatCount) × (viewAt (opens m f .after) s ≡ newView (requestKey r))
 just-opened m f r s e h =
     let below = by-opening m f (λ (o : Outcome). o .answer ≡ gives s → s < seatCount)
-        (λ o k g. let q : o .seat ≡ s = cc in rw q at (k .below))
-        (λ why g. absurd (not-refused s why (sym g))) in
+    (λ o k g. let q : o .seat ≡ s = cc in rw q at (k .below))
+    (λ why g. absurd (not-refused s why (sym g))) in
     (below h, rw e at (is-local .opening m f s h .1 .own))
 
 pub sorts-opened-requests : SortsOpenedRequests

@@ -1,5 +1,5 @@
 -- The steps of a request, one after the other, are the rule of mixed replies, which is spelled over letters and keys. Assumes nothing.
-use Prim.Native.Nat.{ℕ, suc}
+use Prim.Native.Nat.{ℕ}
 use mathlib.Core.List.{List, [], _∷_, _++_, append-assoc, append-nil}
 use mathlib.Core.Bool.{Bool, true, false, not, _||_}
 use mathlib.Core.Path.{_≡_, refl, sym, ap, _∙_}
@@ -7,7 +7,6 @@ use native.Mathlib.Omega.{arith}
 use lib.ListN.{length, length-append}
 use lib.Dec.{eqb}
 use borrow.Author.Tests.{ne-eqb}
-use Rattle.digits.specs.declared.refusal.Refusal.{Refusal}
 use Rattle.digits.specs.Refusals.{ENDED, OUT-OF-PLACE}
 use Rattle.digits.specs.Told.{Told, gives, refuses}
 use Rattle.digits.proofs.Tests.{by-test}
@@ -15,14 +14,13 @@ use Rattle.frames.specs.Kind.{read}
 use Rattle.frames.specs.Reply.{reply, labelled}
 use Rattle.frames.specs.declared.reply.StaticReply.{StaticReply}
 use Rattle.desk.specs.declared.key.Key.{Key}
-use Rattle.desk.specs.declared.step.Progress.{Progress}
 use Rattle.desk.specs.Key.{sameKey}
 use Rattle.desk.specs.Hearing.{heard, hasKey, statusIn, ends, inPlace, endedBy}
-use Rattle.desk.specs.Step.{advanced, step}
+use Rattle.desk.specs.Step.{step}
 use Rattle.desk.specs.Rule.{Frame, isTo, letterIn, hasStatusE, hasStatusZ, kept, said}
 use Rattle.desk.specs.Events.{toReply, addressed}
 use Rattle.desk.specs.Views.{View, Seen, seatStep}
-use Rattle.desk.specs.Mix.{viewAfter, saysTo, StepsAreRule, FoldIsRule}
+use Rattle.desk.specs.Mix.{viewAfter, saysTo, FoldIsRule}
 
 -- ---- status and key are the record's
 

@@ -27,7 +27,7 @@ use Rattle.desk.specs.Step.{progressOf, step, none, goes}
 use Rattle.desk.specs.Seats.{seatAt, usedBit, keyed, keyedAt, seatWith, clearAt, lowestClear}
 use Rattle.desk.specs.Memory.{Memory, capacity, capacityOf, heldBy}
 use Rattle.desk.specs.Desk.{isDesk}
-use Rattle.desk.specs.Calls.{Outcome, keyTried, requestTried, whatIsGiven, openTried, openOutcome, opens, opened, seatTried, labelTried, replyTried, replyOutcome, replies, taken}
+use Rattle.desk.specs.Calls.{Outcome, outcome, keyTried, requestTried, whatIsGiven, openTried, opens, opened, seatTried, labelTried, replyTried, replies, taken}
 use Rattle.digits.proofs.Tests.{and-true, and-l, and-r}
 use Rattle.desk.proofs.Below.{first-sound, first-before}
 use Rattle.desk.proofs.KeyLaws.{same-key, request-legal}
@@ -190,39 +190,38 @@ opens-taken m f o q =
 
 -- ---- a call is taken or refused
 
+module _ {A : Type 0} (m : Memory) (seat : A → ℕ) (after : A → Memory) (P : Outcome → Type 0) where
+  by-told : (t : Told A) → ((a : A) → t ≡ gives a → P (record { answer = gives (seat a); after = after a })) → ((why : Refusal) → P (record { answer = refuses why; after = m })) → P (outcome m seat after t)
+  by-told (gives a) h g = h a refl
+  by-told (refuses why) h g = g why
+
 module _ (m : Memory) (f : List ℕ) where
   pub after-taken : (t : Taking) → replyTried m f ≡ gives t → replies m f ≡ record { answer = gives (t .seat); after = taken m f t }
   unfolding replies
-  after-taken t e = ap (replyOutcome m f) e
+  after-taken t e = rw e
 
   pub after-refused : (why : Refusal) → replyTried m f ≡ refuses why → replies m f ≡ record { answer = refuses why; after = m }
   unfolding replies
-  after-refused why e = ap (replyOutcome m f) e
+  after-refused why e = rw e
 
   pub after-opened : (o : Opening) → openTried m f ≡ gives o → opens m f ≡ record { answer = gives (o .seat); after = opened m o }
   unfolding opens
-  after-opened o e = ap (openOutcome m) e
+  after-opened o e = rw e
 
   pub after-not-opened : (why : Refusal) → openTried m f ≡ refuses why → opens m f ≡ record { answer = refuses why; after = m }
   unfolding opens
-  after-not-opened why e = ap (openOutcome m) e
+  after-not-opened why e = rw e
 
   -- what holds of both holds of the call
   pub by-reply : (P : Outcome → Type 0) → ((t : Taking) → Took m f t → P (record { answer = gives (t .seat); after = taken m f t }))
       → ((why : Refusal) → P (record { answer = refuses why; after = m })) → P (replies m f)
-  by-reply P h g = go (replyTried m f) refl
-    where
-      go : (a : Told Taking) → replyTried m f ≡ a → P (replies m f)
-      go (gives t) e = rw (after-taken t e) (h t (took m f t e))
-      go (refuses why) e = rw (after-refused why e) (g why)
+  unfolding replies
+  by-reply P h g = by-told m _ (taken m f) P (replyTried m f) (λ t e. h t (took m f t e)) g
 
   pub by-opening : (P : Outcome → Type 0) → ((o : Opening) → Opens m f o → P (record { answer = gives (o .seat); after = opened m o }))
       → ((why : Refusal) → P (record { answer = refuses why; after = m })) → P (opens m f)
-  by-opening P h g = go (openTried m f) refl
-    where
-      go : (a : Told Opening) → openTried m f ≡ a → P (opens m f)
-      go (gives o) e = rw (after-opened o e) (h o (opens-taken m f o e))
-      go (refuses why) e = rw (after-not-opened why e) (g why)
+  unfolding opens
+  by-opening P h g = by-told m _ (opened m) P (openTried m f) (λ o e. h o (opens-taken m f o e)) g
 
   -- a refused call changes nothing
   pub reply-refused : (why : Refusal) → replies m f .answer ≡ refuses why → replies m f .after ≡ m

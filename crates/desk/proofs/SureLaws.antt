@@ -16,7 +16,6 @@ use Rattle.frames.specs.declared.reply.ReplyLabel.{ReplyLabel}
 use Rattle.frames.proofs.Places.{sure-request as sure-request-read, sure-reply as sure-reply-read}
 use Rattle.desk.specs.declared.state.Seat.{Seat}
 use Rattle.desk.specs.declared.key.Key.{Key}
-use Rattle.desk.specs.declared.opening.Opening.{Opening}
 use Rattle.desk.specs.declared.reply.Taking.{Taking}
 use Rattle.desk.specs.declared.step.Progress.{Progress}
 use Rattle.desk.specs.Limits.{seatCount}
@@ -26,7 +25,7 @@ use Rattle.desk.specs.Hearing.{heard, inPlace}
 use Rattle.desk.specs.Step.{progressOf, advanced, step}
 use Rattle.desk.specs.Memory.{Memory, capacity}
 use Rattle.desk.specs.Desk.{isDesk, allSeats}
-use Rattle.desk.specs.Calls.{Outcome, whatIsGiven, letterQ, keyTried, requestTried, openTried, openOutcome, opens, seatTried, labelTried, replyTried, replyOutcome, replies, emptied, resets}
+use Rattle.desk.specs.Calls.{Outcome, outcome, whatIsGiven, letterQ, keyTried, requestTried, openTried, opens, opened, seatTried, labelTried, replyTried, replies, taken, emptied, resets}
 
 module _ {A B : Type 0} where
   sure-given : (t : Told A) (further : A → Told B) → Sure t → ((a : A) → Sure (further a)) → Sure (whatIsGiven t further)
@@ -37,13 +36,9 @@ sure-labelled : (t : Told StaticReply) → Sure t → Sure (labelled t)
 sure-labelled (gives r) s = sure-gives (labelOf r)
 sure-labelled (refuses why) s = sure-refuses why (s why refl)
 
-sure-opened : (m : Memory) (t : Told Opening) → Sure t → Sure (openOutcome m t .answer)
-sure-opened m (gives o) s = sure-gives (o .seat)
-sure-opened m (refuses why) s = sure-refuses why (s why refl)
-
-sure-taken : (m : Memory) (f : List ℕ) (t : Told Taking) → Sure t → Sure (replyOutcome m f t .answer)
-sure-taken m f (gives t) s = sure-gives (t .seat)
-sure-taken m f (refuses why) s = sure-refuses why (s why refl)
+sure-outcome : {A : Type 0} (m : Memory) (seat : A → ℕ) (after : A → Memory) (t : Told A) → Sure t → Sure (outcome m seat after t .answer)
+sure-outcome m seat after (gives a) s = sure-gives (seat a)
+sure-outcome m seat after (refuses why) s = sure-refuses why (s why refl)
 
 sure-key : (row : List Seat) (bits : ℕ) (k : Key) → Sure (keyTried row bits k)
 unfolding keyTried
@@ -75,14 +70,14 @@ sure-label row bits free c = sure-tried (ltb (seatWith row bits (keyIn c)) seatC
 pub sure-opens : (m : Memory) (f : List ℕ) → Sure (opens m f .answer)
 unfolding opens openTried
 sure-opens m f =
-    sure-opened m (openTried m f)
+    sure-outcome m _ (opened m) (openTried m f)
     (sure-tried (isDesk m) DESK _ (λ _. refl) (sure-given (read request f) (requestTried (m .row) (m .bits)) (sure-request-read f) (sure-request (m .row) (m .bits))))
 
 pub sure-replies : (m : Memory) (f : List ℕ) → Sure (replies m f .answer)
 unfolding replies replyTried heard
 sure-replies m f =
     let free = ltb (m .count) (capacity m) in
-    sure-taken m f (replyTried m f)
+    sure-outcome m _ (taken m f) (replyTried m f)
     (sure-tried (isDesk m) DESK _ (λ _. refl) (sure-given (heard f) (labelTried (m .row) (m .bits) free) (sure-labelled (read reply f) (sure-reply-read f)) (sure-label (m .row) (m .bits) free)))
 
 sure-reset : (b : Bool) (m : Memory) → Sure (cond {A = Outcome} b (record { answer = gives 0; after = emptied m }) (record { answer = refuses DESK; after = m }) .answer)

@@ -1,17 +1,16 @@
 -- An event moves the view of the seat that it is addressed to, and no other. Assumes nothing.
 use Prim.Native.Nat.{ℕ, _<_}
-use mathlib.Core.Bool.{Bool, true, false, not, _&&_}
+use mathlib.Core.Bool.{Bool, true, false, not}
 use mathlib.Core.Path.{_≡_, refl, sym, ap, _∙_}
-use mathlib.Core.List.{List, [], _∷_, _++_}
+use mathlib.Core.List.{[], _∷_, _++_}
 use lib.Dec.{eqb, ltb}
 use borrow.Author.Tests.{lt-ltb, ltb-true}
 use Rattle.digits.specs.declared.refusal.Refusal.{Refusal}
 use Rattle.digits.specs.Refusals.{STRAY}
 use Rattle.digits.specs.Told.{Told, gives, refuses, tried}
 use Rattle.digits.proofs.Tests.{and-r, and-true, by-test}
-use Rattle.digits.proofs.Sure.{not-refused, same-refusal}
+use Rattle.digits.proofs.Sure.{not-refused}
 use Rattle.frames.specs.Kind.{read}
-use Rattle.frames.specs.Request.{request}
 use Rattle.frames.specs.Reply.{reply, labelled}
 use Rattle.frames.specs.declared.reply.StaticReply.{StaticReply}
 use Rattle.frames.specs.declared.reply.ReplyLabel.{ReplyLabel}
@@ -29,7 +28,7 @@ use Rattle.desk.specs.Seats.{seatAt, usedBit, keyed, keyedAt, seatWith, 
 use Rattle.desk.specs.Memory.{Memory}
 use Rattle.desk.specs.Calls.{whatIsGiven, openTried, opens, opened, seatTried, labelTried, replyTried, replies, taken}
 use Rattle.desk.specs.Events.{Event, toOpen, toReply, happens, addressed}
-use Rattle.desk.specs.Views.{View, viewAt, progressIn, newView, replySeen, seatStep, cellFree, Steps, strayAnswer, Local}
+use Rattle.desk.specs.Views.{View, viewAt, progressIn, newView, cellFree, Steps, strayAnswer, Local}
 use Rattle.desk.proofs.Below.{never, false-or, first-at}
 use Rattle.desk.proofs.RuleLaws.{addressed-heard}
 use Rattle.desk.proofs.ClauseLaws.{Facts, desk-facts, facts-desk}

@@ -53,6 +53,12 @@ module _ {A B : Type 0} where
   whatIsGiven (gives a) further = further a
   whatIsGiven (refuses f) further = refuses f
 
+module _ {A : Type 0} where
+  -- the outcome of a call by its tests: the seat and what the call leaves, or the refusal and the memory as it was
+  abbrev pub outcome : Memory → (A → ℕ) → (A → Memory) → Told A → Outcome
+  outcome m seat after (gives a) = record { answer = gives (seat a); after = after a }
+  outcome m seat after (refuses f) = record { answer = refuses f; after = m }
+
 -- ---- an opening
 
 -- information q: no answer is due
@@ -81,13 +87,8 @@ newSeat k = record { address = k .address; requester = k .requester; number = k 
 abbrev pub opened : Memory → Opening → Memory
 opened m o = record { row = set (m .row) (o .seat) (newSeat (o .key)); bits = m .bits + 2 ^ (o .seat); count = m .count; cells = m .cells; marks = m .marks }
 
--- the outcome: the seat and the memory with it opened, or the refusal and the memory as it was
-abbrev pub openOutcome : Memory → Told Opening → Outcome
-openOutcome m (gives o) = record { answer = gives (o .seat); after = opened m o }
-openOutcome m (refuses f) = record { answer = refuses f; after = m }
-
 unfoldable pub opens : Memory → List ℕ → Outcome
-opens m f = openOutcome m (openTried m f)
+opens m f = outcome m (λ o. o .seat) (opened m) (openTried m f)
 
 -- ---- a reply
 
@@ -131,13 +132,8 @@ taken m f t =
       marks = set (m .marks) (m .count) (t .seat);
     }
 
--- the outcome: the seat and the memory with the reply in it, or the refusal and the memory as it was
-abbrev pub replyOutcome : Memory → List ℕ → Told Taking → Outcome
-replyOutcome m f (gives t) = record { answer = gives (t .seat); after = taken m f t }
-replyOutcome m f (refuses why) = record { answer = refuses why; after = m }
-
 unfoldable pub replies : Memory → List ℕ → Outcome
-replies m f = replyOutcome m f (replyTried m f)
+replies m f = outcome m (λ t. t .seat) (taken m f) (replyTried m f)
 
 -- ---- a reset, and the number of seats in use
 

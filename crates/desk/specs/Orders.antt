@@ -1,6 +1,6 @@
 -- Events that can be swapped: neighbours with different keys.
-use Prim.Native.Nat.{ℕ, _+_, _≤_}
-use mathlib.Core.List.{List, [], _∷_}
+use Prim.Native.Nat.{_+_, _≤_}
+use mathlib.Core.List.{[], _∷_}
 use mathlib.Core.Bool.{true}
 use mathlib.Core.Path.{_≡_}
 use Rattle.digits.specs.Told.{Told, gives, refuses}

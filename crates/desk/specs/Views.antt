@@ -94,12 +94,14 @@ pub record Local : Type 1 where
 
 -- ---- desks that look the same
 
--- the same bits, as many cells held and as many in all, and the same view of each seat; the order of the store may differ
+-- as many cells in all, and the same view of each seat; the order of the store may differ
 pub record Same (m x : Memory) : Type 0 where
-  pub bits : x .bits ≡ m .bits
-  pub count : x .count ≡ m .count
   pub size : capacity x ≡ capacity m
   pub view : (s : ℕ) → s < seatCount → viewAt x s ≡ viewAt m s
+
+-- the views tell which seats are in use and how many cells are held
+abbrev pub ViewsTellAll : Type 0
+ViewsTellAll = (m x : Memory) → isDesk m ≡ true → isDesk x ≡ true → Same m x → (x .bits ≡ m .bits) × (x .count ≡ m .count)
 
 -- no event tells them apart, and they look the same after it
 abbrev pub SameGoesOn : Type 0

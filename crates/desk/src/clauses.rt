@@ -198,13 +198,7 @@ fn all_agree(reached: [Progress; SEATS], row: [Seat; SEATS], bits: u64) -> bool
 }
 
 // Replays all rows. Each mark and each cell is read once.
-fn replay_rows(
-    row: [Seat; SEATS],
-    bits: u64,
-    count: usize,
-    cells: &[u8],
-    marks: &[u32],
-) -> bool
+fn replay_rows(row: [Seat; SEATS], bits: u64, count: usize, cells: &[u8], marks: &[u32]) -> bool
     requires { ⌜ (count ≤ mostCells) × ((count ≤ length (now marks)) × (count * cellSize ≤ length (now cells))) ⌝ }
     ensures { λ r. ⌜ r ≡ replays row bits count (now (cells .entry)) (now (marks .entry)) ⌝ }
 {

@@ -28,7 +28,7 @@ use Rattle.desk.specs.Hearing.{heard, hasKey}
 use Rattle.desk.specs.Key.{seatKey}
 use Rattle.desk.specs.Seats.{seatAt}
 use Rattle.desk.specs.Memory.{Memory, cellAt, markAt, recordsOf, heldBy}
-use Rattle.desk.proofs.ClauseLaws.{desk-facts}
+use Rattle.desk.proofs.ClauseLaws.{desk-facts, cell-keyed}
 use Rattle.desk.proofs.LeavesLaws.{all-desk}
 use Rattle.desk.proofs.HearingLaws.{heard-long}
 use Rattle.listing.specs.Text.{Look, plain, address, addressShown, looks, Column, columns, part, shown, heading, rowText, rowsText, countText, endText}
@@ -164,7 +164,7 @@ unfolding listOf listText
 lines-are-rows cells marks s l =
     let m = after cells marks s in
     let facts = desk-facts m (all-desk (store cells marks) (pieces s) (store-desk cells marks s)) in
-    let rows = seats-lines m (λ i h. keyed-good (cellAt (m .cells) i) (seatKey (seatAt (m .row) (markAt (m .marks) i))) (facts .cells i h)) seatCount in
+    let rows = seats-lines m (λ i h. keyed-good (cellAt (m .cells) i) (seatKey (seatAt (m .row) (markAt (m .marks) i))) (cell-keyed m facts i h)) seatCount in
     let c = counts cells marks s in
     let a = lines-both (heading ++ seatsText m seatCount) (endText c) in
     let b = lines-both heading (seatsText m seatCount) in

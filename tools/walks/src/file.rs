@@ -1,7 +1,7 @@
 //! The text of a proof file.
 
 use crate::frame;
-use crate::param::{Kind, Param};
+use crate::param::{Kind, Loan, Param};
 use crate::source::Call;
 use crate::text::{abbrev, capital, dash, joined, nest, spaced, step, tidy};
 use crate::uses::{callees, uses};
@@ -43,48 +43,45 @@ fn clauses(c: &Call, clause: Clause) -> String {
     nest(&c.params, |p| match clause {
         Clause::Stays => stays(p),
         Clause::Goes => goes(p, refs),
-        Clause::Spells => spells(p),
+        Clause::Spells => p.vals(),
         Clause::Tells => tells(p),
     })
 }
 
 fn stays(p: &Param) -> String {
-    let Param { lifetime, row, .. } = p;
-    match p.kind {
-        Kind::Value => format!("stay-none (λ _. {row}) yes"),
-        Kind::Mut => format!("gave-slice ({lifetime} ∷ []) tt (plain (λ _. {row}))"),
-        Kind::Shared => format!("stay-none-slice ({lifetime} ∷ []) tt (plain (λ _. {row})) yes"),
+    let (lifetime, row, noun) = (p.lifetime, p.row(), p.noun());
+    match p.loan() {
+        None => format!("stay-none (λ _. {row}) yes"),
+        Some(Loan::Mut) => format!("gave-{noun} ({lifetime} ∷ []) tt (plain (λ _. {row}))"),
+        Some(Loan::Shared) => format!("stay-none-{noun} ({lifetime} ∷ []) tt (plain (λ _. {row})) yes"),
     }
 }
 
 fn goes(p: &Param, refs: usize) -> String {
-    let Param { lifetime, row, .. } = p;
-    match p.kind {
-        Kind::Value => format!("goes-none 𝓤 H A W {refs} (λ _. {row}) yes (λ κs x f. refl)"),
-        Kind::Mut => format!("goes-gave-slice 𝓤 H A W {refs} {lifetime} tt (plain (λ _. {row}))"),
-        Kind::Shared => format!("goes-none-slice 𝓤 H A W {refs} ({lifetime} ∷ []) tt (plain (λ _. {row})) yes"),
-    }
-}
-
-fn spells(p: &Param) -> String {
-    let of = &p.of;
-    match p.kind {
-        Kind::Value => format!("LL.vals {of}D.the-type {of}L.the-laws"),
-        Kind::Mut | Kind::Shared => "slice-vals".to_string(),
+    let (lifetime, row, noun) = (p.lifetime, p.row(), p.noun());
+    match p.loan() {
+        None => format!("goes-none 𝓤 H A W {refs} (λ _. {row}) yes (λ κs x f. refl)"),
+        Some(Loan::Mut) => format!("goes-gave-{noun} 𝓤 H A W {refs} {lifetime} tt (plain (λ _. {row}))"),
+        Some(Loan::Shared) => {
+            format!("goes-none-{noun} 𝓤 H A W {refs} ({lifetime} ∷ []) tt (plain (λ _. {row})) yes")
+        }
     }
 }
 
 fn tells(p: &Param) -> String {
-    let Param { of, named, row, .. } = p;
-    let lifetime = step(p.lifetime);
+    let Param { of, named, .. } = p;
+    let lent = |law: &str| format!("{law} {named} (κs{}) {}", step(p.lifetime), p.row());
     match p.kind {
-        Kind::Value => format!("LL.tells {of}D.the-type {of}L.the-laws"),
-        Kind::Mut => format!("mut-slice-tells {named} (κs{lifetime}) {row}"),
-        Kind::Shared => format!("shr-slice-tells {named} (κs{lifetime}) {row}"),
+        Kind::Struct => format!("LL.tells {of}D.the-type {of}L.the-laws"),
+        Kind::Number(number) => number.tells(),
+        Kind::Slice(Loan::Mut) => lent("mut-slice-tells"),
+        Kind::Slice(Loan::Shared) => lent("shr-slice-tells"),
+        Kind::Array(Loan::Mut) => lent("mut-tells"),
+        Kind::Array(Loan::Shared) => lent("shr-tells"),
     }
 }
 
-/// What is owned of the parameters at exit, and the contracts of the core and the refuser.
+/// What is owned of the parameters at exit, and the contracts of the functions that it calls, but for load and store.
 fn contracts(c: &Call) -> String {
     let contract = |name: &str, of: &str| {
         let value = format!("tripleOf 𝓤 H A {of}.signature ({of}.spec 𝓤 H A at-mem run)");
@@ -92,7 +89,11 @@ fn contracts(c: &Call) -> String {
     };
     let kind = "Stays (outer.ended .signature .params) (outer.ended .kept)";
     let stayed = abbrev("stayed", kind, &clauses(c, Clause::Stays));
-    [stayed, contract("Core", "core"), contract("Refused", "refuser")].join("\n\n")
+    let mut parts = vec![stayed, contract("Core", "core"), contract("Refused", "refuser")];
+    if c.early.is_some() {
+        parts.extend([contract("Tested", "tester"), contract("Early", "answerer")]);
+    }
+    parts.join("\n\n")
 }
 
 /// The triples of the callees in a table.
@@ -131,10 +132,11 @@ fn walks(c: &Call) -> String {
 /// The parts of one parameter, taken from the tuple of all parameters.
 fn taken(p: &Param) -> String {
     let (a, are) = (format!("a{}", step(p.index)), format!("are{}", step(p.index)));
-    if p.is_ref() {
-        format!("({a} .ptr .0) ({a} .ptr .1) ({a} .name) ({a} .now) ({are} .0 .1)")
-    } else {
-        format!("({a}) ({are})")
+    let lent = format!("({a} .ptr .0) ({a} .ptr .1) ({a} .name) ({a} .now)");
+    match p.kind {
+        Kind::Struct | Kind::Number(_) => format!("({a}) ({are})"),
+        Kind::Slice(_) => format!("{lent} ({are} .0 .1)"),
+        Kind::Array(_) => lent,
     }
 }
 

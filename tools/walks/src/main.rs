@@ -5,29 +5,59 @@
 //! Exit status: 0 if it wrote the files or they are as it would write them, 1 if a file differs, 2 if it could not be run.
 //!
 //! The prover does not walk a function that takes a slice of structs, so this program writes the walks of such calls. They
-//! differ only in the calls' parameters. A call is read from the source and must have exactly this form:
+//! differ only in the calls' parameters and in whether something is tested before the row. A call is read from the source
+//! and must have exactly this form:
 //!
 //! ```text
-//! pub extern "C" fn F(seats: &mut [Seat], desk: Desk, cells: &mut [u8], frame: &[u8], ..) -> Answer
+//! pub extern "C" fn F(seats: &mut [Seat], desk: Desk, cells: &mut [u8], text: &[u8], seat: u32, ..) -> Answer
 //!     ensures { λ r. ⌜ XLent (each parameter at entry) r (each `&mut` parameter at exit) ⌝ }
 //! {
+//!     let early = TESTER(text, seat);             the early test: from here..
+//!     if early != 0 {
+//!         return EARLY(desk, early);
+//!     }                                           ..to here, or none of it
 //!     if seats.len() != SEATS {
 //!         return REFUSER(desk);
 //!     }
 //!     let row = load(seats);
-//!     let out = CORE(row, desk, cells, frame);    the parameters in their order, row for seats
+//!     let out = CORE(row, desk, cells, text, seat);    the parameters in their order, row for seats
 //!     store(seats, out.row);
 //!     out.answer
 //! }
 //! ```
 //!
-//! A parameter is a struct, or a slice of structs, of `u8` or of `u32`. CORE ensures CoreX (each parameter at entry) r
-//! (each other `&mut` parameter at exit). The crate's proofs/LentLaws has two laws: `done-x` leads from CoreX to XLent, and
-//! `refused-x` proves XLent if the row does not have sixteen seats. proofs/Outs has laws on the parts of what CORE returns.
+//! A parameter is one of these:
+//!
+//! - a struct, or a number by value: `u8`, `u32`, `u64`, `usize` or `bool`;
+//! - a slice of structs, of `u8` or of `u32`;
+//! - a reference to an array of `u8` or of `u32`, or to an array of such arrays, as `&mut [[u32; KINDS]; 33]`. A length is
+//!   a number or a constant. The constant stands in the module, or in the module that a `use` names, and its value is a
+//!   number or another constant.
+//!
+//! All functions that it calls stand in the module. REFUSER and EARLY take the same struct. TESTER takes some of the
+//! parameters in their order, none that is `&mut`, and returns a `u32`. CORE ensures CoreX (each parameter at entry) r (each
+//! other `&mut` parameter at exit), REFUSER ensures r ≡ refusal-x desk, TESTER ensures TestX (each parameter that it takes,
+//! at entry) r, and EARLY ensures r ≡ early-refusal-x desk n.
+//!
+//! The crate's proofs/LentLaws has `refusal-x`, `early-refusal-x` and these laws, where x is X in lower case. Those about an
+//! early test are only needed if there is one, and only then do the first two take TestX:
+//!
+//! ```text
+//! done-x     (each parameter) → TestX .. 0 → (r : Out) (each other `&mut` at exit) → CoreX ..
+//!            → XLent .. (r .answer) (each `&mut` at exit, (r .row) for seats)
+//! refused-x  (each parameter) → TestX .. 0 → eqb (length seats) seatCount ≡ false
+//!            → XLent .. (refusal-x desk) (each `&mut` parameter as it was)
+//! early-x    (each parameter) (n : ℕ) → TestX .. n → eqb n 0 ≡ false
+//!            → XLent .. (early-refusal-x desk n) (each `&mut` parameter as it was)
+//! ```
+//!
+//! XLent stands in specs/Lent, CoreX and TestX in specs/inside/Core. proofs/Outs has laws on the parts of what CORE returns.
 
 mod file;
 mod frame;
+mod lengths;
 mod lex;
+mod number;
 mod param;
 mod source;
 mod steps;
@@ -61,9 +91,11 @@ struct Written {
 
 /// The proofs of the module's calls.
 fn proofs(root: &Path, crate_name: &str, module: &str) -> Result<Vec<Written>, String> {
-    let path = format!("crates/{crate_name}/src/{module}.rt");
+    let file = |crate_name: &str, module: &str| format!("crates/{crate_name}/src/{module}.rt");
+    let path = file(crate_name, module);
     let source = fs::read_to_string(root.join(&path)).map_err(|e| format!("{path}: cannot be read: {e}"))?;
-    let calls = source::calls(crate_name, module, &source)?;
+    let modules = |crate_name: &str, module: &str| fs::read_to_string(root.join(file(crate_name, module))).ok();
+    let calls = source::calls(crate_name, module, &source, &modules)?;
     if calls.is_empty() {
         return Err(format!("{path} has no call on lent seats"));
     }

@@ -1,7 +1,9 @@
 //! Reads the calls on lent seats from the source of a module.
 
+use crate::lengths::{self, Modules};
 use crate::lex;
-use crate::param::{Kind, Param};
+use crate::param::{Kind, Loan, Param, Type};
+use crate::text::spaced;
 
 /// The struct of the elements of the lent row.
 const SEAT: &str = "Seat";
@@ -15,6 +17,8 @@ pub struct Call {
     pub result: String,
     /// The X of its XLent and CoreX.
     pub kind: String,
+    /// What it tests before the row, if it does.
+    pub early: Option<Early>,
     /// The function that answers if the row does not have sixteen seats, and the place of the parameter that it takes.
     pub refuser: String,
     state: usize,
@@ -23,6 +27,14 @@ pub struct Call {
     pub made: String,
     /// The structs that the call names, sorted by name, and where they are declared.
     pub homes: Vec<(String, Home)>,
+}
+
+/// A test before that of the row: the function that tests, the places of the parameters that it takes, and the function
+/// that answers if it returns another number than 0.
+pub struct Early {
+    pub tester: String,
+    takes: Vec<usize>,
+    pub answerer: String,
 }
 
 impl Call {
@@ -36,24 +48,50 @@ impl Call {
         &self.params[self.state]
     }
 
-    /// The slices.
+    /// The slices and the arrays.
     pub fn refs(&self) -> Vec<&Param> {
         self.params.iter().filter(|p| p.is_ref()).collect()
     }
 
-    /// The slices that the call may change.
+    /// The slices and the arrays that the call may change.
     pub fn muts(&self) -> Vec<&Param> {
         self.params.iter().filter(|p| p.changes()).collect()
     }
 
-    /// The slices that the call by value takes.
+    /// The slices that the call may change.
+    pub fn mut_slices(&self) -> Vec<&Param> {
+        self.params.iter().filter(|p| p.changes() && p.is_slice()).collect()
+    }
+
+    /// The slices and the arrays that the call by value takes.
     pub fn core_refs(&self) -> Vec<&Param> {
         self.params.iter().filter(|p| p.is_ref() && !p.is_seats).collect()
     }
 
-    /// The slices that the call by value may change.
+    /// The slices and the arrays that the call by value may change.
     pub fn core_muts(&self) -> Vec<&Param> {
         self.params.iter().filter(|p| p.changes() && !p.is_seats).collect()
+    }
+
+    /// The parameters that are tested before the row.
+    pub fn tested(&self) -> Vec<&Param> {
+        let takes = self.early.iter().flat_map(|early| &early.takes);
+        takes.map(|place| &self.params[*place]).collect()
+    }
+
+    /// The slices and the arrays that are tested before the row.
+    pub fn tested_refs(&self) -> Vec<&Param> {
+        self.tested().into_iter().filter(|p| p.is_ref()).collect()
+    }
+
+    /// What the tester ensures of the number `n`.
+    pub fn test(&self, n: &str) -> String {
+        format!("Test{} {} {n}", self.kind, spaced(&self.tested(), |p| p.v.clone()))
+    }
+
+    /// The answer after an early test that found the number `n`.
+    pub fn early_refusal(&self, n: &str) -> String {
+        format!("early-refusal-{} {} {n}", self.law(), self.state().v)
     }
 
     /// The X of its laws `done-x` and `refused-x`.
@@ -88,8 +126,8 @@ impl Home {
 }
 
 /// The calls on lent seats of a module, in their order, or what is wrong with one.
-pub fn calls(crate_name: &str, module: &str, text: &str) -> Result<Vec<Call>, String> {
-    let source = Source { crate_name, module, tokens: lex::tokens(text) };
+pub fn calls(crate_name: &str, module: &str, text: &str, modules: Modules) -> Result<Vec<Call>, String> {
+    let source = Source { crate_name, module, tokens: lex::tokens(text), modules };
     let starts = 0..source.tokens.len();
     starts.filter_map(|at| source.call_at(at).map(|name| source.call(name, at))).collect()
 }
@@ -98,6 +136,7 @@ struct Source<'a> {
     crate_name: &'a str,
     module: &'a str,
     tokens: Vec<&'a str>,
+    modules: Modules<'a>,
 }
 
 impl Source<'_> {
@@ -111,12 +150,14 @@ impl Source<'_> {
     /// The call `name`, which begins at `at`.
     fn call(&self, name: &str, at: usize) -> Result<Call, String> {
         let form = Form::read(&self.tokens[at..]);
-        let form = form.ok_or(format!("{name} does not have the form of a call on lent seats"))?;
+        let mut form = form.ok_or(format!("{name} does not have the form of a call on lent seats"))?;
         let in_order = form.params.iter().map(|p| if p.is_seats { "row" } else { &p.name });
         if !in_order.eq(form.handed.iter().map(String::as_str)) {
             return Err(format!("{name} hands its parameters on in another order"));
         }
-        let made = self.result_of(form.core).ok_or(format!("{name} calls {}, which is not here", form.core))?;
+        let early = form.early.take().map(|test| self.early(name, &form.params, test)).transpose()?;
+        let made = self.result_of(form.core, Reader::structure).ok_or(not_here(name, form.core))?;
+        self.count(name, &mut form.params)?;
         Ok(Call {
             crate_name: self.crate_name.to_string(),
             module: self.module.to_string(),
@@ -125,6 +166,7 @@ impl Source<'_> {
             params: form.params,
             result: form.result.to_string(),
             kind: form.kind.to_string(),
+            early,
             refuser: form.refuser.to_string(),
             state: form.state,
             core: form.core.to_string(),
@@ -132,13 +174,41 @@ impl Source<'_> {
         })
     }
 
-    /// The struct that the module's function `name` returns.
-    fn result_of(&self, name: &str) -> Option<&str> {
+    /// The early test of the call `name`. The tester takes some of the parameters in their order, none that may change,
+    /// and returns a `u32`.
+    fn early(&self, name: &str, params: &[Param], test: Test) -> Result<Early, String> {
+        let Test { tester, handed, answerer } = test;
+        let mut takes = Vec::new();
+        for word in &handed {
+            let place = params.iter().position(|p| p.name == *word);
+            let place = place.filter(|place| takes.last().is_none_or(|last| last < place));
+            takes.push(place.ok_or(format!("{name} hands {tester} its parameters in another order"))?);
+        }
+        if let Some(place) = takes.iter().find(|place| params[**place].changes()) {
+            return Err(format!("{name} hands {tester} {}, which may change", params[*place].name));
+        }
+        match self.result_of(tester, Reader::word).ok_or(not_here(name, tester))? {
+            "u32" => Ok(Early { tester: tester.to_string(), takes, answerer: answerer.to_string() }),
+            _ => Err(format!("{name} calls {tester}, which does not return a u32")),
+        }
+    }
+
+    /// Replaces the names of constants in the lengths of arrays by numbers.
+    fn count(&self, name: &str, params: &mut [Param]) -> Result<(), String> {
+        for length in params.iter_mut().flat_map(|p| &mut p.lengths) {
+            let number = lengths::number(self.modules, self.crate_name, self.module, length);
+            *length = number.ok_or(format!("{name} takes an array of {length} elements: what number is {length}?"))?;
+        }
+        Ok(())
+    }
+
+    /// The type that the module's function `name` returns, read by `read`.
+    fn result_of<'b>(&'b self, name: &str, read: impl Fn(&mut Reader<'b>) -> Option<&'b str>) -> Option<&'b str> {
         let at = self.tokens.windows(2).position(|w| w == ["fn", name])?;
         let mut reader = Reader { rest: &self.tokens[at + 2..] };
         reader.list()?;
         reader.all("- >")?;
-        reader.structure()
+        read(&mut reader)
     }
 
     /// The structs of a call, sorted by name, each once, and where they are declared.
@@ -152,14 +222,22 @@ impl Source<'_> {
 
     /// Where the struct `name` is declared: where a `use` imports it from, or in this module.
     fn home(&self, name: &str) -> Home {
-        let used = self.tokens.windows(9).find_map(|w| match w {
-            ["use", from, ":", ":", module, ":", ":", last, ";"] if *last == name => Some((*from, *module)),
-            _ => None,
-        });
-        let (from, module) = used.unwrap_or(("crate", self.module));
+        let (from, module) = imported(&self.tokens, name).unwrap_or(("crate", self.module));
         let own = from == "crate";
         Home { crate_name: if own { self.crate_name } else { from }.to_string(), module: module.to_string(), own }
     }
+}
+
+/// Where a `use` imports a name from: the crate and the module.
+pub fn imported<'a>(tokens: &[&'a str], name: &str) -> Option<(&'a str, &'a str)> {
+    tokens.windows(9).find_map(|w| match w {
+        ["use", from, ":", ":", module, ":", ":", last, ";"] if *last == name => Some((*from, *module)),
+        _ => None,
+    })
+}
+
+fn not_here(name: &str, function: &str) -> String {
+    format!("{name} calls {function}, which is not here")
 }
 
 /// The parts of a call, read from its text.
@@ -167,12 +245,20 @@ struct Form<'a> {
     params: Vec<Param>,
     result: &'a str,
     kind: &'a str,
+    early: Option<Test<'a>>,
     refuser: &'a str,
     /// The place of the parameter that the refuser takes.
     state: usize,
     core: &'a str,
     /// The arguments of the core.
     handed: Vec<String>,
+}
+
+/// The parts of an early test: the function that tests, its arguments, and the function that answers.
+struct Test<'a> {
+    tester: &'a str,
+    handed: Vec<String>,
+    answerer: &'a str,
 }
 
 impl<'a> Form<'a> {
@@ -193,6 +279,8 @@ impl<'a> Form<'a> {
 
     /// Reads the call's body, without its first brace.
     fn body(reader: &mut Reader<'a>, mut params: Vec<Param>, result: &'a str, kind: &'a str) -> Option<Form<'a>> {
+        let early = if reader.rest.first() == Some(&"let") { Some(Test::read(reader)?) } else { None };
+        let (early, early_state) = early.unzip();
         reader.all("if")?;
         let seats = reader.word()?;
         reader.all(". len ( ) ! = SEATS { return")?;
@@ -201,12 +289,33 @@ impl<'a> Form<'a> {
         let state = reader.word()?;
         reader.all(&format!(") ; }} let row = load ( {seats} ) ; let out ="))?;
         let core = reader.word()?;
-        let handed = reader.list()?.iter().map(|item| item.concat()).collect();
+        let handed = reader.handed()?;
         reader.all(&format!("; store ( {seats} , out . row ) ; out . answer }}"))?;
-        let row = params.iter_mut().find(|p| p.name == seats && p.changes() && p.of == SEAT)?;
+        let row = params.iter_mut().find(|p| p.name == seats && p.kind == Kind::Slice(Loan::Mut) && p.of == SEAT)?;
         row.is_seats = true;
-        let state = params.iter().position(|p| p.name == state && !p.is_ref())?;
-        Some(Form { params, result, kind, refuser, state, core, handed })
+        let same_state = early_state.is_none_or(|early| early == state);
+        let state = params.iter().position(|p| p.name == state && p.kind == Kind::Struct && same_state)?;
+        // a variable of this name would hide the parameter
+        let hidden = |p: &Param| p.name == "row" || p.name == "early" && early.is_some();
+        if params.iter().any(hidden) {
+            return None;
+        }
+        Some(Form { params, result, kind, early, refuser, state, core, handed })
+    }
+}
+
+impl<'a> Test<'a> {
+    /// Reads an early test, and the parameter that its answer takes beside the number.
+    fn read(reader: &mut Reader<'a>) -> Option<(Test<'a>, &'a str)> {
+        reader.all("let early =")?;
+        let tester = reader.word()?;
+        let handed = reader.handed()?;
+        reader.all("; if early ! = 0 { return")?;
+        let answerer = reader.word()?;
+        reader.all("(")?;
+        let state = reader.word()?;
+        reader.all(", early ) ; }")?;
+        Some((Test { tester, handed, answerer }, state))
     }
 }
 
@@ -214,16 +323,35 @@ impl<'a> Form<'a> {
 fn params(list: &[&[&str]]) -> Option<Vec<Param>> {
     let mut found: Vec<Param> = Vec::new();
     for tokens in list {
-        let (name, kind, of) = match tokens {
-            [name, ":", "&", "mut", "[", of, "]"] => (name, Kind::Mut, of),
-            [name, ":", "&", "[", of, "]"] => (name, Kind::Shared, of),
-            [name, ":", of] => (name, Kind::Value, of),
+        let (name, of) = match tokens {
+            [name, ":", "&", "mut", of @ ..] => (name, lent(Loan::Mut, of)?),
+            [name, ":", "&", of @ ..] => (name, lent(Loan::Shared, of)?),
+            [name, ":", of] => (name, Type::Value(of)),
             _ => return None,
         };
         let lifetime = found.iter().filter(|p| p.is_ref()).count();
-        found.push(Param::new(name, kind, of, found.len(), lifetime)?);
+        found.push(Param::new(name, of, found.len(), lifetime)?);
     }
     Some(found)
+}
+
+/// The type of a slice or an array that is lent.
+fn lent<'a>(loan: Loan, tokens: &[&'a str]) -> Option<Type<'a>> {
+    match tokens {
+        ["[", of, "]"] => Some(Type::Slice(loan, of)),
+        _ => array(tokens).map(|(of, lengths)| Type::Array(loan, of, lengths)),
+    }
+}
+
+/// The type of an array's elements, and its lengths, from the inside to the outside.
+fn array<'a>(tokens: &[&'a str]) -> Option<(&'a str, Vec<&'a str>)> {
+    let ["[", inside @ .., ";", length, "]"] = tokens else { return None };
+    let (of, mut lengths) = match inside {
+        [of] => (*of, Vec::new()),
+        _ => array(inside)?,
+    };
+    lengths.push(*length);
+    Some((of, lengths))
 }
 
 /// The arguments of XLent in what a call ensures: each parameter at entry, the result, and at exit each parameter that it
@@ -253,6 +381,11 @@ impl<'a> Reader<'a> {
     /// Reads the name of a struct.
     fn structure(&mut self) -> Option<&'a str> {
         self.word().filter(|word| word.starts_with(char::is_uppercase))
+    }
+
+    /// Reads the arguments of a call.
+    fn handed(&mut self) -> Option<Vec<String>> {
+        Some(self.list()?.iter().map(|item| item.concat()).collect())
     }
 
     /// Reads a list in parentheses, split at its commas. There may be a comma after the last item.

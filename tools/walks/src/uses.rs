@@ -1,6 +1,9 @@
 //! The `use` lines of a proof.
 
-use crate::source::Call;
+use crate::param::{Kind, Loan, Param};
+use crate::source::{Call, Early};
+use crate::text::joined;
+use std::collections::{BTreeMap, BTreeSet};
 
 /// The `use` lines that are the same for all calls.
 const HEAD: &str = "\
@@ -51,9 +54,20 @@ use denote.Signature.{plain}
 use Rattle.desk.specs.Limits.{seatCount}
 ";
 
+/// The names of the kit that an early test needs, each with its module.
+const EARLY: [(&str, &str); 6] = [
+    ("denote.Plain", "uint-lawful"),
+    ("denote.Plain", "uint-makes"),
+    ("mir.Syntax", "tyInt"),
+    ("mir.Syntax", "w32"),
+    ("mir.Val", "vint"),
+    ("types.Run", "store"),
+];
+
 /// The functions that a call calls, in their order: the name of each in the proof, and its own name.
-pub fn callees(c: &Call) -> [(&str, &str); 4] {
-    [("refused", &c.refuser), ("load", "load"), ("core", &c.core), ("store", "store")]
+pub fn callees(c: &Call) -> Vec<(&str, &str)> {
+    let early = c.early.iter().flat_map(|early| [("tested", early.tester.as_str()), ("early", &early.answerer)]);
+    early.chain([("refused", c.refuser.as_str()), ("load", "load"), ("core", &c.core), ("store", "store")]).collect()
 }
 
 /// All `use` lines of a call's proof.
@@ -62,6 +76,7 @@ pub fn uses(c: &Call) -> String {
     let own = format!("Rattle.{crate_name}.proofs.{module}.{name}");
     [
         HEAD.to_string(),
+        of_kit(c),
         of_structs(c),
         of_crate(c),
         of_callees(c),
@@ -69,6 +84,46 @@ pub fn uses(c: &Call) -> String {
         format!("use {own} as outer\nuse {own}.Statement as stated\nuse {own}.Code as code\n"),
     ]
     .concat()
+}
+
+/// The `use` lines for names of the kit that only some calls need.
+fn of_kit(c: &Call) -> String {
+    let early = if c.early.is_some() { &EARLY[..] } else { &[] };
+    let all = c.params.iter().flat_map(for_param).chain(early.iter().copied());
+    let mut names: BTreeMap<&str, BTreeSet<&str>> = BTreeMap::new();
+    for (module, name) in all.filter(|(module, name)| !in_head(module, name)) {
+        names.entry(module).or_default().insert(name);
+    }
+    let line = |(module, names): (&str, BTreeSet<&str>)| {
+        let names: Vec<&str> = names.into_iter().collect();
+        format!("use {module}.{{{}}}\n", joined(&names, ", ", |name| name.to_string()))
+    };
+    names.into_iter().map(line).collect()
+}
+
+/// The names that a parameter needs beside those that all calls have, each with its module.
+fn for_param(p: &Param) -> Vec<(&'static str, &'static str)> {
+    let (refs, walked) = ("denote.Ref", "denote.Triple.Walked");
+    let array = [("mir.Val", "vptr"), (refs, "ptr-vals")];
+    match p.kind {
+        Kind::Struct | Kind::Slice(_) => Vec::new(),
+        Kind::Number(number) => number.uses(),
+        Kind::Array(Loan::Mut) => {
+            let laws = [(walked, "gave-ref"), (walked, "goes-gave-ref"), ("base.Fml", "fres")];
+            [&array[..], &[(refs, "MutRef"), (refs, "mut-tells")], &laws].concat()
+        }
+        Kind::Array(Loan::Shared) => {
+            let laws = [(walked, "stay-none-ref"), (walked, "goes-none-ref")];
+            [&array[..], &[(refs, "ShrRef"), (refs, "shr-tells"), (refs, "shr-copy")], &laws].concat()
+        }
+    }
+}
+
+/// Is a name among those that all calls have?
+fn in_head(module: &str, name: &str) -> bool {
+    let names =
+        |line: &'static str| line.strip_prefix("use ")?.strip_prefix(module)?.strip_prefix(".{")?.strip_suffix('}');
+    HEAD.lines().filter_map(names).any(|names| names.split(", ").any(|one| one == name))
 }
 
 fn of_structs(c: &Call) -> String {
@@ -85,12 +140,18 @@ fn of_crate(c: &Call) -> String {
     let Call { crate_name, module, kind, refuser, core, .. } = c;
     let (specs, proofs) = (format!("Rattle.{crate_name}.specs"), format!("Rattle.{crate_name}.proofs"));
     let (law, out) = (c.law(), c.out());
+    let early = |text: String| if c.early.is_some() { text } else { String::new() };
+    let (test, laws) = (early(format!(", Test{kind}")), early(format!(", early-refusal-{law}, early-{law}")));
+    let aliases = c.early.iter().map(|Early { tester, answerer, .. }| {
+        format!("use {proofs}.{module}.{tester} as tester\nuse {proofs}.{module}.{answerer} as answerer\n")
+    });
     [
-        format!("use {specs}.Lent.{{{kind}Lent}}\nuse {specs}.inside.Core.{{Core{kind}}}\n"),
+        format!("use {specs}.Lent.{{{kind}Lent}}\nuse {specs}.inside.Core.{{Core{kind}{test}}}\n"),
         format!("use {proofs}.Rows.{{guards, is-true, is-false}}\nuse {proofs}.Views.{{gives-up}}\n"),
         format!("use {proofs}.Steps.{{rowVal, Load, Store, loads, stores}}\n"),
         format!("use {proofs}.Outs.{{{out}-row-is, {out}-answer-is}}\n"),
-        format!("use {proofs}.LentLaws.{{refusal-{law}, done-{law}, refused-{law}}}\n"),
+        format!("use {proofs}.LentLaws.{{refusal-{law}, done-{law}, refused-{law}{laws}}}\n"),
+        aliases.collect(),
         format!("use {proofs}.{module}.{refuser} as refuser\nuse {proofs}.{module}.{core} as core\n"),
     ]
     .concat()

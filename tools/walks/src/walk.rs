@@ -160,10 +160,10 @@ impl Walk {
         self.parens += self.locals;
     }
 
-    /// The step by which a local gets its value. `typed` is the proof that the value has the local's type.
+    /// The step by which a local gets a value. `typed` is the proof that the value has the local's type.
     pub fn init(&mut self, k: usize, typed: &str) -> String {
-        self.full.insert(k);
-        format!("(init ! {} refl {typed})", self.cell(k))
+        let step = if self.full.insert(k) { "init" } else { "store" };
+        format!("({step} ! {} refl {typed})", self.cell(k))
     }
 
     pub fn assign(&mut self, k: usize, value: &str, typed: &str) {
@@ -183,6 +183,12 @@ impl Walk {
         self.assign(pointer, &format!("(addr ! (from ! (fld ! refl (hop ! {inside} (stop !)))))"), "(tt, tt)");
         let parts = operands(&[copy(self.cell(pointer)), field(self.cell(source), 1)]);
         self.assign(slice, &format!("(agg ! {parts})"), typed);
+    }
+
+    /// Lends the array of one local again, in another local.
+    pub fn reborrow_array(&mut self, source: usize, reference: usize) {
+        let inside = format!("(look ! {} refl)", self.cell(source));
+        self.assign(reference, &format!("(addr ! (from ! (hop ! {inside} (stop !))))"), "(tt, tt)");
     }
 
     pub fn free(&mut self) {

@@ -62,6 +62,66 @@ pub extern "C" fn rei2_count(seats: &[Seat]) -> u32 {
 }
 "#;
 
+/// A module with a call that takes numbers and arrays, and that tests something before the row.
+const PAGE: &str = r#"use crate::answers::Answer;
+use desk::limits::KINDS;
+use desk::state::Desk;
+use desk::state::Seat;
+
+const LETTERS: usize = 33;
+
+struct Out {
+    pub row: [Seat; SEATS],
+    pub answer: Answer,
+}
+
+fn test_page(counts: &[[[u8; 4]; 2]; 7], text: &[u8], seat: u32) -> u32 {}
+
+fn page_row(
+    row: [Seat; SEATS],
+    desk: Desk,
+    tally: &mut [[u32; KINDS]; LETTERS],
+    cells: &mut [u8],
+    line: &mut [u8; 5],
+    counts: &[[[u8; 4]; 2]; 7],
+    text: &[u8],
+    seat: u32,
+    whole: bool,
+) -> Out {}
+
+#[no_mangle]
+pub extern "C" fn rei2_page(
+    seats: &mut [Seat],
+    desk: Desk,
+    tally: &mut [[u32; KINDS]; LETTERS],
+    cells: &mut [u8],
+    line: &mut [u8; 5],
+    counts: &[[[u8; 4]; 2]; 7],
+    text: &[u8],
+    seat: u32,
+    whole: bool,
+) -> Answer
+    ensures { λ r. ⌜ PageLent (now (seats .entry)) desk (now (tally .entry)) (now (cells .entry)) (now (line .entry))
+        (now (counts .entry)) (now (text .entry)) seat whole r
+        (now (seats .exit)) (now (tally .exit)) (now (cells .exit)) (now (line .exit)) ⌝ }
+{
+    let early = test_page(counts, text, seat);
+    if early != 0 {
+        return no_page(desk, early);
+    }
+    if seats.len() != SEATS {
+        return no_desk(desk);
+    }
+    let row = load(seats);
+    let out = page_row(row, desk, tally, cells, line, counts, text, seat, whole);
+    store(seats, out.row);
+    out.answer
+}
+"#;
+
+/// The module that has one of its constants.
+const LIMITS: &str = "pub const KINDS: usize = 3;\n";
+
 /// A repository in a temporary folder, which is removed at the end of the test.
 struct Repo(PathBuf);
 
@@ -71,10 +131,16 @@ impl Repo {
         static MADE: AtomicUsize = AtomicUsize::new(0);
         let number = MADE.fetch_add(1, Ordering::Relaxed);
         let repo = Repo(env::temp_dir().join(format!("walks-test-{}-{number}", process::id())));
-        let folder = repo.0.join("crates/rei2/src");
-        fs::create_dir_all(&folder).expect("a folder is made");
-        fs::write(folder.join("lent.rt"), module).expect("a file is written");
+        repo.has("rei2", "lent", module);
+        repo.has("desk", "limits", LIMITS);
         repo
+    }
+
+    /// Writes a module of a crate.
+    fn has(&self, crate_name: &str, module: &str, text: &str) {
+        let folder = self.0.join(format!("crates/{crate_name}/src"));
+        fs::create_dir_all(&folder).expect("a folder is made");
+        fs::write(folder.join(format!("{module}.rt")), text).expect("a file is written");
     }
 
     /// Runs the program on the module. Returns its status, what it prints, and what it prints as errors.
@@ -123,8 +189,26 @@ fn read(path: &Path) -> String {
 /// The module with `old` replaced by `new`. `old` must occur in it exactly once.
 #[track_caller]
 fn edited(old: &str, new: &str) -> String {
-    assert_eq!(MODULE.matches(old).count(), 1, "the text stands once: {old}");
-    MODULE.replace(old, new)
+    replaced(MODULE, old, new)
+}
+
+/// The same for the module with `rei2_page`.
+#[track_caller]
+fn edited_page(old: &str, new: &str) -> String {
+    replaced(PAGE, old, new)
+}
+
+/// The same with an edit that is made both in `rei2_page` and in the function that it calls.
+#[track_caller]
+fn edited_pages(old: &str, new: &str) -> String {
+    assert_eq!(PAGE.matches(old).count(), 2, "the text stands twice: {old}");
+    PAGE.replace(old, new)
+}
+
+#[track_caller]
+fn replaced(module: &str, old: &str, new: &str) -> String {
+    assert_eq!(module.matches(old).count(), 1, "the text stands once: {old}");
+    module.replace(old, new)
 }
 
 /// The same with an edit of the body of `rei2_look`.
@@ -143,6 +227,31 @@ fn refuses(module: &str, message: &str) {
     assert_eq!(repo.walks(&[]), wanted);
     assert_eq!(repo.walks(&["--check"]), wanted);
     assert!(!repo.0.join("crates/rei2/proofs").exists());
+}
+
+/// The proof that the program writes for a call of a module.
+#[track_caller]
+fn written(module: &str, call: &str) -> String {
+    let repo = Repo::new(module);
+    assert_eq!((repo.walks(&[]).0, repo.walks(&["--check"]).0), (0, 0));
+    read(&repo.proof(call))
+}
+
+/// Asserts that each of these texts stands in a proof so many times.
+#[track_caller]
+fn stand(proof: &str, times: usize, texts: &[&str]) {
+    for text in texts {
+        assert_eq!(proof.matches(text).count(), times, "{text}");
+    }
+}
+
+/// Asserts that these texts stand in a proof one after the other.
+#[track_caller]
+fn in_order(proof: &str, texts: &[&str]) {
+    let mut rest = proof;
+    for text in texts {
+        rest = rest.split_once(text).unwrap_or_else(|| panic!("it does not come next: {text}")).1;
+    }
 }
 
 #[track_caller]
@@ -230,6 +339,246 @@ fn a_module_without_calls() {
     refuses("fn f() {}\n", "crates/rei2/src/lent.rt has no call on lent seats");
 }
 
+// ---- numbers, arrays, and a test before the row
+
+/// The module in which `rei2_look` also takes numbers.
+fn with_numbers() -> String {
+    let numbers = "seat: u32, wide: u64, low: u8, size: usize, whole: bool";
+    let module = edited_look("    desk: Desk,\n) -> Answer", &format!("    desk: Desk, {numbers},\n) -> Answer"));
+    let module = replaced(
+        &module,
+        "LookLent (now (seats .entry)) desk r",
+        "LookLent (now (seats .entry)) desk seat wide low size whole r",
+    );
+    let module = replaced(
+        &module,
+        "        row,\n        desk,\n    );",
+        "        row,\n        desk, seat, wide, low, size, whole\n    );",
+    );
+    replaced(&module, "    desk: Desk,\n) -> Out", &format!("    desk: Desk, {numbers},\n) -> Out"))
+}
+
+#[test]
+fn numbers_are_passed_by_value() {
+    let proof = written(&with_numbers(), "rei2_look");
+    stand(&proof, 1, &[
+        "(v-desk : Desk) (is-desk : Is DeskD.the-row v-desk (LL.vals DeskD.the-type DeskL.the-laws v-desk)) (v-seat : ℕ) \
+         (is-seat : Is u32 v-seat (uint-vals w32 v-seat)) (v-wide : ℕ) (is-wide : Is u64 v-wide (uint-vals w64 v-wide)) \
+         (v-low : ℕ) (is-low : Is u8 v-low (uint-vals w8 v-low)) (v-size : ℕ) (is-size : Is usize v-size \
+         (uint-vals w64 v-size)) (v-whole : Bool) (is-whole : Is bool v-whole (bool-vals v-whole)) where",
+        "  s-seat = vint w32 v-seat\n",
+        "  s-size = vint w64 v-size\n",
+        "  s-whole = vbool v-whole\n",
+        "use denote.Builtin.{bool, u64, usize}\n",
+        "use mir.Syntax.{w32, w64, w8}\n",
+        "(tt, record { fits = is-low .1 })",
+        "  Arg = RefT (List Seat) × (Desk × (ℕ × (ℕ × (ℕ × (ℕ × (Bool × Unit {0}))))))\n",
+        "(done-look v-seats v-desk v-seat v-wide v-low v-size v-whole r e)",
+    ]);
+    // once among what is owned at exit, and once for the call by value
+    stand(&proof, 2, &["owned ! u64 (Is u64) (uint-makes 𝓤 H A W w64) v-wide _ is-wide $ fjoin ! $"]);
+    stand(&proof, 2, &["owned ! bool (Is bool) (bool-makes 𝓤 H A W) v-whole _ is-whole $ "]);
+}
+
+#[test]
+fn the_other_call_of_the_module_is_not_changed() {
+    assert!(written(&with_numbers(), "rei2_take") == written(MODULE, "rei2_take"));
+    stand(&written(MODULE, "rei2_take"), 0, &["denote.Plain", "Ref.{M", "early", "store !", "Tested"]);
+}
+
+#[test]
+fn arrays_are_lent_by_their_references() {
+    let proof = written(PAGE, "rei2_page");
+    let (tally, counts) = ("(Array (Array u32 3) 33)", "(Array (Array (Array u8 4) 2) 7)");
+    stand(
+        &proof,
+        1,
+        &[
+            "(b-tally o-tally : ℕ) (γ-tally : GName) (v-tally : List (List ℕ)) (b-cells",
+            "(v-line : List ℕ) (b-counts o-counts : ℕ) (γ-counts : GName) (v-counts : List (List (List ℕ))) (b-text",
+            "  s-tally = vptr b-tally o-tally\n",
+            &format!("  Own-tally = MutRef (named 1) κ-tally {tally} .own (x-tally v-tally) (s-tally ∷ [])\n"),
+            &format!("  Own-counts = ShrRef (named 4) κ-counts {counts} .own (x-counts v-counts) (s-counts ∷ [])\n"),
+            &format!("gave-ref (1 ∷ []) tt (plain (λ _. {tally})), (gave-slice (2 ∷ [])"),
+            &format!("stay-none-ref (4 ∷ []) tt (plain (λ _. {counts})) yes"),
+            &format!("goes-gave-ref 𝓤 H A W 6 1 tt (plain (λ _. {tally}))"),
+            &format!("mut-tells (named 1) (κs .1 .0) {tally}, (mut-slice-tells (named 2)"),
+            "(a .1 .1 .0 .ptr .0) (a .1 .1 .0 .ptr .1) (a .1 .1 .0 .name) (a .1 .1 .0 .now)\n",
+            "(len-seats : length z-seats ≡ length v-seats) (len-cells : length z-cells ≡ length v-cells) →",
+            "(len-seats, (tt, (tt, (len-cells, (tt, (tt, (tt, (tt, (tt, tt)))))))))",
+        ],
+    );
+    // both refusals leave it as it was
+    stand(
+        &proof,
+        2,
+        &[&format!("use1 W (‵ (fres γ-tally ({tally} .coded .code v-tally))) (W .names .obs-res γ-tally")],
+    );
+    // two are lent again to the call by value. Each has one local. Before the locals are 16 items: of the 6 references, of
+    // the copies of 2 of them, of 6 lifetimes, and two ends
+    let at = |local: usize| 16 + 2 * (23 - local);
+    let lent = |from: usize, to: usize| {
+        let hop = format!("(hop ! (look ! {} refl) (stop !))", at(from));
+        format!("assigns ! (addr ! (from ! {hop})) (from ! (stop !)) (init ! {} refl (tt, tt)) $\n", at(to))
+    };
+    stand(&proof, 1, &[&lent(3, 17), &lent(5, 20)]);
+    stand(&proof, 0, &["room-tally", "len-tally", "room-counts", "Array u32 KINDS"]);
+}
+
+#[test]
+fn the_lengths_of_arrays_are_those_of_the_source() {
+    let repo = Repo::new(PAGE);
+    assert_eq!(repo.walks(&[]), says(0, "walks: 1 walks written\n", ""));
+    repo.has("desk", "limits", "pub const KINDS: usize = FIVE;\npub const FIVE: usize = 5;\n");
+    assert_eq!(repo.walks(&["--check"]).0, 1);
+    assert_eq!(repo.walks(&[]).0, 0);
+    let proof = read(&repo.proof("rei2_page"));
+    assert!(proof.contains("(Array (Array u32 5) 33)") && !proof.contains("(Array u32 3)"));
+    let literal = edited_pages("[[u32; KINDS]; LETTERS]", "[[u32; 5]; 33]");
+    assert!(written(&literal, "rei2_page") == proof);
+}
+
+#[test]
+fn a_test_comes_before_the_row() {
+    let proof = written(PAGE, "rei2_page");
+    stand(&proof, 1, &[
+        "use Rattle.rei2.specs.inside.Core.{CorePage, TestPage}\n",
+        "use Rattle.rei2.proofs.LentLaws.{refusal-page, done-page, refused-page, early-refusal-page, early-page}\n",
+        "use Rattle.rei2.proofs.lent.test_page as tester\n",
+        "use Rattle.rei2.proofs.lent.no_page as answerer\n",
+        "→ r ≡ early-refusal-page v-desk n → TestPage v-counts v-text v-seat n → Dec.eqb n 0 ≡ false → ent",
+        "→ r ≡ refusal → TestPage v-counts v-text v-seat 0 → Dec.eqb (length v-seats) seatCount ≡ false → ent",
+        "(early-page v-seats v-desk v-tally v-cells v-line v-counts v-text v-seat v-whole n t e)",
+        "(refused-page v-seats v-desk v-tally v-cells v-line v-counts v-text v-seat v-whole t e)",
+        "(done-page v-seats v-desk v-tally v-cells v-line v-counts v-text v-seat v-whole passed r ",
+        "let passed : TestPage v-counts v-text v-seat 0 = subst (λ (k : ℕ). TestPage v-counts v-text v-seat k) \
+         (Dec.eqb→eq n 0 (subst Dec.T (sym (is-true (Dec.eqb n 0) none)) tt)) t in\n",
+        "  to-early n = ((tt, tt, tt, early-args n, (s-desk ∷ [], (vint w32 n ∷ [], tt))), tt)\n",
+        "  test-κs = (κ-counts, (κ-text, tt))\n",
+        "  early-args n = (v-desk, (n, tt))\n",
+    ]);
+    in_order(
+        &proof,
+        &[
+            "    walk =\n",
+            "calls-at ! fm (Tested 𝓤 H A at-mem run) known-tested to-tested ",
+            "guards ! ",
+            "calls-at ! fm (Early 𝓤 H A at-mem run) known-early (to-early n) ",
+            "by ! (refuses-early n r w is e t (is-false (Dec.eqb n 0) found))",
+            "guards ! ",
+            "calls-at ! fm (Refused 𝓤 H A at-mem run) known-refused to-refused ",
+            "by ! (refuses r w is e passed (is-false (Dec.eqb (length v-seats) seatCount) differs))",
+            "known-load ",
+            "calls-at ! fm (Core 𝓤 H A at-mem run) known-core to-core ",
+            "known-store ",
+            "code.calls-rei2·lent·test-page ",
+            "code.calls-rei2·lent·no-page ",
+            "code.calls-rei2·lent·no-desk ",
+        ],
+    );
+    // the second test is stored in the local of the first
+    stand(&proof, 1, &["(store ! "]);
+}
+
+#[test]
+fn what_is_tested_is_handed_over_and_put_together_again() {
+    let proof = written(PAGE, "rei2_page");
+    let counts = "(shr-copy 𝓤 H A W (named 4) κ-counts (Array (Array (Array u8 4) 2) 7) .twice (x-counts v-counts) ";
+    let text = "(shr-slice-copy 𝓤 H A W (named 5) κ-text u8 .twice (x-text v-text) ";
+    // a copy of each reference for the tester, and one for the call by value
+    stand(&proof, 2, &[counts, text]);
+    let look = |place: usize| format!("(load ! (from ! (stop !)) (look ! {place} refl))");
+    // local k of 24 has the place 2 * (23 - k) after the entry's item, those of 9 parameters, 4 tokens, and two ends
+    let tester = [6, 7, 8].map(|k| look(2 * (23 - k) + 1 + 9 + 4 + 2));
+    // after the entry's item, the tokens, and what is owned
+    let answerer = [2, 10].map(|k| look(2 * (23 - k) + 3));
+    in_order(
+        &proof,
+        &[
+            &format!("{counts}(s-counts ∷ [])) $ split ! $ "),
+            &format!("{text}(s-text ∷ [])) $ split ! $ nothing ! $ owned ! u32 (Is u32) (uint-makes 𝓤 H A W w32) v-seat _ is-seat"),
+            " $ fjoin ! $ move ! (2 ∷ 0 ∷ []) $ fjoin ! $ move ! (3 ∷ 0 ∷ []) $ fjoin ! $ nothing ! $",
+            " use1 W (raw (Tested 𝓤 H A at-mem run .pre to-tested)) (∗emp 𝓤 _) $\n",
+            &format!("(and-then ! {} (and-then ! {} (and-then ! {} (no-more !))))", tester[0], tester[1], tester[2]),
+            "drop ! $ split ! $ move ! (1 ∷ []) $\n",
+            "facts ! u32 (Is u32) (shows 𝓤 H A u32) n (w ∷ []) (λ is-n.\n",
+            "(ap only (is-n .0)) refl $\n",
+            " move ! (2 ∷ 0 ∷ []) $ join ! $\n",
+            &format!("assigns ! (bin ! {} (lit ! tt) tt)", look(2 * (23 - 10) + 2)),
+            " nothing ! $ owned ! u32 (Is u32) (uint-makes 𝓤 H A W w32) n _ (refl, is-n .1) $ fjoin ! $ owned ! DeskD.the-row",
+            &format!("known-early (to-early n) (and-then ! {} (and-then ! {} (no-more !)))", answerer[0], answerer[1]),
+        ],
+    );
+    stand(
+        &proof,
+        1,
+        &[
+            "  EarlyArg = Desk × (ℕ × Unit {0})\n",
+            "  TestArg = RefT (List (List (List ℕ))) × (RefT (List ℕ) × (ℕ × Unit {0}))\n",
+            "  test-args = (x-counts v-counts, (x-text v-text, (v-seat, tt)))\n",
+            "use denote.Ref.{MutRef, ShrRef, mut-tells, ptr-vals, shr-copy, shr-tells}\n",
+            "shr-tells (named 4) (κs .1 .1 .1 .1 .0) (Array (Array (Array u8 4) 2) 7), (shr-slice-tells (named 5)",
+        ],
+    );
+}
+
+#[test]
+fn the_locals_are_those_of_the_compiler() {
+    let locals = |module: &str, call: &str| written(module, call).matches("alloc1 ! (λ l").count();
+    // the result; the parameters; row, out, the length, the test, the seats for the load and again for the store, the unit
+    assert_eq!(locals(MODULE, "rei2_look"), 1 + 2 + 9);
+    // and two for the cells
+    assert_eq!(locals(MODULE, "rei2_take"), 1 + 4 + 9 + 2);
+    // and one for each array, and the number of the early test
+    assert_eq!(locals(PAGE, "rei2_page"), 1 + 9 + 9 + 2 + 2 + 1);
+}
+
+#[test]
+fn numbers_and_arrays_without_an_early_test() {
+    let proof = written(&edited_page(EARLY, ""), "rei2_page");
+    let whole = written(PAGE, "rei2_page");
+    stand(&proof, 0, &["Test", "test", "early", "Early", "passed", "store !", "tyInt"]);
+    assert_eq!(proof.matches("alloc1 ! (λ l").count() + 1, whole.matches("alloc1 ! (λ l").count());
+    stand(
+        &proof,
+        1,
+        &[
+            "use Rattle.rei2.proofs.LentLaws.{refusal-page, done-page, refused-page}\n",
+            "(done-page v-seats v-desk v-tally v-cells v-line v-counts v-text v-seat v-whole r ",
+            "(refused-page v-seats v-desk v-tally v-cells v-line v-counts v-text v-seat v-whole e)",
+        ],
+    );
+}
+
+#[test]
+fn parentheses_are_closed() {
+    for (module, call) in [(MODULE, "rei2_take"), (&with_numbers(), "rei2_look"), (PAGE, "rei2_page")] {
+        let proof = written(module, call);
+        let depths = proof.chars().scan(0, |depth, c| {
+            *depth += i32::from(c == '(') - i32::from(c == ')');
+            Some(*depth)
+        });
+        let depths: Vec<i32> = depths.collect();
+        assert!(depths.iter().all(|depth| *depth >= 0) && depths.last() == Some(&0), "{call}");
+    }
+}
+
+#[test]
+fn an_early_test_of_values_only() {
+    let module = edited_page("test_page(counts, text, seat);", "test_page(desk, whole);");
+    let module = replaced(
+        &module,
+        "test_page(counts: &[[[u8; 4]; 2]; 7], text: &[u8], seat: u32)",
+        "test_page(desk: Desk, whole: bool)",
+    );
+    let proof = written(&module, "rei2_page");
+    stand(
+        &proof,
+        1,
+        &["  test-κs = tt\n", "  test-args = (v-desk, (v-whole, tt))\n", "let passed : TestPage v-desk v-whole 0 = "],
+    );
+}
+
 // ---- calls that do not have the right form
 
 #[test]
@@ -278,10 +627,113 @@ fn another_contract() {
 fn other_parameters() {
     let desk = "    seats: &mut [Seat],\n    desk: Desk,\n";
     has_no_form(&edited_look(desk, "    seats: &'a mut [Seat],\n    desk: Desk,\n"), "rei2_look");
-    has_no_form(&edited_look(desk, "    seats: &mut [Seat],\n    desk: u32,\n"), "rei2_look");
+    has_no_form(&edited_look(desk, "    seats: &mut [Seat],\n    desk: u32,\n"), "rei2_look"); // no_desk takes a struct
     has_no_form(&edited_look(desk, "    seats: &mut [Seat],\n    desk: [u8; 4],\n"), "rei2_look");
     has_no_form(&edited("frame: &[u8]) -> Answer", "frame: &[u64]) -> Answer"), "rei2_take");
     has_no_form(&edited("fn rei2_take(", "fn rei2_take<'a>("), "rei2_take");
+}
+
+#[test]
+fn other_numbers() {
+    for number in ["u16", "i64", "char", "f32", "&u32", "&mut u32"] {
+        has_no_form(&edited_pages("    seat: u32,\n", &format!("    seat: {number},\n")), "rei2_page");
+    }
+    // a number is not refused for: the answer takes a struct
+    let module = edited_page("return no_desk(desk)", "return no_desk(seat)");
+    has_no_form(&module.replace("no_page(desk, early)", "no_page(seat, early)"), "rei2_page");
+    let order = "rei2_page hands its parameters on in another order";
+    refuses(&edited_page("text, seat, whole);\n", "text, whole, seat);\n"), order);
+    refuses(&edited_page("text, seat, whole);\n", "text, 7, whole);\n"), order);
+}
+
+#[test]
+fn other_arrays() {
+    let tally = "tally: &mut [[u32; KINDS]; LETTERS]";
+    for other in [
+        "tally: &mut [[u32; KINDS]]",
+        "tally: &mut [[u32]; LETTERS]",
+        "tally: &mut [[u32; KINDS]; ]",
+        "tally: &mut [u32; KINDS; LETTERS]",
+        "tally: &mut [[u64; KINDS]; LETTERS]",
+        "tally: &mut [[Seat; KINDS]; LETTERS]",
+        "tally: &mut [[u32; 2 + 1]; LETTERS]",
+        "tally: &mut &[[u32; KINDS]; LETTERS]",
+        "tally: [[u32; KINDS]; LETTERS]",
+    ] {
+        has_no_form(&edited_pages(tally, other), "rei2_page");
+    }
+    let exit = "(now (seats .exit)) (now (tally .exit))";
+    has_no_form(&edited_page(exit, "(now (seats .exit))"), "rei2_page");
+    let order = "rei2_page hands its parameters on in another order";
+    refuses(&edited_page("(row, desk, tally, cells, line,", "(row, desk, line, cells, tally,"), order);
+}
+
+#[test]
+fn lengths_that_are_not_known() {
+    let unknown = |length: &str| format!("rei2_page takes an array of {length} elements: what number is {length}?");
+    refuses(&edited_page("const LETTERS: usize = 33;\n", ""), &unknown("LETTERS"));
+    refuses(&edited_page("const LETTERS: usize = 33;\n", "const LETTERS: usize = 11 * 3;\n"), &unknown("LETTERS"));
+    refuses(&edited_page("use desk::limits::KINDS;\n", "use desk::none::KINDS;\n"), &unknown("KINDS"));
+    refuses(&edited_page("use desk::limits::KINDS;\n", ""), &unknown("KINDS"));
+}
+
+/// The early test of `rei2_page`, and its test of the row.
+const EARLY: &str = "    let early = test_page(counts, text, seat);
+    if early != 0 {
+        return no_page(desk, early);
+    }
+";
+const ROW: &str = "    if seats.len() != SEATS {
+        return no_desk(desk);
+    }
+";
+
+#[test]
+fn an_early_test_at_another_place_or_with_another_answer() {
+    let early = |old: &str, new: &str| edited_page(EARLY, &replaced(EARLY, old, new));
+    has_no_form(&edited_page(&[EARLY, ROW].concat(), &[ROW, EARLY].concat()), "rei2_page");
+    has_no_form(&edited_page(EARLY, &[EARLY, EARLY].concat()), "rei2_page");
+    has_no_form(&edited_page(ROW, ""), "rei2_page");
+    has_no_form(&early("no_page(desk, early)", "no_page(desk)"), "rei2_page");
+    has_no_form(&early("no_page(desk, early)", "no_page(early, desk)"), "rei2_page");
+    has_no_form(&early("no_page(desk, early)", "no_page(desk, seat)"), "rei2_page");
+    has_no_form(&early("no_page(desk, early)", "no_page(other, early)"), "rei2_page");
+    has_no_form(&early("no_page(desk, early)", "no_page(desk, early, seat)"), "rei2_page");
+    has_no_form(&early("early != 0", "early != 1"), "rei2_page");
+    has_no_form(&early("early != 0", "early > 0"), "rei2_page");
+    has_no_form(&early("let early", "let line"), "rei2_page");
+    has_no_form(&early("let early", "let mut early"), "rei2_page");
+}
+
+#[test]
+fn an_early_test_of_other_parameters() {
+    let early = |handed: &str| edited_page("test_page(counts, text, seat);", &format!("test_page({handed});"));
+    for handed in
+        ["text, counts, seat", "counts, counts, seat", "counts, other, seat", "counts, text, 7", "counts, *text, seat"]
+    {
+        refuses(&early(handed), "rei2_page hands test_page its parameters in another order");
+    }
+    refuses(&early("tally, text, seat"), "rei2_page hands test_page tally, which may change");
+    refuses(&early("seats, text, seat"), "rei2_page hands test_page seats, which may change");
+}
+
+#[test]
+fn an_early_test_that_is_not_in_the_module_or_returns_no_number() {
+    refuses(&edited_page("fn test_page(", "fn tested_page("), "rei2_page calls test_page, which is not here");
+    for other in ["u64", "bool", "Answer"] {
+        let module = edited_page("seat: u32) -> u32 {}", &format!("seat: u32) -> {other} {{}}"));
+        refuses(&module, "rei2_page calls test_page, which does not return a u32");
+    }
+}
+
+#[test]
+fn a_parameter_that_a_variable_hides() {
+    for name in ["early", "row"] {
+        let module = PAGE.replace("whole: bool", &format!("{name}: bool")).replace(" whole", &format!(" {name}"));
+        has_no_form(&module, "rei2_page");
+    }
+    let module = PAGE.replace("whole: bool", "out: bool").replace(" whole", " out");
+    assert!(written(&module, "rei2_page").contains("(v-out : Bool)"));
 }
 
 #[test]

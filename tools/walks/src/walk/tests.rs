@@ -159,6 +159,46 @@ fn locals_are_allocated_and_freed_in_order() {
 }
 
 #[test]
+fn a_local_that_has_a_value_is_overwritten() {
+    let mut w = Walk::new(2, &["a"]);
+    w.assign(1, "v", "tt");
+    let mark = w.mark();
+    w.assign(1, "u", "tt");
+    w.lands(0, "tt");
+    let lines = [
+        "",
+        "assigns ! v (from ! (stop !)) (init ! 0 refl tt) $",
+        "assigns ! u (from ! (stop !)) (store ! 0 refl tt) $",
+        "land ! (from ! (stop !)) (init ! 2 refl tt) $",
+    ];
+    assert_eq!(w.text(), lines.join("\n"));
+    // it is forgotten once
+    w.free();
+    assert!(w
+        .text()
+        .ends_with("\nforget ! 2 refl $ forget ! 0 refl $\nmove ! (2 ∷ 3 ∷ []) $ free1 ! $ free1 ! $ free0 ! $"));
+    // before the mark only one local had a value
+    w.back(mark);
+    assert_eq!([w.init(0, "tt"), w.init(1, "tt")], ["(init ! 2 refl tt)", "(store ! 0 refl tt)"]);
+}
+
+#[test]
+fn slices_and_arrays_are_lent_again() {
+    let mut w = Walk::new(4, &["a"]);
+    w.reborrow(0, (1, 2), "tt");
+    w.reborrow_array(0, 3);
+    let lines = [
+        "",
+        "assigns ! (addr ! (from ! (fld ! refl (hop ! (look-in ! 6 (sub ! 0 refl (whole !))) (stop !))))) (from ! (stop !)) \
+         (init ! 4 refl (tt, tt)) $",
+        "assigns ! (agg ! (and-then ! (load ! (from ! (stop !)) (look ! 4 refl)) (and-then ! (load ! (from ! (fld ! refl \
+         (stop !))) (look-in ! 6 (sub ! 1 refl (whole !)))) (no-more !)))) (from ! (stop !)) (init ! 2 refl tt) $",
+        "assigns ! (addr ! (from ! (hop ! (look ! 6 refl) (stop !)))) (from ! (stop !)) (init ! 0 refl (tt, tt)) $",
+    ];
+    assert_eq!(w.text(), lines.join("\n"));
+}
+
+#[test]
 fn a_walk_goes_back_to_a_mark() {
     let mut w = Walk::new(1, &["a"]);
     let mark = w.mark();
