@@ -9,8 +9,7 @@ use lib.Dec.{eqb, ltb}
 use native.Mathlib.Omega.{arith}
 use native.Mathlib.Numerals.{add-one}
 use borrow.Author.Tests.{eqb-true, eq-eqb, ne-eqb, lt-ltb, ltb-true, le-leb, leb-true}
-use Rattle.digits.specs.Refusals.{ENDED, OUT-OF-PLACE, FULL}
-use Rattle.digits.specs.Told.{gives, tried}
+use Rattle.digits.specs.Told.{gives}
 use Rattle.frames.specs.Status.{isZ}
 use Rattle.frames.specs.Reply.{checkTold}
 use Rattle.frames.specs.declared.refusals.ReadRefusal.{ReadRefusal}
@@ -50,12 +49,10 @@ replay-held p (f ∷ fs) = let h = replay-held (advanced p (statusIn (heard f)))
 -- a reply is taken if the seat has not ended and the reply is in its place, with a free cell
 pub goes-step : (p : Progress) (status : ℕ) → goes (step p true status) ≡ eqb (p .ended) 0 && inPlace (p .held) status
 unfolding step
-goes-step p status = by (eqb (p .ended) 0) (inPlace (p .held) status)
-  where
-    by : (a b : Bool) → goes (tried a ENDED (tried b OUT-OF-PLACE (tried true FULL (gives (advanced p status))))) ≡ a && b
-    by true true = refl
-    by true false = refl
-    by false b = refl
+goes-step p status =
+    by-test (eqb (p .ended) 0)
+    (λ a. by-test (inPlace (p .held) status) (λ b. rw (a, b)) (λ b. rw (a, b)))
+    (λ a. rw a)
 
 module _ (cells marks : List ℕ) where
   -- one more row: the seat that its mark names goes on, the others stay
