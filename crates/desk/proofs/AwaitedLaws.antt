@@ -18,7 +18,7 @@ use Rattle.desk.specs.Events.{Event, toOpen, toReply, addressed, framesT
 use Rattle.desk.specs.Mix.{seated, expected, repliesTo, awaited, RepliesAreAwaited}
 use Rattle.digits.proofs.Tests.{by-test}
 use Rattle.desk.proofs.Below.{and-false-r, count-ext, count-none, count-one}
-use Rattle.desk.proofs.ClauseLaws.{Facts, desk-facts}
+use Rattle.desk.proofs.ReplayLaws.{Facts, desk-facts}
 use Rattle.desk.proofs.StepLaws.{found-keyed, fresh-below}
 use Rattle.desk.proofs.RuleLaws.{addressed-heard}
 use Rattle.desk.proofs.ViewLaws.{one-seat}

@@ -26,7 +26,7 @@ use Rattle.digits.proofs.Tests.{and-true, by-test}
 use Rattle.desk.proofs.Below.{never, below-case, eq-case}
 use Rattle.desk.proofs.Bits.{set-own, set-other, set-below, none-used}
 use Rattle.desk.proofs.KeyLaws.{same-key, own-key}
-use Rattle.desk.proofs.ClauseLaws.{replay-more, Facts, desk-facts, facts-desk, mark-used}
+use Rattle.desk.proofs.ReplayLaws.{replay-more, Facts, desk-facts, facts-desk, mark-used}
 use Rattle.desk.proofs.WrittenLaws.{length-with, cell-before, cell-new}
 use Rattle.desk.proofs.StepLaws.{Took, took-used, took-key, Room, took-room, Opens, by-reply, by-opening}
 

@@ -8,7 +8,7 @@ use lib.ListN.{take, replicate, length-replicate}
 use borrow.Author.Tests.{eqb-true}
 use Rattle.digits.specs.Text.{oneOf}
 use Rattle.digits.specs.Told.{gives}
-use Rattle.digits.proofs.Tests.{and-l, and-r, and-true}
+use Rattle.digits.proofs.Tests.{and-l, and-r}
 use Rattle.frames.specs.Rules.{upTo, isAddress, isRequester, isOutput}
 use Rattle.frames.specs.Layout.{recordWrong}
 use Rattle.frames.specs.Kind.{read, wrongIn}
@@ -22,13 +22,13 @@ use Rattle.desk.specs.declared.key.Key.{Key}
 use Rattle.desk.specs.Limits.{seatCount}
 use Rattle.desk.specs.Key.{requestKey, seatKey, sameKey, isKey}
 use Rattle.desk.specs.Rule.{Frame, isTo}
-use Rattle.desk.specs.Seats.{seatAt, usedBit, keyed}
+use Rattle.desk.specs.Seats.{seatAt, usedBit}
 use Rattle.desk.specs.Memory.{Memory}
 use Rattle.desk.specs.Desk.{isZero}
 use Rattle.desk.specs.KeyDemands.{KeysAreRight}
 use Rattle.desk.proofs.KeyLaws.{same-key, own-key, request-legal}
-use Rattle.desk.proofs.ClauseLaws.{Facts, desk-facts}
-use Rattle.desk.proofs.ViewLaws.{one-seat}
+use Rattle.desk.proofs.ReplayLaws.{Facts, desk-facts}
+use Rattle.desk.proofs.ViewLaws.{one-seat, keyed-at}
 
 -- ---- keys
 
@@ -68,10 +68,9 @@ asked-legal k a = rw (a .1 .1 .1) (request-legal (a .0) (a .1 .0) (a .1 .1 .0))
 -- ---- seats
 
 one-of : (m : Memory) → Facts m → (i j : ℕ) → i < seatCount → j < seatCount → usedBit (m .bits) i ≡ true → usedBit (m .bits) j ≡ true → seatKey (seatAt (m .row) i) ≡ seatKey (seatAt (m .row) j) → i ≡ j
-unfolding keyed
 one-of m facts i j l k u v e =
     let key = seatKey (seatAt (m .row) j) in
-    sym (one-seat m key i facts l (and-true u (alike _ _ e))) ∙ one-seat m key j facts k (and-true v (own-key key))
+    sym (one-seat m key i facts l (keyed-at m i key u e)) ∙ one-seat m key j facts k (keyed-at m j key v refl)
 
 zero-parts : (s : Seat) → isZero s ≡ true → s ≡ record { address = 0; requester = 0; number = 0; held = 0; ended = 0 }
 unfolding isZero

@@ -2,6 +2,7 @@ pub mod Below
 pub mod Bits
 pub mod KeyLaws
 pub mod HearingLaws
+pub mod ReplayLaws
 pub mod ClauseLaws
 pub mod SumLaws
 pub mod WrittenLaws

@@ -21,7 +21,7 @@ use Rattle.desk.specs.Limits.{seatCount}
 use Rattle.desk.specs.Key.{requestKey, keyIn}
 use Rattle.desk.specs.Hearing.{heard, hasKey, statusIn}
 use Rattle.desk.specs.Step.{step}
-use Rattle.desk.specs.Seats.{usedBit, keyed, keyedAt, seatWith}
+use Rattle.desk.specs.Seats.{usedBit}
 use Rattle.desk.specs.Memory.{Memory, capacity}
 use Rattle.desk.specs.Desk.{isDesk}
 use Rattle.desk.specs.Calls.{Outcome, opens, opened, replies, emptied}
@@ -29,13 +29,13 @@ use Rattle.desk.specs.Rule.{Frame}
 use Rattle.desk.specs.Events.{Event, toOpen, toReply, frameOf, happens, run, openings, heardAll, Stands, addressed, framesTo, answersTo}
 use Rattle.desk.specs.Views.{View, viewAt, progressIn, newView, Seen, replySeen, seatStep, cellFree, Steps}
 use Rattle.desk.specs.Mix.{Stretch, seated, expected, repliesTo, MayStand, CallsMayStand, CellsFor, viewAfter, saysTo, FoldsWhatMayStand, Sorted, SortsFromAnyDesk, SortsOpenedRequests}
-use Rattle.desk.proofs.Below.{never, first-ext}
-use Rattle.desk.proofs.KeyLaws.{own-key}
+use Rattle.desk.proofs.Below.{never}
+use Rattle.desk.proofs.KeyLaws.{same-key, own-key}
 use Rattle.desk.proofs.RuleLaws.{addressed-heard, fold-is-rule}
-use Rattle.desk.proofs.ClauseLaws.{Facts, desk-facts, facts-desk}
+use Rattle.desk.proofs.ReplayLaws.{Facts, desk-facts, facts-desk}
 use Rattle.desk.proofs.StepLaws.{held-records, Took, took-key, by-reply, by-opening}
-use Rattle.desk.proofs.DeskLaws.{taken-key, taken-capacity, used-other, emptied-desk, reply-facts, opening-facts, stays-desk}
-use Rattle.desk.proofs.ViewLaws.{taken-moves, opened-moves, own-seat, is-local}
+use Rattle.desk.proofs.DeskLaws.{taken-capacity, used-other, emptied-desk, opening-facts, stays-desk}
+use Rattle.desk.proofs.ViewLaws.{one-seat, keyed-at, taken-moves, taken-seat, opened-moves, seatOf, is-local}
 
 -- ---- openings and replies may stand in a stretch
 
@@ -110,24 +110,19 @@ folds-what-may-stand may stand m es s d st l u c = fold may stand es m s (viewAt
 
 -- ---- a stretch with cells enough has a free cell for each of its replies
 
--- a reply leaves keys, bits and the size of the store
+-- a reply leaves each key at its seat, and the size of the store
 record Next (m x : Memory) : Type 0 where
-  key : (i : ℕ) → viewAt x i .key ≡ viewAt m i .key
-  bits : x .bits ≡ m .bits
-  cap : capacity x ≡ capacity m
+  seat : (k : Key) → seatOf x k ≡ seatOf m k
+  size : capacity x ≡ capacity m
 
 next : (m : Memory) (f : Frame) → Next m (replies m f .after)
 next m f =
     by-reply m f (λ (o : Outcome). Next m (o .after))
-    (λ t k. record { key = taken-key m f t k; bits = refl; cap = taken-capacity m f t k })
-    (λ why. record { key = λ i. refl; bits = refl; cap = refl })
-
-with-same : (m x : Memory) (k : Key) → Next m x → seatWith (x .row) (x .bits) k ≡ seatWith (m .row) (m .bits) k
-unfolding seatWith keyed
-with-same m x k n = first-ext seatCount (keyedAt (x .row) (x .bits) k) (keyedAt (m .row) (m .bits) k) (λ i l. rw (n .key i, n .bits))
+    (λ t k. record { seat = taken-seat m f t k; size = taken-capacity m f t k })
+    (λ why. record { seat = λ k. refl; size = refl })
 
 seated-same : (m x : Memory) (got : Told ReplyLabel) → Next m x → seated x got ≡ seated m got
-seated-same m x (gives c) n = ap (λ (s : ℕ). ltb s seatCount) (with-same m x (keyIn c) n)
+seated-same m x (gives c) n = ap (λ (s : ℕ). ltb s seatCount) (n .seat (keyIn c))
 seated-same m x (refuses why) n = refl
 
 replies-same : (m x : Memory) (es : List Event) → Next m x → repliesTo x es ≡ repliesTo m es
@@ -142,26 +137,25 @@ count-next m f =
     (λ t k. rw (k .hears, k .found, lt-ltb (t .seat) seatCount (k .below)) (omega arith))
     (λ why. omega arith)
 
--- a frame addressed to a used seat is one of those that are counted
-own-seated : (m : Memory) (s : ℕ) → Facts m → s < seatCount → usedBit (m .bits) s ≡ true → (got : Told ReplyLabel) → hasKey (viewAt m s .key) got ≡ true → seated m got ≡ true
-own-seated m s d l u (gives c) h = rw (own-seat m s c d l u h) (lt-ltb s seatCount l)
-own-seated m s d l u (refuses why) h = h
+-- a frame addressed to a key that has a seat is one of those that are counted
+own-seated : (m : Memory) (k : Key) → seatOf m k < seatCount → (got : Told ReplyLabel) → hasKey k got ≡ true → seated m got ≡ true
+own-seated m k l (gives c) h = rw (← same-key k (keyIn c) h) (lt-ltb (seatOf m k) seatCount l)
+own-seated m k l (refuses why) h = h
 
-cells-for : (es : List Event) (m : Memory) (s : ℕ) (k : Key) → Facts m → Stretch es → m .count + repliesTo m es ≤ capacity m → s < seatCount → usedBit (m .bits) s ≡ true → viewAt m s .key ≡ k → CellsFor k m es
+cells-for : (es : List Event) (m : Memory) (k : Key) → Stretch es → m .count + repliesTo m es ≤ capacity m → seatOf m k < seatCount → CellsFor k m es
 unfolding repliesTo
-cells-for [] m s k d st r l u q = tt
-cells-for (toOpen f ∷ es) m s k d st r l u q = never true refl (sym (st .0))
-cells-for (toReply f ∷ es) m s k d st r l u q =
+cells-for [] m k st r l = tt
+cells-for (toOpen f ∷ es) m k st r l = never true refl (sym (st .0))
+cells-for (toReply f ∷ es) m k st r l =
     let n = next m f in
     let a = replies-same m (replies m f .after) es n in
     let b = count-next m f in
-    let c = n .cap in (
+    let c = n .size in (
       λ h.
-          let own : addressed (viewAt m s .key) (toReply f) ≡ true = rw q h in
-          let g = own-seated m s d l u (heard f) (sym (addressed-heard (viewAt m s .key) f) ∙ own) in
+          let g = own-seated m k l (heard f) (sym (addressed-heard k f) ∙ h) in
           let t : m .count + (1 + repliesTo m es) ≤ capacity m = rw g at r in
           lt-ltb (m .count) (capacity m) (omega arith),
-      cells-for es (replies m f .after) s k (reply-facts m f d) (st .1) (omega (arith, a, b, c, r)) l (rw (n .bits) u) (n .key s ∙ q),
+      cells-for es (replies m f .after) k (st .1) (omega (arith, a, b, c, r)) (rw (n .seat k) l),
     )
 
 -- ---- as if its frames had come alone
@@ -202,7 +196,9 @@ SortedBy m es s k v = Sorted m es s k (v .records) (not (eqb (length (v .records
 
 folded : (m : Memory) (es : List Event) (s : ℕ) (k : Key) → Facts m → Stretch es → m .count + repliesTo m es ≤ capacity m → s < seatCount → usedBit (m .bits) s ≡ true → viewAt m s .key ≡ k
     → (viewAt (run m es) s ≡ viewAfter s (viewAt m s) (framesTo k es)) × (answersTo k m es ≡ saysTo s (viewAt m s) (framesTo k es))
-folded m es s k d st r l u ek = fold (λ e. true) calls-may-stand es m s k (facts-desk m d) (all-stand es) l u ek (cells-for es m s k d st r l u ek)
+folded m es s k d st r l u ek =
+    let own = one-seat m k s d l (keyed-at m s k u ek) in
+    fold (λ e. true) calls-may-stand es m s k (facts-desk m d) (all-stand es) l u ek (cells-for es m k st r (rw own l))
 
 sorted : (m : Memory) (es : List Event) (s : ℕ) (k : Key) → Facts m → Stretch es → m .count + repliesTo m es ≤ capacity m → s < seatCount → usedBit (m .bits) s ≡ true
     → viewAt m s .key ≡ k → SortedBy m es s k (viewAt m s)

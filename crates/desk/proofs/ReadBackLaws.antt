@@ -13,7 +13,7 @@ use Rattle.desk.specs.Memory.{Memory, cellAt, markAt, recordsOf}
 use Rattle.desk.specs.Calls.{heldCells, heldFrom, heldAnswer, nextHeld}
 use Rattle.desk.specs.ReadBack.{ReadBack, over, tells, ReadsBack}
 use Rattle.desk.proofs.Below.{eq-case, first-ext}
-use Rattle.desk.proofs.ClauseLaws.{desk-facts}
+use Rattle.desk.proofs.ReplayLaws.{desk-facts}
 use Rattle.desk.proofs.HeldLaws.{from-none, found-cell, none-found}
 
 -- ---- the records from a place on

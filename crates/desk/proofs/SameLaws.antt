@@ -21,18 +21,17 @@ use Rattle.desk.specs.Limits.{seatCount}
 use Rattle.desk.specs.Key.{requestKey, keyIn, sameKey}
 use Rattle.desk.specs.Hearing.{heard}
 use Rattle.desk.specs.Rule.{Frame}
-use Rattle.desk.specs.Seats.{keyed, keyedAt, seatWith}
 use Rattle.desk.specs.Memory.{Memory, capacity}
 use Rattle.desk.specs.Calls.{Outcome, outcome, whatIsGiven, keyTried, requestTried, openTried, opens, opened, replyTried, replies, taken}
 use Rattle.desk.specs.Events.{Event, toOpen, toReply, happens, run, answers}
 use Rattle.desk.specs.Views.{View, viewAt, newView, cellFree, Same, ViewsTellAll, SameGoesOn, SameForever}
-use Rattle.desk.proofs.Below.{eq-case, first-ext}
-use Rattle.desk.proofs.ClauseLaws.{Facts, desk-facts, facts-desk}
+use Rattle.desk.proofs.Below.{eq-case}
+use Rattle.desk.proofs.ReplayLaws.{Facts, desk-facts, facts-desk}
 use Rattle.desk.proofs.Bits.{same-bits}
 use Rattle.desk.proofs.SumLaws.{sum-ext, all-records}
 use Rattle.desk.proofs.StepLaws.{took, opens-taken}
 use Rattle.desk.proofs.DeskLaws.{taken-capacity, reply-facts, opening-facts}
-use Rattle.desk.proofs.ViewLaws.{Moves, withRecord, taken-moves, opened-moves, seatOf, tryOf, damaged-tried, stray-tried, heard-tried}
+use Rattle.desk.proofs.ViewLaws.{seatOf, seat-same, Moves, withRecord, taken-moves, opened-moves, tryOf, damaged-tried, stray-tried, heard-tried}
 
 -- ---- what an event does that is taken
 
@@ -106,11 +105,6 @@ module _ (m x : Memory) (f : Frame) (d : Facts m) (y : Facts x) where
   unfolding openTried requestTried keyTried
   open-same (gives r) e b h = rw (facts-desk m d, facts-desk x y, e, h (requestKey r), b)
   open-same (refuses why) e b h = rw (facts-desk m d, facts-desk x y, e)
-
--- the seat with a key, by use and key of the views
-pub seat-same : (m x : Memory) (k : Key) → ((i : ℕ) → i < seatCount → viewAt x i .used && sameKey (viewAt x i .key) k ≡ viewAt m i .used && sameKey (viewAt m i .key) k) → seatOf x k ≡ seatOf m k
-unfolding seatWith keyed
-seat-same m x k h = first-ext seatCount (keyedAt (x .row) (x .bits) k) (keyedAt (m .row) (m .bits) k) h
 
 -- ---- the views tell the bits and the count
 

@@ -32,7 +32,7 @@ use Rattle.digits.proofs.Tests.{and-true, and-l, and-r}
 use Rattle.desk.proofs.Below.{first-sound, first-before}
 use Rattle.desk.proofs.KeyLaws.{same-key, request-legal}
 use Rattle.desk.proofs.HearingLaws.{heard-long}
-use Rattle.desk.proofs.ClauseLaws.{replay-held, goes-step, replayed-most, Facts, desk-facts}
+use Rattle.desk.proofs.ReplayLaws.{replay-held, goes-step, replayed-most, Facts, desk-facts}
 
 -- ---- answers that are not refusals
 

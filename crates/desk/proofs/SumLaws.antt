@@ -11,7 +11,7 @@ use borrow.Author.Tests.{eqb-true, eqb-false, ne-eqb}
 use Rattle.desk.specs.Limits.{seatCount}
 use Rattle.desk.specs.Memory.{Memory, cellAt, markAt, recordsOf, heldBy}
 use Rattle.digits.proofs.Tests.{by-test}
-use Rattle.desk.proofs.ClauseLaws.{Facts, marked}
+use Rattle.desk.proofs.ReplayLaws.{Facts, marked}
 
 -- ---- sums over the numbers below n
 

@@ -28,11 +28,11 @@ use Rattle.desk.specs.Mix.{repliesTo}
 use Rattle.desk.specs.Orders.{keyAnswered, keyOf, Apart, Swaps, NeighboursSwap}
 use Rattle.desk.proofs.Below.{never, eq-case, false-or}
 use Rattle.desk.proofs.KeyLaws.{same-key}
-use Rattle.desk.proofs.ClauseLaws.{Facts, desk-facts}
+use Rattle.desk.proofs.ReplayLaws.{Facts, desk-facts}
 use Rattle.desk.proofs.StepLaws.{found-keyed, keyed-used, keyed-key, Took, took-used, took-key, Opens, by-reply, by-opening}
-use Rattle.desk.proofs.DeskLaws.{taken-key, taken-capacity, taken-desk, used-other, opened-desk}
-use Rattle.desk.proofs.ViewLaws.{Moves, taken-moves, opened-moves, seatOf}
-use Rattle.desk.proofs.SameLaws.{Deed, openDeed, replyDeed, deedOf, done, not-done, Looks, reply-same, open-same, seat-same}
+use Rattle.desk.proofs.DeskLaws.{taken-capacity, taken-desk, used-other, opened-desk}
+use Rattle.desk.proofs.ViewLaws.{seatOf, seat-same, Moves, taken-moves, taken-seat, opened-moves}
+use Rattle.desk.proofs.SameLaws.{Deed, openDeed, replyDeed, deedOf, done, not-done, Looks, reply-same, open-same}
 
 -- ---- events that do the same in both orders
 
@@ -91,9 +91,6 @@ key-heard f c e = key-told (read reply f) c e
 -- ---- a taken reply leaves what is tried of the events with other keys
 
 module _ (m : Memory) (f : Frame) (t : Taking) (k : Took m f t) where
-  taken-seat : (key : Key) → seatOf (taken m f t) key ≡ seatOf m key
-  taken-seat key = seat-same m (taken m f t) key (λ i l. ap (λ (own : Key). usedBit (m .bits) i && sameKey own key) (taken-key m f t k i))
-
   -- the seat with another key is another one
   taken-else : (key : Key) → (keyIn (k .label) ≡ key → ⊥) → seatOf m key < seatCount → seatOf m key ≡ t .seat → ⊥
   taken-else key n l e =
@@ -101,7 +98,7 @@ module _ (m : Memory) (f : Frame) (t : Taking) (k : Took m f t) where
 
   taken-looks : (key : Key) → (keyIn (k .label) ≡ key → ⊥) → (seatOf m key < seatCount → m .count + 2 ≤ capacity m) → Looks m (taken m f t) key
   taken-looks key n r = record {
-    seat = taken-seat key;
+    seat = taken-seat m f t k key;
     view = λ l. taken-moves m f t k .others (seatOf m key) (taken-else key n l);
     free = λ l.
         let h = r l in

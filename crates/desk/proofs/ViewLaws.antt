@@ -1,6 +1,6 @@
 -- An event moves the view of the seat that it is addressed to, and no other. Assumes nothing.
 use Prim.Native.Nat.{ℕ, _<_}
-use mathlib.Core.Bool.{Bool, true, false, not}
+use mathlib.Core.Bool.{Bool, true, false, not, _&&_}
 use mathlib.Core.Path.{_≡_, refl, sym, ap, _∙_}
 use mathlib.Core.List.{[], _∷_, _++_}
 use lib.Dec.{eqb, ltb}
@@ -29,9 +29,10 @@ use Rattle.desk.specs.Memory.{Memory}
 use Rattle.desk.specs.Calls.{whatIsGiven, openTried, opens, opened, seatTried, labelTried, replyTried, replies, taken}
 use Rattle.desk.specs.Events.{Event, toOpen, toReply, happens, addressed}
 use Rattle.desk.specs.Views.{View, viewAt, progressIn, newView, cellFree, Steps, strayAnswer, Local}
-use Rattle.desk.proofs.Below.{never, false-or, first-at}
+use Rattle.desk.proofs.Below.{never, false-or, first-at, first-ext}
+use Rattle.desk.proofs.KeyLaws.{same-key, own-key}
 use Rattle.desk.proofs.RuleLaws.{addressed-heard}
-use Rattle.desk.proofs.ClauseLaws.{Facts, desk-facts, facts-desk}
+use Rattle.desk.proofs.ReplayLaws.{Facts, desk-facts, facts-desk}
 use Rattle.desk.proofs.StepLaws.{held-records, found-keyed, keyed-used, keyed-key, Took, took, Opens, opens-taken, after-taken, after-refused, after-opened, after-not-opened, reply-refused, opening-refused}
 use Rattle.desk.proofs.DeskLaws.{taken-own, taken-other, taken-key, records-own, records-other, opened-own, opened-other, opened-bit, other-bit, opened-holds}
 
@@ -51,6 +52,19 @@ one-seat m k s d l h =
     (λ j i. false-or (keyedAt (m .row) (m .bits) k j) (λ hj. clash m k s j d l i h hj))
     h
 
+-- a used seat has its own key
+pub keyed-at : (m : Memory) (s : ℕ) (k : Key) → usedBit (m .bits) s ≡ true → seatKey (seatAt (m .row) s) ≡ k → keyedAt (m .row) (m .bits) k s ≡ true
+unfolding keyed
+keyed-at m s k u e = and-true u (rw e (own-key k))
+
+abbrev pub seatOf : Memory → Key → ℕ
+seatOf m k = seatWith (m .row) (m .bits) k
+
+-- the seat with a key, by use and key of the views
+pub seat-same : (m x : Memory) (k : Key) → ((i : ℕ) → i < seatCount → viewAt x i .used && sameKey (viewAt x i .key) k ≡ viewAt m i .used && sameKey (viewAt m i .key) k) → seatOf x k ≡ seatOf m k
+unfolding seatWith keyed
+seat-same m x k h = first-ext seatCount (keyedAt (x .row) (x .bits) k) (keyedAt (m .row) (m .bits) k) h
+
 -- ---- what a taken call moves
 
 pub record Moves (m x : Memory) (s : ℕ) (v : View) : Type 0 where
@@ -69,6 +83,9 @@ taken-moves m f t k = record {
   others = λ i n. view-is refl (taken-key m f t k i) (records-other m f t k i n) (rw (taken-other m f t k i n));
 }
 
+pub taken-seat : (m : Memory) (f : Frame) (t : Taking) → Took m f t → (k : Key) → seatOf (taken m f t) k ≡ seatOf m k
+taken-seat m f t k key = seat-same m (taken m f t) key (λ i l. ap (λ (own : Key). usedBit (m .bits) i && sameKey own key) (taken-key m f t k i))
+
 pub opened-moves : (m : Memory) (f : Frame) (o : Opening) → Opens m f o → Moves m (opened m o) (o .seat) (newView (o .key))
 opened-moves m f o k = record {
   own = view-is (opened-bit m f o k) (ap seatKey (opened-own m f o k)) (opened-holds m f o k) (rw (opened-own m f o k));
@@ -76,9 +93,6 @@ opened-moves m f o k = record {
 }
 
 -- ---- what is tried of a reply goes by the view of the seat that it finds
-
-abbrev pub seatOf : Memory → Key → ℕ
-seatOf m k = seatWith (m .row) (m .bits) k
 
 abbrev pub tryOf : View → Bool → Taking → Told Taking
 tryOf v free t = whatIsGiven (step (progressIn v) free (t .status)) (λ p. gives t)
@@ -129,13 +143,9 @@ module _ (m : Memory) (f : Frame) (s : ℕ) (c : ReplyLabel) (e : heard f ≡ gi
       let a = after-refused m f why q in
       record { answer = rw (a, x); own = rw (a, x); others = λ i n. rw a }
 
-pub own-seat : (m : Memory) (s : ℕ) (c : ReplyLabel) → Facts m → s < seatCount → usedBit (m .bits) s ≡ true → sameKey (seatKey (seatAt (m .row) s)) (keyIn c) ≡ true → seatOf m (keyIn c) ≡ s
-unfolding keyed
-own-seat m s c d l u h = one-seat m (keyIn c) s d l (and-true u h)
-
 reply-local : (m : Memory) (f : Frame) (s : ℕ) → Facts m → s < seatCount → usedBit (m .bits) s ≡ true → (got : Told ReplyLabel) → heard f ≡ got → hasKey (viewAt m s .key) got ≡ true → Steps m (toReply f) s
 reply-local m f s d l u (gives c) e h =
-    let q = own-seat m s c d l u h in
+    let q = one-seat m (keyIn c) s d l (keyed-at m s (keyIn c) u (same-key (viewAt m s .key) (keyIn c) h)) in
     steps-by m f s c e (step (progressIn (viewAt m s)) (cellFree m) (c .status)) refl (rw q at (heard-tried m f d c e (rw q l)))
 reply-local m f s d l u (refuses why) e h = never true refl (sym h)
 

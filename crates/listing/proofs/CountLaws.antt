@@ -6,7 +6,7 @@ use lib.ListN.{length}
 use Rattle.finder.specs.Pieces.{pieces}
 use Rattle.desk.specs.Limits.{seatCount}
 use Rattle.desk.specs.Memory.{Memory, heldBy}
-use Rattle.desk.proofs.ClauseLaws.{desk-facts}
+use Rattle.desk.proofs.ReplayLaws.{desk-facts}
 use Rattle.desk.proofs.SumLaws.{sum, all-records}
 use Rattle.desk.proofs.LeavesLaws.{all-desk}
 use Rattle.desk.proofs.CellLaws.{all-cells}

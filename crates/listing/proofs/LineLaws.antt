@@ -28,7 +28,7 @@ use Rattle.desk.specs.Hearing.{heard, hasKey}
 use Rattle.desk.specs.Key.{seatKey}
 use Rattle.desk.specs.Seats.{seatAt}
 use Rattle.desk.specs.Memory.{Memory, cellAt, markAt, recordsOf, heldBy}
-use Rattle.desk.proofs.ClauseLaws.{desk-facts, cell-keyed}
+use Rattle.desk.proofs.ReplayLaws.{desk-facts, cell-keyed}
 use Rattle.desk.proofs.LeavesLaws.{all-desk}
 use Rattle.desk.proofs.HearingLaws.{heard-long}
 use Rattle.listing.specs.Text.{Look, plain, address, addressShown, looks, Column, columns, part, shown, heading, rowText, rowsText, countText, endText}

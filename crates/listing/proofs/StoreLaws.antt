@@ -13,7 +13,7 @@ use Rattle.finder.specs.Pieces.{pieces}
 use Rattle.desk.specs.Limits.{mostCells, cellSize}
 use Rattle.desk.specs.Memory.{capacityOf}
 use Rattle.desk.specs.Desk.{isDesk}
-use Rattle.desk.proofs.ClauseLaws.{desk-facts}
+use Rattle.desk.proofs.ReplayLaws.{desk-facts}
 use Rattle.desk.proofs.DeskLaws.{stays-desk}
 use Rattle.desk.proofs.LeavesLaws.{Leaves, all-leaves, all-desk}
 use Rattle.listing.specs.Listing.{store, after}

@@ -16,7 +16,8 @@ use Rattle.desk.specs.Memory.{markAt, cellAt}
 use Rattle.desk.specs.Seats.{seatAt}
 use Rattle.digits.proofs.Tests.{and-true}
 use Rattle.desk.proofs.Below.{all-more, all-fails, all-to, not-came, not-left, past, out, and-false-r}
-use Rattle.desk.proofs.ClauseLaws.{replayed-most, part-cell, Tracks, tracks-none, tracks-next, turn-good, mark-seat, all-agree}
+use Rattle.desk.proofs.ReplayLaws.{replayed-most, mark-seat}
+use Rattle.desk.proofs.ClauseLaws.{part-cell, Tracks, tracks-none, tracks-next, turn-good, all-agree}
 use Rattle.desk.proofs.clauses.replay_rows.Statement.{statement}
 use Rattle.desk.proofs.clauses.replay_rows.Tie as tie
 
