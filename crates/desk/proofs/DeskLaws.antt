@@ -1,6 +1,6 @@
 -- What a taken reply and an opening do to each seat, and that a desk stays a desk. Assumes nothing.
 use Prim.Native.Nat.{ℕ, zero, suc, _+_, _*_, _<_, _≤_}
-use mathlib.Core.Bool.{Bool, true, false, cond, not}
+use mathlib.Core.Bool.{true, false, cond, not}
 use mathlib.Core.Path.{_≡_, refl, sym, ap, ap₂, _∙_}
 use mathlib.Core.List.{List, [], _∷_, _++_, append-nil}
 use native.Mathlib.Omega.{arith}
@@ -14,21 +14,21 @@ use Rattle.desk.specs.declared.opening.Opening.{Opening}
 use Rattle.desk.specs.declared.reply.Taking.{Taking}
 use Rattle.desk.specs.declared.step.Progress.{Progress}
 use Rattle.desk.specs.Limits.{seatCount, cellSize}
-use Rattle.desk.specs.Key.{keyIn, seatKey, sameKey, isKey}
+use Rattle.desk.specs.Key.{keyIn, seatKey, isKey}
 use Rattle.desk.specs.Step.{progressOf, advanced, none, replay}
-use Rattle.desk.specs.Seats.{zeroSeat, seatAt, usedBit, keyed}
+use Rattle.desk.specs.Seats.{zeroSeat, seatAt, usedBit, keyed, keyedAt}
 use Rattle.desk.specs.Memory.{Memory, capacity, capacityOf, cellAt, markAt, recordsOf, heldBy}
-use Rattle.desk.specs.Desk.{isZero, apartAt, markNames}
+use Rattle.desk.specs.Desk.{isZero, markNames}
 use Rattle.desk.specs.Replay.{rowGood}
 use Rattle.desk.specs.Calls.{Outcome, newSeat, opens, opened, grown, taken, replies, emptyRow, emptied}
 use Rattle.desk.specs.Mix.{StaysDesk}
-use Rattle.digits.proofs.Tests.{and-true, by-test}
+use Rattle.digits.proofs.Tests.{and-true}
 use Rattle.desk.proofs.Below.{never, below-case, eq-case}
 use Rattle.desk.proofs.Bits.{set-own, set-other, set-below, none-used}
 use Rattle.desk.proofs.KeyLaws.{same-key, own-key}
 use Rattle.desk.proofs.ReplayLaws.{replay-more, Facts, desk-facts, facts-desk, mark-used}
 use Rattle.desk.proofs.WrittenLaws.{length-with, cell-before, cell-new}
-use Rattle.desk.proofs.StepLaws.{Took, took-used, took-key, Room, took-room, Opens, by-reply, by-opening}
+use Rattle.desk.proofs.StepLaws.{keyed-used, Took, took-used, took-key, Room, took-room, Opens, by-reply, by-opening}
 
 -- ---- rows that stay
 
@@ -92,9 +92,9 @@ module _ (m : Memory) (f : List ℕ) (t : Taking) (k : Took m f t) where
 
   -- ---- a desk stays a desk
 
-  same-apart : (i j : ℕ) → apartAt (taken m f t .row) (m .bits) i j ≡ apartAt (m .row) (m .bits) i j
+  same-keyed : (key : Key) (i : ℕ) → keyedAt (taken m f t .row) (m .bits) key i ≡ keyedAt (m .row) (m .bits) key i
   unfolding keyed
-  same-apart i j = rw (taken-key i, taken-key j)
+  same-keyed key i = rw (taken-key i)
 
   row-facts : (i : ℕ) → i < m .count + 1 → rowGood (taken m f t .row) (m .bits) (taken m f t .cells) (taken m f t .marks) i ≡ true
   unfolding markNames
@@ -116,7 +116,7 @@ module _ (m : Memory) (f : List ℕ) (t : Taking) (k : Took m f t) where
     size = length-set (m .row) (t .seat) (grown (seatAt (m .row) (t .seat)) (t .status)) ∙ k .facts .size;
     bits = k .facts .bits;
     keys = λ i l u. rw (taken-key i) (k .facts .keys i l u);
-    apart = λ i l j h. same-apart i j ∙ k .facts .apart i l j h;
+    one = λ key i j l h a b. k .facts .one key i j l h (sym (same-keyed key i) ∙ a) (sym (same-keyed key j) ∙ b);
     zeros = λ i l u. rw (taken-other i (λ e. never (usedBit (m .bits) i) (rw e (took-used m f t k)) u)) (k .facts .zeros i l u);
     fits = rw taken-capacity (let r = k .room in omega arith);
     rows = row-facts;
@@ -131,9 +131,6 @@ unheld cells marks i zero h = refl
 unheld cells marks i (suc n) h = rw (ne-eqb (markAt marks n) i (h n (omega arith)), unheld cells marks i n (λ j l. h j (omega arith)))
 
 -- ---- the memory after an opening
-
-same-key-sym : (a b : Key) → sameKey a b ≡ true → sameKey b a ≡ true
-same-key-sym a b h = rw (same-key a b h) (own-key b)
 
 module _ (m : Memory) (f : List ℕ) (o : Opening) (k : Opens m f o) where
   pub opened-own : seatAt (opened m o .row) (o .seat) ≡ newSeat (o .key)
@@ -161,34 +158,22 @@ module _ (m : Memory) (f : List ℕ) (o : Opening) (k : Opens m f o) where
   pub opened-holds : heldBy m (o .seat) ≡ []
   opened-holds = unheld (m .cells) (m .marks) (o .seat) (m .count) unmarked
 
-  not-keyed : (i : ℕ) → i < seatCount → usedBit (m .bits) i ≡ true → sameKey (o .key) (seatKey (seatAt (m .row) i)) ≡ false
+  -- with the new seat each key is still at one seat
+  keyed-else : (key : Key) (i : ℕ) → (i ≡ o .seat → ⊥) → keyedAt (opened m o .row) (opened m o .bits) key i ≡ keyedAt (m .row) (m .bits) key i
   unfolding keyed
-  not-keyed i l u =
-      by-test (sameKey (o .key) (seatKey (seatAt (m .row) i)))
-      (λ h. never (keyed (seatAt (m .row) i) (m .bits) i (o .key)) (and-true u (same-key-sym _ _ h)) (k .fresh i l))
-      (λ h. h)
+  keyed-else key i n = rw (other-bit i n, opened-other i n)
 
-  apart-own : (j : ℕ) → j < o .seat → apartAt (opened m o .row) (opened m o .bits) (o .seat) j ≡ true
+  not-both : (key : Key) (i : ℕ) → i < seatCount → (i ≡ o .seat → ⊥) → keyedAt (opened m o .row) (opened m o .bits) key i ≡ true → keyedAt (opened m o .row) (opened m o .bits) key (o .seat) ≡ true → ⊥
   unfolding keyed
-  apart-own j l =
-      let n : j ≡ o .seat → ⊥ = λ e. omega arith in
-      let h = k .below in
-      rw (opened-bit, opened-own, opened-other j n, other-bit j n) (ap not (k .fresh j (omega arith)))
+  not-both key i l n a b =
+      let same : o .key ≡ key = same-key (o .key) key (rw (opened-bit, opened-own) at b) in
+      never _ (sym (keyed-else key i n) ∙ a) (rw same at (k .fresh i l))
 
-  apart-under : (i : ℕ) → i < seatCount → (i ≡ o .seat → ⊥) → (b : Bool) → usedBit (m .bits) i ≡ b → apartAt (opened m o .row) (opened m o .bits) i (o .seat) ≡ true
-  unfolding keyed
-  apart-under i l n true u = rw (other-bit i n, u, opened-bit, opened-own, opened-other i n, not-keyed i l u)
-  apart-under i l n false u = rw (other-bit i n, u)
-
-  apart-else : (i j : ℕ) → (i ≡ o .seat → ⊥) → (j ≡ o .seat → ⊥) → apartAt (opened m o .row) (opened m o .bits) i j ≡ apartAt (m .row) (m .bits) i j
-  unfolding keyed
-  apart-else i j n p = rw (other-bit i n, other-bit j p, opened-other i n, opened-other j p)
-
-  apart-facts : (i : ℕ) → i < seatCount → (j : ℕ) → j < i → apartAt (opened m o .row) (opened m o .bits) i j ≡ true
-  apart-facts i l j h =
+  one-facts : (key : Key) (i j : ℕ) → i < seatCount → j < seatCount → keyedAt (opened m o .row) (opened m o .bits) key i ≡ true → keyedAt (opened m o .row) (opened m o .bits) key j ≡ true → i ≡ j
+  one-facts key i j l h a b =
       eq-case i (o .seat)
-      (λ e. rw e (apart-own j (rw e at h)))
-      (λ n. eq-case j (o .seat) (λ e. rw e (apart-under i l n (usedBit (m .bits) i) refl)) (λ p. apart-else i j n p ∙ k .facts .apart i l j h))
+      (λ e. eq-case j (o .seat) (λ q. e ∙ sym q) (λ n. absurd (not-both key j h n b (rw e at a))))
+      (λ n. eq-case j (o .seat) (λ q. absurd (not-both key i l n a (rw q at b))) (λ p. k .facts .one key i j l h (sym (keyed-else key i n) ∙ a) (sym (keyed-else key j p) ∙ b)))
 
   row-stays : (i : ℕ) → i < m .count → rowGood (opened m o .row) (opened m o .bits) (m .cells) (m .marks) i ≡ true
   unfolding markNames
@@ -218,7 +203,7 @@ module _ (m : Memory) (f : List ℕ) (o : Opening) (k : Opens m f o) where
     size = length-set (m .row) (o .seat) (newSeat (o .key)) ∙ k .facts .size;
     bits = set-below seatCount (m .bits) (o .seat) (k .facts .bits) (k .below) (k .clear);
     keys = key-facts;
-    apart = apart-facts;
+    one = one-facts;
     zeros = zero-facts;
     fits = k .facts .fits;
     rows = row-stays;
@@ -236,7 +221,7 @@ emptied-desk m = record {
   size = length-replicate seatCount zeroSeat;
   bits = omega arith;
   keys = λ i l u. never (usedBit 0 i) u (none-used i);
-  apart = λ i l j h. rw (none-used i);
+  one = λ key i j l h a b. never (usedBit 0 i) (keyed-used emptyRow 0 key i a) (none-used i);
   zeros = λ i l u. rw (empty-seat i l);
   fits = omega arith;
   rows = λ i l. absurd (omega arith);

@@ -10,42 +10,43 @@ use Rattle.digits.specs.Refusals.{DESK}
 use Rattle.digits.specs.Told.{gives, refuses, tried}
 use Rattle.digits.proofs.Sure.{not-refused}
 use Rattle.finder.specs.Pieces.{pieces}
+use Rattle.desk.specs.declared.reply.Taking.{Taking}
 use Rattle.desk.specs.Limits.{cellSize}
 use Rattle.desk.specs.Memory.{Memory, markAt}
 use Rattle.desk.specs.declared.capture.Counts.{Counts}
 use Rattle.desk.specs.Desk.{isDesk, allSeats}
-use Rattle.desk.specs.Calls.{Outcome, opens, replies, emptied, resets}
+use Rattle.desk.specs.Calls.{Outcome, opens, replies, taken, emptied, resets}
 use Rattle.desk.specs.Capture.{fates, afterAll, countsOf}
 use Rattle.desk.specs.Keeps.{RefusedKeeps, SameSeat, KeepsMemory}
 use Rattle.desk.proofs.WrittenLaws.{length-with, before-with, after-with}
-use Rattle.desk.proofs.StepLaws.{took-room, by-reply, by-opening, reply-refused, opening-refused}
+use Rattle.desk.proofs.StepLaws.{Took, took-room, by-reply, by-opening, reply-refused, opening-refused}
 use Rattle.desk.proofs.DeskLaws.{taken-other, records-other, opened-other, other-bit}
 use Rattle.desk.proofs.MixLaws.{lent}
 
--- ---- a reply
+-- ---- cells and marks after a reply
+
+record Rest (m x : Memory) : Type 0 where
+  bits : x .bits ≡ m .bits
+  sizes : (length (x .cells) ≡ length (m .cells)) × (length (x .marks) ≡ length (m .marks))
+  before : (j : ℕ) → j < m .count * cellSize → getD (x .cells) j 0 ≡ getD (m .cells) j 0
+  after : (j : ℕ) → m .count * cellSize + cellSize ≤ j → getD (x .cells) j 0 ≡ getD (m .cells) j 0
+  marks : (j : ℕ) → (j ≡ m .count → ⊥) → markAt (x .marks) j ≡ markAt (m .marks) j
+
+taken-rest : (m : Memory) (f : List ℕ) (t : Taking) → Took m f t → Rest m (taken m f t)
+taken-rest m f t k =
+    let r = took-room m f t k in
+    let at = m .count * cellSize in
+    record {
+      bits = refl;
+      sizes = (length-with (m .cells) at f (r .cells) (r .frame), length-set (m .marks) (m .count) (t .seat));
+      before = before-with (m .cells) at f (r .cells) (r .frame);
+      after = after-with (m .cells) at f (r .cells) (r .frame);
+      marks = λ j n. getD-set-other (m .marks) (m .count) j (t .seat) 0 n;
+    }
 
 module _ (m : Memory) (f : List ℕ) where
-  sizes : (length (replies m f .after .cells) ≡ length (m .cells)) × (length (replies m f .after .marks) ≡ length (m .marks))
-  sizes =
-      by-reply m f (λ (o : Outcome). (length (o .after .cells) ≡ length (m .cells)) × (length (o .after .marks) ≡ length (m .marks)))
-      (λ t k. let r = took-room m f t k in (length-with (m .cells) (m .count * cellSize) f (r .cells) (r .frame), length-set (m .marks) (m .count) (t .seat)))
-      (λ why. (refl, refl))
-
-  front-cells : (j : ℕ) → j < m .count * cellSize → getD (replies m f .after .cells) j 0 ≡ getD (m .cells) j 0
-  front-cells j l =
-      by-reply m f (λ (o : Outcome). getD (o .after .cells) j 0 ≡ getD (m .cells) j 0)
-      (λ t k. let r = took-room m f t k in before-with (m .cells) (m .count * cellSize) f (r .cells) (r .frame) j l)
-      (λ why. refl)
-
-  back-cells : (j : ℕ) → m .count * cellSize + cellSize ≤ j → getD (replies m f .after .cells) j 0 ≡ getD (m .cells) j 0
-  back-cells j l =
-      by-reply m f (λ (o : Outcome). getD (o .after .cells) j 0 ≡ getD (m .cells) j 0)
-      (λ t k. let r = took-room m f t k in after-with (m .cells) (m .count * cellSize) f (r .cells) (r .frame) j l)
-      (λ why. refl)
-
-  else-marks : (j : ℕ) → (j ≡ m .count → ⊥) → markAt (replies m f .after .marks) j ≡ markAt (m .marks) j
-  else-marks j n =
-      by-reply m f (λ (o : Outcome). markAt (o .after .marks) j ≡ markAt (m .marks) j) (λ t k. getD-set-other (m .marks) (m .count) j (t .seat) 0 n) (λ why. refl)
+  rest : Rest m (replies m f .after)
+  rest = by-reply m f (λ (o : Outcome). Rest m (o .after)) (taken-rest m f) (λ why. record { bits = refl; sizes = (refl, refl); before = λ j l. refl; after = λ j l. refl; marks = λ j n. refl })
 
   -- ---- the other seats
 
@@ -93,9 +94,9 @@ keeps-memory = record {
   opening-count = λ m f. lent m f .count;
   opening-cells = λ m f. lent m f .cells;
   opening-marks = λ m f. lent m f .marks;
-  reply-bits = λ m f. by-reply m f (λ (o : Outcome). o .after .bits ≡ m .bits) (λ t k. refl) (λ why. refl);
-  reply-sizes = sizes;
-  cells-before = front-cells;
-  cells-after = back-cells;
-  other-marks = else-marks;
+  reply-bits = λ m f. rest m f .bits;
+  reply-sizes = λ m f. rest m f .sizes;
+  cells-before = λ m f. rest m f .before;
+  cells-after = λ m f. rest m f .after;
+  other-marks = λ m f. rest m f .marks;
 }

@@ -1,5 +1,5 @@
 -- What is demanded of keys and seats. Assumes nothing.
-use Prim.Native.Nat.{ℕ, _<_}
+use Prim.Native.Nat.{ℕ}
 use mathlib.Core.Bool.{true, not, _&&_}
 use mathlib.Core.Path.{_≡_, refl, sym, _∙_}
 use native.Mathlib.Omega.{arith}
@@ -19,16 +19,13 @@ use Rattle.frames.specs.declared.reply.StaticReply.{StaticReply}
 use Rattle.frames.proofs.RequestLaws.{request-faithful}
 use Rattle.desk.specs.declared.state.Seat.{Seat}
 use Rattle.desk.specs.declared.key.Key.{Key}
-use Rattle.desk.specs.Limits.{seatCount}
 use Rattle.desk.specs.Key.{requestKey, seatKey, sameKey, isKey}
 use Rattle.desk.specs.Rule.{Frame, isTo}
-use Rattle.desk.specs.Seats.{seatAt, usedBit}
-use Rattle.desk.specs.Memory.{Memory}
+use Rattle.desk.specs.Seats.{seatAt}
 use Rattle.desk.specs.Desk.{isZero}
 use Rattle.desk.specs.KeyDemands.{KeysAreRight}
 use Rattle.desk.proofs.KeyLaws.{same-key, own-key, request-legal}
-use Rattle.desk.proofs.ReplayLaws.{Facts, desk-facts}
-use Rattle.desk.proofs.ViewLaws.{one-seat, keyed-at}
+use Rattle.desk.proofs.ReplayLaws.{keyed-at, desk-facts}
 
 -- ---- keys
 
@@ -67,11 +64,6 @@ asked-legal k a = rw (a .1 .1 .1) (request-legal (a .0) (a .1 .0) (a .1 .1 .0))
 
 -- ---- seats
 
-one-of : (m : Memory) → Facts m → (i j : ℕ) → i < seatCount → j < seatCount → usedBit (m .bits) i ≡ true → usedBit (m .bits) j ≡ true → seatKey (seatAt (m .row) i) ≡ seatKey (seatAt (m .row) j) → i ≡ j
-one-of m facts i j l k u v e =
-    let key = seatKey (seatAt (m .row) j) in
-    sym (one-seat m key i facts l (keyed-at m i key u e)) ∙ one-seat m key j facts k (keyed-at m j key v refl)
-
 zero-parts : (s : Seat) → isZero s ≡ true → s ≡ record { address = 0; requester = 0; number = 0; held = 0; ended = 0 }
 unfolding isZero
 zero-parts s h =
@@ -91,6 +83,8 @@ keys-are-right = record {
   same = λ a b. (same-key a b, alike a b);
   own = λ k r. (λ h. same-key k (keyOf r) (sym (same-is k r) ∙ h), λ e. same-is k r ∙ alike k (keyOf r) e);
   legal = λ k. (asked-by k, asked-legal k);
-  apart = λ m i j d l k u v p q r. one-of m (desk-facts m d) i j l k u v (λ n. record { address = p n; requester = q n; number = r n });
+  apart = λ m i j d l k u v p q r.
+      let key = seatKey (seatAt (m .row) j) in
+      desk-facts m d .one key i j l k (keyed-at (m .row) (m .bits) i key u (λ n. record { address = p n; requester = q n; number = r n })) (keyed-at (m .row) (m .bits) j key v refl);
   unused = λ m i d l u. zero-parts (seatAt (m .row) i) (desk-facts m d .zeros i l u);
 }

@@ -32,10 +32,10 @@ use Rattle.desk.specs.Mix.{Stretch, seated, expected, repliesTo, MayStan
 use Rattle.desk.proofs.Below.{never}
 use Rattle.desk.proofs.KeyLaws.{same-key, own-key}
 use Rattle.desk.proofs.RuleLaws.{addressed-heard, fold-is-rule}
-use Rattle.desk.proofs.ReplayLaws.{Facts, desk-facts, facts-desk}
+use Rattle.desk.proofs.ReplayLaws.{keyed-at, Facts, desk-facts, facts-desk}
 use Rattle.desk.proofs.StepLaws.{held-records, Took, took-key, by-reply, by-opening}
 use Rattle.desk.proofs.DeskLaws.{taken-capacity, used-other, emptied-desk, opening-facts, stays-desk}
-use Rattle.desk.proofs.ViewLaws.{one-seat, keyed-at, taken-moves, taken-seat, opened-moves, seatOf, is-local}
+use Rattle.desk.proofs.ViewLaws.{one-seat, taken-moves, taken-seat, opened-moves, seatOf, is-local}
 
 -- ---- openings and replies may stand in a stretch
 
@@ -197,7 +197,7 @@ SortedBy m es s k v = Sorted m es s k (v .records) (not (eqb (length (v .records
 folded : (m : Memory) (es : List Event) (s : ℕ) (k : Key) → Facts m → Stretch es → m .count + repliesTo m es ≤ capacity m → s < seatCount → usedBit (m .bits) s ≡ true → viewAt m s .key ≡ k
     → (viewAt (run m es) s ≡ viewAfter s (viewAt m s) (framesTo k es)) × (answersTo k m es ≡ saysTo s (viewAt m s) (framesTo k es))
 folded m es s k d st r l u ek =
-    let own = one-seat m k s d l (keyed-at m s k u ek) in
+    let own = one-seat m k s d l (keyed-at (m .row) (m .bits) s k u ek) in
     fold (λ e. true) calls-may-stand es m s k (facts-desk m d) (all-stand es) l u ek (cells-for es m k st r (rw own l))
 
 sorted : (m : Memory) (es : List Event) (s : ℕ) (k : Key) → Facts m → Stretch es → m .count + repliesTo m es ≤ capacity m → s < seatCount → usedBit (m .bits) s ≡ true

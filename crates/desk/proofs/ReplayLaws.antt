@@ -10,18 +10,20 @@ use native.Mathlib.Numerals.{add-one}
 use borrow.Author.Tests.{eqb-true, eq-eqb, ne-eqb, lt-ltb, ltb-true, le-leb, leb-true}
 use Rattle.frames.specs.Status.{isZ}
 use Rattle.desk.specs.declared.state.Seat.{Seat}
+use Rattle.desk.specs.declared.key.Key.{Key}
 use Rattle.desk.specs.declared.step.Progress.{Progress}
 use Rattle.desk.specs.Limits.{seatCount}
 use Rattle.desk.specs.Below.{allBelow, countBelow}
 use Rattle.desk.specs.Key.{seatKey, isKey}
 use Rattle.desk.specs.Hearing.{heard, inPlace, statusIn, endedIn}
 use Rattle.desk.specs.Step.{progressOf, advanced, step, none, replay, goes}
-use Rattle.desk.specs.Seats.{seatAt, usedBit}
+use Rattle.desk.specs.Seats.{seatAt, usedBit, keyed, keyedAt}
 use Rattle.desk.specs.Memory.{Memory, capacity, cellAt, markAt, recordsOf}
 use Rattle.desk.specs.Desk.{isZero, keyLegal, unusedZero, apartAt, apartBelow, markNames, markGood, cellKeyed, named, lastEnds, heldRight, endedRight, placed, allSeats, noBitAbove, keysLegal, noKeyShared, unusedAllZero, countFits, marksName, cellsAreReplies, heldIsNamed, endsLast, endedIsLast, isDesk}
 use Rattle.desk.specs.Replay.{replayed, takenAt, rowGood, agrees, replays, DeskIsReplay}
-use Rattle.digits.proofs.Tests.{by-test, and-true, and-l, and-r}
-use Rattle.desk.proofs.Below.{all-at, all-of, all-and, all-ext}
+use Rattle.digits.proofs.Tests.{by-test, by-less, and-true, and-l, and-r}
+use Rattle.desk.proofs.Below.{never, false-or, count-most, all-at, all-of, all-and, all-ext}
+use Rattle.desk.proofs.KeyLaws.{same-key, own-key}
 
 -- ---- the replay of a seat's rows
 
@@ -55,16 +57,6 @@ module _ (cells marks : List ℕ) where
   pub replayed-next : (s n : ℕ) → replayed cells marks s (n + 1) ≡ cond (eqb (markAt marks n) s) (advanced (replayed cells marks s n) (statusIn (heard (cellAt cells n)))) (replayed cells marks s n)
   replayed-next s n = ap (λ (k : ℕ). replayed cells marks s k) (add-one n) ∙ replayed-suc s n
 
-  pub replayed-most : (s n : ℕ) → replayed cells marks s n .held ≤ n
-  unfolding replay recordsOf
-  replayed-most s zero = omega arith
-  replayed-most s (suc n) =
-      let h = replayed-most s n in
-      let e = ap (λ (p : Progress). p .held) (replayed-suc s n) in
-      by-test (eqb (markAt marks n) s)
-      (λ b. let g : replayed cells marks s (suc n) .held ≡ replayed cells marks s n .held + 1 = e ∙ rw b in omega (arith, g, h))
-      (λ b. let g : replayed cells marks s (suc n) .held ≡ replayed cells marks s n .held = e ∙ rw b in omega (arith, g, h))
-
   -- as many records as marks name the seat, and ended if the last is E or Z
   replayed-is : (s n : ℕ) → replayed cells marks s n ≡ record { held = named marks s n; ended = lastEnds cells marks s n }
   unfolding replay recordsOf countBelow lastEnds
@@ -73,6 +65,9 @@ module _ (cells marks : List ℕ) where
       let h = replayed-is s n in
       replayed-suc s n
       ∙ by-test (eqb (markAt marks n) s) (λ e. rw (e, h, add-one (named marks s n))) (λ e. rw (e, h))
+
+  pub replayed-most : (s n : ℕ) → replayed cells marks s n .held ≤ n
+  replayed-most s n = rw (replayed-is s n) (count-most n (λ i. eqb (markAt marks i) s))
 
 -- ---- clause 10 (only the last record of a seat is E or Z, and a Z is its only one), as it is tested row by row
 
@@ -188,7 +183,7 @@ pub record Facts (m : Memory) : Type 0 where
   pub size : length (m .row) ≡ seatCount
   pub bits : m .bits < 2 ^ seatCount
   pub keys : (i : ℕ) → i < seatCount → usedBit (m .bits) i ≡ true → isKey (seatKey (seatAt (m .row) i)) ≡ true
-  pub apart : (i : ℕ) → i < seatCount → (j : ℕ) → j < i → apartAt (m .row) (m .bits) i j ≡ true
+  pub one : (k : Key) (i j : ℕ) → i < seatCount → j < seatCount → keyedAt (m .row) (m .bits) k i ≡ true → keyedAt (m .row) (m .bits) k j ≡ true → i ≡ j
   pub zeros : (i : ℕ) → i < seatCount → usedBit (m .bits) i ≡ false → isZero (seatAt (m .row) i) ≡ true
   pub fits : m .count ≤ capacity m
   pub rows : (i : ℕ) → i < m .count → rowGood (m .row) (m .bits) (m .cells) (m .marks) i ≡ true
@@ -223,6 +218,27 @@ unfolding agrees
 agreeing p seat bits s h =
     used-only (usedBit bits s) _ (λ u. and-true (eq-eqb _ _ (ap (λ (q : Progress). q .held) (h u))) (eq-eqb _ _ (ap (λ (q : Progress). q .ended) (h u))))
 
+-- a used seat has its own key
+pub keyed-at : (row : List Seat) (bits s : ℕ) (k : Key) → usedBit bits s ≡ true → seatKey (seatAt row s) ≡ k → keyedAt row bits k s ≡ true
+unfolding keyed
+keyed-at row bits s k u e = and-true u (rw e (own-key k))
+
+-- no two seats share a key, stated for all pairs of one order and for all pairs
+module _ (row : List Seat) (bits : ℕ) where
+  clash : ((i : ℕ) → i < seatCount → (j : ℕ) → j < i → apartAt row bits i j ≡ true) → (k : Key) (i j : ℕ) → i < seatCount → j < i → keyedAt row bits k i ≡ true → keyedAt row bits k j ≡ true → ⊥
+  unfolding keyed
+  clash h k i j l g a b =
+      let e = same-key (seatKey (seatAt row i)) k (and-r (usedBit bits i) _ a) in
+      never _ (rw (and-l (usedBit bits i) _ a, e) at (h i l j g)) (ap not b)
+
+  one-of : ((i : ℕ) → i < seatCount → (j : ℕ) → j < i → apartAt row bits i j ≡ true) → (k : Key) (i j : ℕ) → i < seatCount → j < seatCount → keyedAt row bits k i ≡ true → keyedAt row bits k j ≡ true → i ≡ j
+  one-of h k i j l m a b = by-less i j (λ g. absurd (clash h k j i m g b a)) (λ g. by-less j i (λ f. absurd (clash h k i j l f a b)) (λ f. omega arith))
+
+  apart-of : ((k : Key) (i j : ℕ) → i < seatCount → j < seatCount → keyedAt row bits k i ≡ true → keyedAt row bits k j ≡ true → i ≡ j) → (i : ℕ) → i < seatCount → (j : ℕ) → j < i → apartAt row bits i j ≡ true
+  apart-of h i l j g =
+      used-only (usedBit bits i) _ (λ u. ap not (false-or (keyedAt row bits (seatKey (seatAt row i)) j) (λ b.
+      let e = h (seatKey (seatAt row i)) i j l (omega arith) (keyed-at row bits i (seatKey (seatAt row i)) u refl) b in absurd (omega (arith, e, g)))))
+
 module _ (m : Memory) where
   pub desk-facts : isDesk m ≡ true → Facts m
   unfolding replays
@@ -244,7 +260,7 @@ module _ (m : Memory) where
         size = eqb-true _ _ (and-l (allSeats m) (noBitAbove m) h2);
         bits = ltb-true _ _ (and-r (allSeats m) (noBitAbove m) h2);
         keys = λ i l u. when-used u (all-at seatCount (keyLegal (m .row) (m .bits)) (and-r c2 (keysLegal m) h3) i l);
-        apart = λ i l j k. all-at i (apartAt (m .row) (m .bits) i) (all-at seatCount (apartBelow (m .row) (m .bits)) (and-r c3 (noKeyShared m) h4) i l) j k;
+        one = one-of (m .row) (m .bits) (λ i l j k. all-at i (apartAt (m .row) (m .bits) i) (all-at seatCount (apartBelow (m .row) (m .bits)) (and-r c3 (noKeyShared m) h4) i l) j k);
         zeros = λ i l u. when-unused u (all-at seatCount (unusedZero (m .row) (m .bits)) (and-r c4 (unusedAllZero m) h5) i l);
         fits = leb-true _ _ (and-r c5 (countFits m) h6);
         rows = all-at (m .count) _ (and-l good _ rows);
@@ -259,7 +275,7 @@ module _ (m : Memory) where
       (eq-eqb (length (m .row)) seatCount (f .size))
       (lt-ltb (m .bits) (2 ^ seatCount) (f .bits)))
       (all-of seatCount (keyLegal (m .row) (m .bits)) (λ i l. used-only (usedBit (m .bits) i) _ (f .keys i l))))
-      (all-of seatCount (apartBelow (m .row) (m .bits)) (λ i l. all-of i (apartAt (m .row) (m .bits) i) (f .apart i l))))
+      (all-of seatCount (apartBelow (m .row) (m .bits)) (λ i l. all-of i (apartAt (m .row) (m .bits) i) (apart-of (m .row) (m .bits) (f .one) i l))))
       (all-of seatCount (unusedZero (m .row) (m .bits)) (λ i l. unused-only (usedBit (m .bits) i) _ (f .zeros i l))))
       (le-leb (m .count) (capacity m) (f .fits)))
       (and-true (all-of (m .count) _ (f .rows)) (all-of seatCount _ (λ s l. agreeing _ (seatAt (m .row) s) (m .bits) s (f .agree s l))))

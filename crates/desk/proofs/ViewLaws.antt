@@ -1,14 +1,15 @@
 -- An event moves the view of the seat that it is addressed to, and no other. Assumes nothing.
 use Prim.Native.Nat.{ℕ, _<_}
-use mathlib.Core.Bool.{Bool, true, false, not, _&&_}
+use mathlib.Core.Bool.{Bool, true, false, _&&_}
 use mathlib.Core.Path.{_≡_, refl, sym, ap, _∙_}
 use mathlib.Core.List.{[], _∷_, _++_}
+use native.Mathlib.Omega.{arith}
 use lib.Dec.{eqb, ltb}
 use borrow.Author.Tests.{lt-ltb, ltb-true}
 use Rattle.digits.specs.declared.refusal.Refusal.{Refusal}
 use Rattle.digits.specs.Refusals.{STRAY}
 use Rattle.digits.specs.Told.{Told, gives, refuses, tried}
-use Rattle.digits.proofs.Tests.{and-r, and-true, by-test}
+use Rattle.digits.proofs.Tests.{and-r, by-test}
 use Rattle.digits.proofs.Sure.{not-refused}
 use Rattle.frames.specs.Kind.{read}
 use Rattle.frames.specs.Reply.{reply, labelled}
@@ -30,32 +31,20 @@ use Rattle.desk.specs.Calls.{whatIsGiven, openTried, opens, opened, seat
 use Rattle.desk.specs.Events.{Event, toOpen, toReply, happens, addressed}
 use Rattle.desk.specs.Views.{View, viewAt, progressIn, newView, cellFree, Steps, strayAnswer, Local}
 use Rattle.desk.proofs.Below.{never, false-or, first-at, first-ext}
-use Rattle.desk.proofs.KeyLaws.{same-key, own-key}
+use Rattle.desk.proofs.KeyLaws.{same-key}
 use Rattle.desk.proofs.RuleLaws.{addressed-heard}
-use Rattle.desk.proofs.ReplayLaws.{Facts, desk-facts, facts-desk}
-use Rattle.desk.proofs.StepLaws.{held-records, found-keyed, keyed-used, keyed-key, Took, took, Opens, opens-taken, after-taken, after-refused, after-opened, after-not-opened, reply-refused, opening-refused}
+use Rattle.desk.proofs.ReplayLaws.{keyed-at, Facts, desk-facts, facts-desk}
+use Rattle.desk.proofs.StepLaws.{held-records, found-keyed, keyed-used, Took, took, Opens, opens-taken, after-taken, after-refused, after-opened, after-not-opened, reply-refused, opening-refused}
 use Rattle.desk.proofs.DeskLaws.{taken-own, taken-other, taken-key, records-own, records-other, opened-own, opened-other, opened-bit, other-bit, opened-holds}
 
 -- ---- only one seat has a key
-
-clash : (m : Memory) (k : Key) (i j : ℕ) → Facts m → i < seatCount → j < i → keyedAt (m .row) (m .bits) k i ≡ true → keyedAt (m .row) (m .bits) k j ≡ true → ⊥
-clash m k i j d l h hi hj =
-    let u = keyed-used (m .row) (m .bits) k i hi in
-    let e = keyed-key (m .row) (m .bits) k i hi in
-    let a : not (keyedAt (m .row) (m .bits) k j) ≡ true = rw (u, e) at (d .apart i l j h) in
-    never (not (keyedAt (m .row) (m .bits) k j)) a (ap not hj)
 
 pub one-seat : (m : Memory) (k : Key) (s : ℕ) → Facts m → s < seatCount → keyedAt (m .row) (m .bits) k s ≡ true → seatWith (m .row) (m .bits) k ≡ s
 unfolding seatWith
 one-seat m k s d l h =
     first-at seatCount s (keyedAt (m .row) (m .bits) k) l
-    (λ j i. false-or (keyedAt (m .row) (m .bits) k j) (λ hj. clash m k s j d l i h hj))
+    (λ j i. false-or (keyedAt (m .row) (m .bits) k j) (λ hj. let e = d .one k j s (omega arith) l hj h in absurd (omega (arith, e, i))))
     h
-
--- a used seat has its own key
-pub keyed-at : (m : Memory) (s : ℕ) (k : Key) → usedBit (m .bits) s ≡ true → seatKey (seatAt (m .row) s) ≡ k → keyedAt (m .row) (m .bits) k s ≡ true
-unfolding keyed
-keyed-at m s k u e = and-true u (rw e (own-key k))
 
 abbrev pub seatOf : Memory → Key → ℕ
 seatOf m k = seatWith (m .row) (m .bits) k
@@ -145,7 +134,7 @@ module _ (m : Memory) (f : Frame) (s : ℕ) (c : ReplyLabel) (e : heard f ≡ gi
 
 reply-local : (m : Memory) (f : Frame) (s : ℕ) → Facts m → s < seatCount → usedBit (m .bits) s ≡ true → (got : Told ReplyLabel) → heard f ≡ got → hasKey (viewAt m s .key) got ≡ true → Steps m (toReply f) s
 reply-local m f s d l u (gives c) e h =
-    let q = one-seat m (keyIn c) s d l (keyed-at m s (keyIn c) u (same-key (viewAt m s .key) (keyIn c) h)) in
+    let q = one-seat m (keyIn c) s d l (keyed-at (m .row) (m .bits) s (keyIn c) u (same-key (viewAt m s .key) (keyIn c) h)) in
     steps-by m f s c e (step (progressIn (viewAt m s)) (cellFree m) (c .status)) refl (rw q at (heard-tried m f d c e (rw q l)))
 reply-local m f s d l u (refuses why) e h = never true refl (sym h)
 
