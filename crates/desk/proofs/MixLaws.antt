@@ -28,7 +28,8 @@ use Rattle.desk.specs.Calls.{Outcome, opens, opened, replies, emptied}
 use Rattle.desk.specs.Rule.{Frame}
 use Rattle.desk.specs.Events.{Event, toOpen, toReply, frameOf, happens, run, openings, heardAll, Stands, addressed, framesTo, answersTo}
 use Rattle.desk.specs.Views.{View, viewAt, progressIn, newView, Seen, replySeen, seatStep, cellFree, Steps}
-use Rattle.desk.specs.Mix.{Stretch, seated, expected, repliesTo, MayStand, CallsMayStand, CellsFor, viewAfter, saysTo, FoldsWhatMayStand, Sorted, SortsFromAnyDesk, SortsOpenedRequests}
+use Rattle.desk.specs.Folds.{MayStand, CallsMayStand, CellsFor, viewAfter, saysTo, FoldsWhatMayStand}
+use Rattle.desk.specs.Mix.{Stretch, seated, expected, repliesTo, Sorted, SortsFromAnyDesk, SortsOpenedRequests}
 use Rattle.desk.proofs.Below.{never}
 use Rattle.desk.proofs.KeyLaws.{same-key, own-key}
 use Rattle.desk.proofs.RuleLaws.{addressed-heard, fold-is-rule}

@@ -20,7 +20,7 @@ use Rattle.desk.specs.Step.{step}
 use Rattle.desk.specs.Rule.{Frame, isTo, letterIn, hasStatusE, hasStatusZ, kept, said}
 use Rattle.desk.specs.Events.{toReply, addressed}
 use Rattle.desk.specs.Views.{View, Seen, seatStep}
-use Rattle.desk.specs.Mix.{viewAfter, saysTo, FoldIsRule}
+use Rattle.desk.specs.Folds.{viewAfter, saysTo, FoldIsRule}
 
 -- ---- status and key are the record's
 
@@ -43,8 +43,8 @@ addressed-heard k f = to-told k (read reply f)
 
 -- ---- one step, by the letter
 
-abbrev withMark : View → Frame → ℕ → View
-withMark v f mark = record { used = v .used; key = v .key; records = v .records ++ (f ∷ []); ended = mark }
+abbrev withEnd : View → Frame → ℕ → View
+withEnd v f end = record { used = v .used; key = v .key; records = v .records ++ (f ∷ []); ended = end }
 
 module _ (s : ℕ) (v : View) (f : Frame) where
   abbrev seenNow : Seen
@@ -58,7 +58,7 @@ module _ (s : ℕ) (v : View) (f : Frame) where
   unfolding step inPlace
   step-astray e n z = rw (e, letter f, z, n)
 
-  step-taken : eqb (v .ended) 0 ≡ true → not (hasStatusZ f) || eqb (length (v .records)) 0 ≡ true → seenNow ≡ record { answer = gives s; view = withMark v f (endedBy (letterIn (read reply f))) }
+  step-taken : eqb (v .ended) 0 ≡ true → not (hasStatusZ f) || eqb (length (v .records)) 0 ≡ true → seenNow ≡ record { answer = gives s; view = withEnd v f (endedBy (letterIn (read reply f))) }
   unfolding step inPlace
   step-taken e p = rw (e, letter f, p)
 
@@ -81,11 +81,11 @@ module _ (s : ℕ) where
   late any v (f ∷ fs) e = let h = late any v fs e in front v v (refuses ENDED) f fs [] _ (step-late s v f e) (h .0) (h .1)
 
   -- a frame that is taken, in front of others
-  taken : (v : View) (f : Frame) (fs ks : List Frame) (ss : List (Told ℕ)) (mark : ℕ) → eqb (v .ended) 0 ≡ true → not (hasStatusZ f) || eqb (length (v .records)) 0 ≡ true
-      → endedBy (letterIn (read reply f)) ≡ mark → (viewAfter s (withMark v f mark) fs .records ≡ (v .records ++ (f ∷ [])) ++ ks) × (saysTo s (withMark v f mark) fs ≡ ss)
+  taken : (v : View) (f : Frame) (fs ks : List Frame) (ss : List (Told ℕ)) (end : ℕ) → eqb (v .ended) 0 ≡ true → not (hasStatusZ f) || eqb (length (v .records)) 0 ≡ true
+      → endedBy (letterIn (read reply f)) ≡ end → (viewAfter s (withEnd v f end) fs .records ≡ (v .records ++ (f ∷ [])) ++ ks) × (saysTo s (withEnd v f end) fs ≡ ss)
       → (viewAfter s v (f ∷ fs) .records ≡ v .records ++ (f ∷ ks)) × (saysTo s v (f ∷ fs) ≡ gives s ∷ ss)
-  taken v f fs ks ss mark o p q h =
-      front v (withMark v f mark) (gives s) f fs (f ∷ ks) ss (step-taken s v f o p ∙ ap (λ (n : ℕ). record { answer = gives s; view = withMark v f n }) q)
+  taken v f fs ks ss end o p q h =
+      front v (withEnd v f end) (gives s) f fs (f ∷ ks) ss (step-taken s v f o p ∙ ap (λ (n : ℕ). record { answer = gives s; view = withEnd v f n }) q)
       (h .0 ∙ append-assoc (v .records) (f ∷ []) ks) (h .1)
 
   more-any : (l : List Frame) (f : Frame) → eqb (length (l ++ (f ∷ []))) 0 ≡ false
@@ -97,8 +97,8 @@ module _ (s : ℕ) where
   unfolding ends
   plain v f fs ih o z =
       by-test (hasStatusE f)
-      (λ e. rw (z, e) (taken v f fs [] _ 1 o (rw z) (rw e) (late true (withMark v f 1) fs refl)))
-      (λ e. rw (z, e) (taken v f fs _ _ 0 o (rw z) (rw (e, z)) (ih (withMark v f 0) refl (more-any (v .records) f))))
+      (λ e. rw (z, e) (taken v f fs [] _ 1 o (rw z) (rw e) (late true (withEnd v f 1) fs refl)))
+      (λ e. rw (z, e) (taken v f fs _ _ 0 o (rw z) (rw (e, z)) (ih (withEnd v f 0) refl (more-any (v .records) f))))
 
   among : (fs : List Frame) (v : View) → eqb (v .ended) 0 ≡ true → eqb (length (v .records)) 0 ≡ false → Rules s v true false fs
   unfolding viewAfter saysTo
@@ -113,7 +113,7 @@ module _ (s : ℕ) where
   first [] v o n = (sym (append-nil (v .records)), refl)
   first (f ∷ fs) v o n =
       by-test (hasStatusZ f)
-      (λ z. rw z (taken v f fs [] _ 1 o (rw (z, n)) (by-test (hasStatusE f) (λ e. rw e) (λ e. rw (e, z))) (late true (withMark v f 1) fs refl)))
+      (λ z. rw z (taken v f fs [] _ 1 o (rw (z, n)) (by-test (hasStatusE f) (λ e. rw e) (λ e. rw (e, z))) (late true (withEnd v f 1) fs refl)))
       (λ z. let h = plain v f fs (among fs) o z in rw z (rw z at h))
 
 pub fold-is-rule : FoldIsRule

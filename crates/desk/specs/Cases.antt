@@ -7,12 +7,12 @@ use lib.ListN.{replicate}
 use Rattle.digits.specs.Text.{codes}
 use Rattle.digits.specs.Refusals.{plain, spoiledAt}
 use Rattle.frames.specs.declared.refusals.ReadRefusal.the-variants.{Field}
-use Rattle.digits.specs.Told.{Told, gives, refuses}
+use Rattle.digits.specs.Told.{gives, refuses}
 use Rattle.desk.specs.Memory.{Memory, capacityOf, heldBy}
 use Rattle.desk.specs.declared.opening.OpenRefusal.the-variants.{Desk as open-no-desk, Frame as open-frame, NoAnswerDue, InUse, NoSeat}
 use Rattle.desk.specs.declared.reply.ReplyRefusal.the-variants.{Desk as no-desk, Frame, Stray, Ended, OutOfPlace, Full}
 use Rattle.desk.specs.Calls.{opens, replies, emptied, seatsInUse, openRefused, replyRefused}
-use Rattle.desk.specs.Events.{Event, toReply, happens, run, openings}
+use Rattle.desk.specs.Events.{Event, toOpen, toReply, run, answers as answersOf, openings}
 use Rattle.desk.specs.Mix.{repliesTo}
 
 -- no seats, and lent cells of this many bytes with this many marks
@@ -134,11 +134,6 @@ mixed =
     ∷ toReply (replyTo "E" "A" "00007" "00010")
     ∷ []
 
--- every answer, in order
-abbrev pub answersOf : Memory → List Event → List (Told ℕ)
-answersOf m [] = []
-answersOf m (e ∷ es) = happens m e .answer ∷ answersOf (happens m e .after) es
-
 pub record MixWorked : Type 0 where
   pub answers : answersOf three mixed
       ≡ gives 1 ∷ gives 0 ∷ refuses (plain 13) ∷ refuses (plain 13) ∷ refuses (spoiledAt 5 12 16) ∷ gives 2 ∷ refuses (plain 15) ∷ gives 0 ∷ refuses (plain 14) ∷ refuses (plain 14) ∷ gives 1 ∷ gives 1 ∷ []
@@ -185,3 +180,33 @@ pub record AddressMixWorked : Type 0 where
   pub held-at-0 : heldBy (run stopwatches fromAll) 1 ≡ replyFrom "0" "R" "1" "00007" "00001" ∷ replyFrom "0" "E" "1" "00007" "00005" ∷ []
   pub held-at-9 : heldBy (run stopwatches fromAll) 2 ≡ replyFrom "9" "Z" "1" "00007" "00006" ∷ []
   pub bound : repliesTo stopwatches fromAll ≡ 6
+
+-- ---- two events in both orders
+
+-- the requests of 1 and A, on an emptied desk with this many cells, and a reply to each
+abbrev pub pair : ℕ → ℕ → Memory
+pair bytes marks = run (emptied (lending bytes marks)) (openings (asking "1" "P" ∷ asking "A" "P" ∷ []))
+
+abbrev pub to1 : Event
+to1 = toReply (replyTo "R" "1" "00007" "00001")
+
+abbrev pub toA : Event
+toA = toReply (replyTo "E" "A" "00007" "00002")
+
+pub record OrdersWorked : Type 0 where
+  -- the stores differ
+  pub marks-one-way : run (pair 102 2) (to1 ∷ toA ∷ []) .marks ≡ 0 ∷ 1 ∷ []
+  pub marks-other-way : run (pair 102 2) (toA ∷ to1 ∷ []) .marks ≡ 1 ∷ 0 ∷ []
+  -- each request holds the same
+  pub held-one-way : heldBy (run (pair 102 2) (to1 ∷ toA ∷ [])) 0 ∷ heldBy (run (pair 102 2) (to1 ∷ toA ∷ [])) 1 ∷ []
+      ≡ (replyTo "R" "1" "00007" "00001" ∷ []) ∷ (replyTo "E" "A" "00007" "00002" ∷ []) ∷ []
+  pub held-other-way : heldBy (run (pair 102 2) (toA ∷ to1 ∷ [])) 0 ∷ heldBy (run (pair 102 2) (toA ∷ to1 ∷ [])) 1 ∷ []
+      ≡ (replyTo "R" "1" "00007" "00001" ∷ []) ∷ (replyTo "E" "A" "00007" "00002" ∷ []) ∷ []
+  -- with one cell the order decides which of them is FULL
+  pub one-cell-one-way : answersOf (pair 51 1) (to1 ∷ toA ∷ []) ≡ gives 0 ∷ refuses (plain 16) ∷ []
+  pub one-cell-other-way : answersOf (pair 51 1) (toA ∷ to1 ∷ []) ≡ gives 1 ∷ refuses (plain 16) ∷ []
+  -- two openings get each other's seats
+  pub openings-one-way : run bare (toOpen (asking "1" "P") ∷ toOpen (asking "A" "P") ∷ []) .row ≡ record { address = 32; requester = 49; number = 7; held = 0; ended = 0 } ∷ record { address = 32; requester = 65; number = 7; held = 0; ended = 0 }
+      ∷ replicate 14 (record { address = 0; requester = 0; number = 0; held = 0; ended = 0 })
+  pub openings-other-way : run bare (toOpen (asking "A" "P") ∷ toOpen (asking "1" "P") ∷ []) .row ≡ record { address = 32; requester = 65; number = 7; held = 0; ended = 0 } ∷ record { address = 32; requester = 49; number = 7; held = 0; ended = 0 }
+      ∷ replicate 14 (record { address = 0; requester = 0; number = 0; held = 0; ended = 0 })

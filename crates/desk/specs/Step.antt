@@ -9,7 +9,7 @@ use Rattle.desk.specs.declared.state.Seat.{Seat}
 use Rattle.desk.specs.declared.step.Progress.{Progress}
 use Rattle.desk.specs.Hearing.{heard, statusIn, inPlace, endedBy}
 
--- how far the request at a seat has come: how many records it holds, and its mark, which is 1 after its E or Z and 0 before
+-- how far the request at a seat has come: how many records it holds, and its `ended`, which is 1 after its E or Z and 0 before
 abbrev pub progressOf : Seat → Progress
 progressOf s = record { held = s .held; ended = s .ended }
 

@@ -28,7 +28,7 @@ use Rattle.desk.specs.Events.{Event, toOpen, toReply, happens, run, answ
 
 -- ---- the view of a seat
 
--- whether it is in use, its key, the records that it holds, and its mark; where the records lie in the store is not seen
+-- whether it is in use, its key, the records that it holds, and its `ended`; where the records lie in the store is not seen
 pub record View : Type 0 where
   pub used : Bool
   pub key : Key
