@@ -20,7 +20,7 @@ use Rattle.digits.proofs.Tests.{by-test}
 use Rattle.desk.proofs.Below.{and-false-r, count-ext, count-none, count-one}
 use Rattle.desk.proofs.ReplayLaws.{Facts, desk-facts}
 use Rattle.desk.proofs.StepLaws.{found-keyed, fresh-below}
-use Rattle.desk.proofs.RuleLaws.{addressed-heard}
+use Rattle.desk.proofs.HearingLaws.{addressed-heard}
 use Rattle.desk.proofs.ViewLaws.{one-seat}
 
 module _ (m : Memory) where

@@ -1,7 +1,7 @@
--- A frame that is accepted as a reply is as long as a cell. Assumes nothing.
+-- What the label of a reply says is what its record says; and a frame that is accepted as a reply is as long as a cell. Assumes nothing.
 use Prim.Native.Nat.{ℕ}
 use mathlib.Core.List.{List}
-use mathlib.Core.Path.{_≡_, refl, sym}
+use mathlib.Core.Path.{_≡_, refl, sym, ap}
 use lib.ListN.{length}
 use lib.Dec.{eqb}
 use borrow.Author.Tests.{eqb-true}
@@ -10,10 +10,15 @@ use Rattle.digits.proofs.Sure.{not-refused}
 use Rattle.frames.specs.declared.reply.StaticReply.{StaticReply}
 use Rattle.frames.specs.declared.reply.ReplyLabel.{ReplyLabel}
 use Rattle.frames.specs.Kind.{Kind, leadIs, headTold, read}
-use Rattle.frames.specs.Reply.{reply, labelled}
+use Rattle.frames.specs.Reply.{reply, labelOf, labelled}
 use Rattle.frames.proofs.HeadLaws.{tried-gives, then-gives}
+use Rattle.desk.specs.declared.key.Key.{Key}
 use Rattle.desk.specs.Limits.{cellSize}
-use Rattle.desk.specs.Hearing.{heard}
+use Rattle.desk.specs.Key.{keyIn, sameKey}
+use Rattle.desk.specs.Hearing.{heard, hasKey, statusIn}
+use Rattle.desk.specs.Rule.{Frame, isTo, letterIn}
+use Rattle.desk.specs.Events.{toReply, addressed}
+use Rattle.desk.specs.Orders.{keyAnswered, keyOf}
 
 -- a frame that is accepted has its kind's length
 read-long : {R : Type 0} (k : Kind R) (s : List ℕ) (r : R) → read k s ≡ gives r → length s ≡ k .size
@@ -31,3 +36,30 @@ labelled-gives (refuses why) l e = absurd (not-refused l why (sym e))
 pub heard-long : (f : List ℕ) (l : ReplyLabel) → heard f ≡ gives l → length f ≡ cellSize
 unfolding heard
 heard-long f l e = let r = labelled-gives (read reply f) l e in read-long reply f (r .0) (r .1)
+
+-- ---- status and key are the record's
+
+letter-told : (t : Told StaticReply) → statusIn (labelled t) ≡ letterIn t
+letter-told (gives r) = refl
+letter-told (refuses why) = refl
+
+pub letter : (f : Frame) → statusIn (heard f) ≡ letterIn (read reply f)
+unfolding heard
+letter f = letter-told (read reply f)
+
+to-told : (k : Key) (t : Told StaticReply) → isTo k t ≡ hasKey k (labelled t)
+unfolding sameKey
+to-told k (gives r) = refl
+to-told k (refuses why) = refl
+
+pub addressed-heard : (k : Key) (f : Frame) → addressed k (toReply f) ≡ hasKey k (heard f)
+unfolding addressed heard
+addressed-heard k f = to-told k (read reply f)
+
+key-told : (t : Told StaticReply) (l : ReplyLabel) → labelled t ≡ gives l → keyAnswered t ≡ gives (keyIn l)
+key-told (gives r) l e = let q : labelOf r ≡ l = cc in ap (λ (x : ReplyLabel). gives (keyIn x)) q
+key-told (refuses why) l e = absurd (not-refused l why (sym e))
+
+pub key-heard : (f : Frame) (l : ReplyLabel) → heard f ≡ gives l → keyOf (toReply f) ≡ gives (keyIn l)
+unfolding heard
+key-heard f l e = key-told (read reply f) l e

@@ -32,7 +32,8 @@ use Rattle.desk.specs.Folds.{MayStand, CallsMayStand, CellsFor, viewAfte
 use Rattle.desk.specs.Mix.{Stretch, seated, expected, repliesTo, Sorted, SortsFromAnyDesk, SortsOpenedRequests}
 use Rattle.desk.proofs.Below.{never}
 use Rattle.desk.proofs.KeyLaws.{same-key, own-key}
-use Rattle.desk.proofs.RuleLaws.{addressed-heard, fold-is-rule}
+use Rattle.desk.proofs.HearingLaws.{addressed-heard}
+use Rattle.desk.proofs.RuleLaws.{fold-is-rule}
 use Rattle.desk.proofs.ReplayLaws.{keyed-at, Facts, desk-facts, facts-desk}
 use Rattle.desk.proofs.StepLaws.{held-records, Took, took-key, by-reply, by-opening}
 use Rattle.desk.proofs.DeskLaws.{taken-capacity, used-other, emptied-desk, opening-facts, stays-desk}

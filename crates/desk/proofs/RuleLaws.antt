@@ -11,35 +11,14 @@ use Rattle.digits.specs.Refusals.{ENDED, OUT-OF-PLACE}
 use Rattle.digits.specs.Told.{Told, gives, refuses}
 use Rattle.digits.proofs.Tests.{by-test}
 use Rattle.frames.specs.Kind.{read}
-use Rattle.frames.specs.Reply.{reply, labelled}
-use Rattle.frames.specs.declared.reply.StaticReply.{StaticReply}
-use Rattle.desk.specs.declared.key.Key.{Key}
-use Rattle.desk.specs.Key.{sameKey}
-use Rattle.desk.specs.Hearing.{heard, hasKey, statusIn, ends, inPlace, endedBy}
+use Rattle.frames.specs.Reply.{reply}
+use Rattle.desk.specs.Hearing.{ends, inPlace, endedBy}
 use Rattle.desk.specs.Step.{step}
-use Rattle.desk.specs.Rule.{Frame, isTo, letterIn, hasStatusE, hasStatusZ, kept, said}
-use Rattle.desk.specs.Events.{toReply, addressed}
+use Rattle.desk.specs.Rule.{Frame, letterIn, hasStatusE, hasStatusZ, kept, said}
+use Rattle.desk.specs.Events.{toReply}
 use Rattle.desk.specs.Views.{View, Seen, seatStep}
+use Rattle.desk.proofs.HearingLaws.{letter}
 use Rattle.desk.specs.Folds.{viewAfter, saysTo, FoldIsRule}
-
--- ---- status and key are the record's
-
-letter-told : (t : Told StaticReply) → statusIn (labelled t) ≡ letterIn t
-letter-told (gives r) = refl
-letter-told (refuses why) = refl
-
-letter : (f : Frame) → statusIn (heard f) ≡ letterIn (read reply f)
-unfolding heard
-letter f = letter-told (read reply f)
-
-to-told : (k : Key) (t : Told StaticReply) → isTo k t ≡ hasKey k (labelled t)
-unfolding sameKey
-to-told k (gives r) = refl
-to-told k (refuses why) = refl
-
-pub addressed-heard : (k : Key) (f : Frame) → addressed k (toReply f) ≡ hasKey k (heard f)
-unfolding addressed heard
-addressed-heard k f = to-told k (read reply f)
 
 -- ---- one step, by the letter
 

@@ -9,8 +9,7 @@ use Rattle.digits.specs.Told.{Told, gives, refuses}
 use Rattle.digits.proofs.Sure.{not-refused}
 use Rattle.frames.specs.Kind.{read}
 use Rattle.frames.specs.Request.{request}
-use Rattle.frames.specs.Reply.{reply, labelOf, labelled}
-use Rattle.frames.specs.declared.reply.StaticReply.{StaticReply}
+use Rattle.frames.specs.Reply.{reply}
 use Rattle.frames.specs.declared.reply.ReplyLabel.{ReplyLabel}
 use Rattle.desk.specs.declared.key.Key.{Key}
 use Rattle.desk.specs.declared.opening.Opening.{Opening}
@@ -25,9 +24,10 @@ use Rattle.desk.specs.Calls.{Outcome, whatIsGiven, openTried, opens, ope
 use Rattle.desk.specs.Events.{Event, toOpen, toReply, happens, run}
 use Rattle.desk.specs.Views.{View, viewAt, Same}
 use Rattle.desk.specs.Mix.{repliesTo}
-use Rattle.desk.specs.Orders.{keyAnswered, keyOf, Apart, Swaps, NeighboursSwap}
+use Rattle.desk.specs.Orders.{keyOf, Apart, Swaps, NeighboursSwap}
 use Rattle.desk.proofs.Below.{never, eq-case, false-or}
 use Rattle.desk.proofs.KeyLaws.{same-key}
+use Rattle.desk.proofs.HearingLaws.{key-heard}
 use Rattle.desk.proofs.ReplayLaws.{Facts, desk-facts}
 use Rattle.desk.proofs.StepLaws.{found-keyed, keyed-used, keyed-key, Took, took-used, took-key, Opens, by-reply, by-opening}
 use Rattle.desk.proofs.DeskLaws.{taken-capacity, taken-desk, used-other, opened-desk}
@@ -77,16 +77,6 @@ module _ (m : Memory) (e d : Event) where
       let apart : a .seat ≡ b .seat → ⊥ = λ z. n (a .seat) (j .answer) (k .answer ∙ ap gives (sym z)) in
       swaps-of (j′ .answer ∙ sym (j .answer)) (k′ .answer ∙ sym (k .answer))
       (record { size = k′ .size ∙ j .size ∙ sym (k .size) ∙ sym (j′ .size); view = λ i l. crossed m _ _ _ _ a b apart (j .moves) (k′ .moves) (k .moves) (j′ .moves) i })
-
--- ---- the key of a reply
-
-key-told : (t : Told StaticReply) (c : ReplyLabel) → labelled t ≡ gives c → keyAnswered t ≡ gives (keyIn c)
-key-told (gives r) c e = let q : labelOf r ≡ c = cc in ap (λ (x : ReplyLabel). gives (keyIn x)) q
-key-told (refuses why) c e = absurd (not-refused c why (sym e))
-
-key-heard : (f : Frame) (c : ReplyLabel) → heard f ≡ gives c → keyOf (toReply f) ≡ gives (keyIn c)
-unfolding heard
-key-heard f c e = key-told (read reply f) c e
 
 -- ---- a taken reply leaves what is tried of the events with other keys
 

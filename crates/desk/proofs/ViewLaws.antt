@@ -32,7 +32,7 @@ use Rattle.desk.specs.Events.{Event, toOpen, toReply, happens, addressed
 use Rattle.desk.specs.Views.{View, viewAt, progressIn, newView, cellFree, Steps, strayAnswer, Local}
 use Rattle.desk.proofs.Below.{never, false-or, first-at, first-ext}
 use Rattle.desk.proofs.KeyLaws.{same-key}
-use Rattle.desk.proofs.RuleLaws.{addressed-heard}
+use Rattle.desk.proofs.HearingLaws.{addressed-heard}
 use Rattle.desk.proofs.ReplayLaws.{keyed-at, Facts, desk-facts, facts-desk}
 use Rattle.desk.proofs.StepLaws.{held-records, found-keyed, keyed-used, Took, took, Opens, opens-taken, after-taken, after-refused, after-opened, after-not-opened, reply-refused, opening-refused}
 use Rattle.desk.proofs.DeskLaws.{taken-own, taken-other, taken-key, records-own, records-other, opened-own, opened-other, opened-bit, other-bit, opened-holds}
