@@ -26,7 +26,7 @@ use Rattle.desk.specs.Memory.{Memory, capacity}
 use Rattle.desk.specs.Desk.{isDesk}
 use Rattle.desk.specs.Calls.{Outcome, opens, opened, replies, emptied}
 use Rattle.desk.specs.Rule.{Frame}
-use Rattle.desk.specs.Events.{Event, toOpen, toReply, frameOf, happens, run, openings, heardAll, Stands, addressed, framesTo, answersTo}
+use Rattle.desk.specs.Events.{Event, toOpen, toReply, happens, run, openings, heardAll, Stands, addressed, eventsTo, framesTo, answersTo}
 use Rattle.desk.specs.Views.{View, viewAt, progressIn, newView, Seen, replySeen, seatStep, cellFree, Steps}
 use Rattle.desk.specs.Folds.{MayStand, CallsMayStand, CellsFor, viewAfter, saysTo, FoldsWhatMayStand}
 use Rattle.desk.specs.Mix.{Stretch, seated, expected, repliesTo, Sorted, SortsFromAnyDesk, SortsOpenedRequests}
@@ -72,20 +72,19 @@ calls-may-stand = record { desk = desk; own = own; other = other }
 -- ---- a request goes by its own frames alone
 
 -- a step leaves use and key
-step-keeps : (s : ℕ) (v : View) (f : Frame) (t : Told Progress) → (replySeen s v f t .view .used ≡ v .used) × (replySeen s v f t .view .key ≡ v .key)
-step-keeps s v f (gives p) = (refl, refl)
-step-keeps s v f (refuses why) = (refl, refl)
+seen-keeps : (s : ℕ) (v : View) (f : Frame) (t : Told Progress) → (replySeen s v f t .view .used ≡ v .used) × (replySeen s v f t .view .key ≡ v .key)
+seen-keeps s v f (gives p) = (refl, refl)
+seen-keeps s v f (refuses why) = (refl, refl)
 
--- an event that is addressed to a request is a reply
-as-reply : (s : ℕ) (free : Bool) (v : View) (k : Key) (e : Event) → addressed k e ≡ true → seatStep s free v e ≡ seatStep s free v (toReply (frameOf e))
+step-keeps : (s : ℕ) (v : View) (k : Key) (e : Event) → addressed k e ≡ true → (seatStep s true v e .view .used ≡ v .used) × (seatStep s true v e .view .key ≡ v .key)
 unfolding addressed
-as-reply s free v k (toOpen f) h = never true refl (sym h)
-as-reply s free v k (toReply f) h = refl
+step-keeps s v k (toOpen f) h = never true refl (sym h)
+step-keeps s v k (toReply f) h = seen-keeps s v f (step (progressIn v) true (statusIn (heard f)))
 
 module _ (may : Event → Bool) (stand : MayStand may) where
   fold : (es : List Event) (m : Memory) (s : ℕ) (k : Key) → isDesk m ≡ true → Stands may es → s < seatCount → viewAt m s .used ≡ true → viewAt m s .key ≡ k → CellsFor k m es
-      → (viewAt (run m es) s ≡ viewAfter s (viewAt m s) (framesTo k es)) × (answersTo k m es ≡ saysTo s (viewAt m s) (framesTo k es))
-  unfolding run framesTo answersTo viewAfter saysTo
+      → (viewAt (run m es) s ≡ viewAfter s (viewAt m s) (eventsTo k es)) × (answersTo k m es ≡ saysTo s (viewAt m s) (eventsTo k es))
+  unfolding run eventsTo answersTo viewAfter saysTo
   fold [] m s k d st l u q c = (refl, refl)
   fold (e ∷ es) m s k d st l u q c =
       let x = happens m e .after in
@@ -94,18 +93,18 @@ module _ (may : Event → Bool) (stand : MayStand may) where
       by-test (addressed k e)
       (λ h.
       let w = stand .own m e s (st .0) d l u (rw q h) in
-      let g : seatStep s (cellFree m) v e ≡ seatStep s true v (toReply (frameOf e)) = ap (λ (b : Bool). seatStep s b v e) (c .0 h) ∙ as-reply s true v k e h in
+      let g : seatStep s (cellFree m) v e ≡ seatStep s true v e = ap (λ (b : Bool). seatStep s b v e) (c .0 h) in
       let own = w .own ∙ ap (λ (y : Seen). y .view) g in
-      let kept = step-keeps s v (frameOf e) (step (progressIn v) true (statusIn (heard (frameOf e)))) in
+      let kept = step-keeps s v k e h in
       let ih = fold es x s k d′ (st .1) l (ap (λ (y : View). y .used) own ∙ kept .0 ∙ u) (ap (λ (y : View). y .key) own ∙ kept .1 ∙ q) (c .1) in
       rw h (
-        ih .0 ∙ ap (λ (y : View). viewAfter s y (framesTo k es)) own,
-        λ i. (w .answer ∙ ap (λ (y : Seen). y .answer) g) i ∷ (ih .1 ∙ ap (λ (y : View). saysTo s y (framesTo k es)) own) i,
+        ih .0 ∙ ap (λ (y : View). viewAfter s y (eventsTo k es)) own,
+        λ i. (w .answer ∙ ap (λ (y : Seen). y .answer) g) i ∷ (ih .1 ∙ ap (λ (y : View). saysTo s y (eventsTo k es)) own) i,
       ))
       (λ h.
       let own = stand .other m e s (st .0) d l u (rw q h) in
       let ih = fold es x s k d′ (st .1) l (ap (λ (y : View). y .used) own ∙ u) (ap (λ (y : View). y .key) own ∙ q) (c .1) in
-      rw h (ih .0 ∙ ap (λ (y : View). viewAfter s y (framesTo k es)) own, ih .1 ∙ ap (λ (y : View). saysTo s y (framesTo k es)) own))
+      rw h (ih .0 ∙ ap (λ (y : View). viewAfter s y (eventsTo k es)) own, ih .1 ∙ ap (λ (y : View). saysTo s y (eventsTo k es)) own))
 
 pub folds-what-may-stand : FoldsWhatMayStand
 folds-what-may-stand may stand m es s d st l u c = fold may stand es m s (viewAt m s .key) d st l u refl c
@@ -162,31 +161,24 @@ cells-for (toReply f ∷ es) m k st r l =
 
 -- ---- as if its frames had come alone
 
-frames-alone-by : (k : Key) (f : Frame) (b : Bool) (l : List Frame) → addressed k (toReply f) ≡ b → framesTo k (heardAll l) ≡ l → framesTo k (heardAll (cond b (f ∷ l) l)) ≡ cond b (f ∷ l) l
-unfolding framesTo
-frames-alone-by k f true l e h = rw e (ap (λ (x : List Frame). f ∷ x) h)
-frames-alone-by k f false l e h = h
+-- the events addressed to a key, among themselves: they are replies, all of them are addressed to it, and they need no more cells
+record Alone (m : Memory) (k : Key) (es ds : List Event) : Type 0 where
+  frames : heardAll (framesTo k es) ≡ ds
+  events : eventsTo k ds ≡ ds
+  stretch : Stretch ds
+  fewer : repliesTo m ds ≤ repliesTo m es
 
-frames-alone : (k : Key) (es : List Event) → Stretch es → framesTo k (heardAll (framesTo k es)) ≡ framesTo k es
-unfolding framesTo
-frames-alone k [] st = refl
-frames-alone k (toOpen f ∷ es) st = never true refl (sym (st .0))
-frames-alone k (toReply f ∷ es) st = frames-alone-by k f (addressed k (toReply f)) (framesTo k es) refl (frames-alone k es (st .1))
+alone-by : (m : Memory) (k : Key) (e : Event) (es : List Event) → Alone m k es (eventsTo k es) → (b : Bool) → addressed k e ≡ b → Alone m k (e ∷ es) (cond b (e ∷ eventsTo k es) (eventsTo k es))
+unfolding framesTo eventsTo repliesTo addressed
+alone-by m k (toOpen f) es h true q = never true refl (sym q)
+alone-by m k (toReply f) es h true q =
+    record { frames = rw q (ap (λ (x : List Event). toReply f ∷ x) (h .frames)); events = rw q (ap (λ (x : List Event). toReply f ∷ x) (h .events)); stretch = (refl, h .stretch); fewer = let w = h .fewer in omega arith }
+alone-by m k e es h false q = record { frames = rw q (h .frames); events = h .events; stretch = h .stretch; fewer = let w = h .fewer in omega arith }
 
-fewer-by : (m : Memory) (f : Frame) (b : Bool) (es : List Event) (l : List Frame) → repliesTo m (heardAll l) ≤ repliesTo m es → repliesTo m (heardAll (cond b (f ∷ l) l)) ≤ repliesTo m (toReply f ∷ es)
-unfolding repliesTo
-fewer-by m f true es l h = omega arith
-fewer-by m f false es l h = omega arith
-
-fewer : (m : Memory) (k : Key) (es : List Event) → Stretch es → repliesTo m (heardAll (framesTo k es)) ≤ repliesTo m es
-unfolding framesTo
-fewer m k [] st = omega arith
-fewer m k (toOpen f ∷ es) st = never true refl (sym (st .0))
-fewer m k (toReply f ∷ es) st = fewer-by m f (addressed k (toReply f)) es (framesTo k es) (fewer m k es (st .1))
-
-heard-stretch : (l : List Frame) → Stretch (heardAll l)
-heard-stretch [] = tt
-heard-stretch (f ∷ l) = (refl, heard-stretch l)
+alone : (m : Memory) (k : Key) (es : List Event) → Alone m k es (eventsTo k es)
+unfolding framesTo eventsTo
+alone m k [] = record { frames = refl; events = refl; stretch = tt; fewer = omega arith }
+alone m k (e ∷ es) = alone-by m k e es (alone m k es) (addressed k e) refl
 
 all-stand : (es : List Event) → Stands (λ e. true) es
 all-stand [] = tt
@@ -197,7 +189,7 @@ abbrev SortedBy : Memory → List Event → ℕ → Key → View → Type 0
 SortedBy m es s k v = Sorted m es s k (v .records) (not (eqb (length (v .records)) 0)) (not (eqb (v .ended) 0))
 
 folded : (m : Memory) (es : List Event) (s : ℕ) (k : Key) → Facts m → Stretch es → m .count + repliesTo m es ≤ capacity m → s < seatCount → usedBit (m .bits) s ≡ true → viewAt m s .key ≡ k
-    → (viewAt (run m es) s ≡ viewAfter s (viewAt m s) (framesTo k es)) × (answersTo k m es ≡ saysTo s (viewAt m s) (framesTo k es))
+    → (viewAt (run m es) s ≡ viewAfter s (viewAt m s) (eventsTo k es)) × (answersTo k m es ≡ saysTo s (viewAt m s) (eventsTo k es))
 folded m es s k d st r l u ek =
     let own = one-seat m k s d l (keyed-at (m .row) (m .bits) s k u ek) in
     fold (λ e. true) calls-may-stand es m s k (facts-desk m d) (all-stand es) l u ek (cells-for es m k st r (rw own l))
@@ -206,14 +198,15 @@ sorted : (m : Memory) (es : List Event) (s : ℕ) (k : Key) → Facts m → Stre
     → viewAt m s .key ≡ k → SortedBy m es s k (viewAt m s)
 sorted m es s k d st r l u ek =
     let a = folded m es s k d st r l u ek in
-    let w = fewer m k es st in
-    let b = rw (frames-alone k es st) at (folded m (heardAll (framesTo k es)) s k d (heard-stretch (framesTo k es)) (omega arith) l u ek) in
+    let own = alone m k es in
+    let w = own .fewer in
+    let b = rw (own .events) at (folded m (eventsTo k es) s k d (own .stretch) (omega arith) l u ek) in
     let rule = fold-is-rule s (viewAt m s) (framesTo k es) in
     record {
-      held = ap (λ (v : View). v .records) (a .0) ∙ rule .records;
-      answers = a .1 ∙ rule .answers;
-      held-alone = ap (λ (v : View). v .records) (a .0 ∙ sym (b .0));
-      answers-alone = a .1 ∙ sym (b .1);
+      held = ap (λ (v : View). v .records) (a .0) ∙ rw (own .frames) at (rule .records);
+      answers = a .1 ∙ rw (own .frames) at (rule .answers);
+      held-alone = rw (own .frames) (ap (λ (v : View). v .records) (a .0 ∙ sym (b .0)));
+      answers-alone = rw (own .frames) (a .1 ∙ sym (b .1));
     }
 
 pub sorts-from-any-desk : SortsFromAnyDesk

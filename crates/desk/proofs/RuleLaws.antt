@@ -15,7 +15,7 @@ use Rattle.frames.specs.Reply.{reply}
 use Rattle.desk.specs.Hearing.{ends, inPlace, endedBy}
 use Rattle.desk.specs.Step.{step}
 use Rattle.desk.specs.Rule.{Frame, letterIn, hasStatusE, hasStatusZ, kept, said}
-use Rattle.desk.specs.Events.{toReply}
+use Rattle.desk.specs.Events.{toReply, heardAll}
 use Rattle.desk.specs.Views.{View, Seen, seatStep}
 use Rattle.desk.proofs.HearingLaws.{letter}
 use Rattle.desk.specs.Folds.{viewAfter, saysTo, FoldIsRule}
@@ -44,15 +44,15 @@ module _ (s : ℕ) (v : View) (f : Frame) where
 -- ---- all steps
 
 abbrev Rules : ℕ → View → Bool → Bool → List Frame → Type 0
-Rules s v any ended fs = (viewAfter s v fs .records ≡ v .records ++ kept any ended fs) × (saysTo s v fs ≡ said s any ended fs)
+Rules s v any ended fs = (viewAfter s v (heardAll fs) .records ≡ v .records ++ kept any ended fs) × (saysTo s v (heardAll fs) ≡ said s any ended fs)
 
 module _ (s : ℕ) where
   -- a frame with this outcome, in front of others
   front : (v w : View) (a : Told ℕ) (f : Frame) (fs ks : List Frame) (ss : List (Told ℕ)) → seatStep s true v (toReply f) ≡ record { answer = a; view = w }
-      → viewAfter s w fs .records ≡ v .records ++ ks → saysTo s w fs ≡ ss → (viewAfter s v (f ∷ fs) .records ≡ v .records ++ ks) × (saysTo s v (f ∷ fs) ≡ a ∷ ss)
+      → viewAfter s w (heardAll fs) .records ≡ v .records ++ ks → saysTo s w (heardAll fs) ≡ ss → (viewAfter s v (heardAll (f ∷ fs)) .records ≡ v .records ++ ks) × (saysTo s v (heardAll (f ∷ fs)) ≡ a ∷ ss)
   unfolding viewAfter saysTo
   front v w a f fs ks ss e p q =
-      (ap (λ (x : Seen). viewAfter s (x .view) fs .records) e ∙ p, ap (λ (x : Seen). x .answer ∷ saysTo s (x .view) fs) e ∙ ap (λ (l : List (Told ℕ)). a ∷ l) q)
+      (ap (λ (x : Seen). viewAfter s (x .view) (heardAll fs) .records) e ∙ p, ap (λ (x : Seen). x .answer ∷ saysTo s (x .view) (heardAll fs)) e ∙ ap (λ (l : List (Told ℕ)). a ∷ l) q)
 
   late : (any : Bool) (v : View) (fs : List Frame) → eqb (v .ended) 0 ≡ false → Rules s v any true fs
   unfolding viewAfter saysTo
@@ -61,8 +61,8 @@ module _ (s : ℕ) where
 
   -- a frame that is taken, in front of others
   taken : (v : View) (f : Frame) (fs ks : List Frame) (ss : List (Told ℕ)) (end : ℕ) → eqb (v .ended) 0 ≡ true → not (hasStatusZ f) || eqb (length (v .records)) 0 ≡ true
-      → endedBy (letterIn (read reply f)) ≡ end → (viewAfter s (withEnd v f end) fs .records ≡ (v .records ++ (f ∷ [])) ++ ks) × (saysTo s (withEnd v f end) fs ≡ ss)
-      → (viewAfter s v (f ∷ fs) .records ≡ v .records ++ (f ∷ ks)) × (saysTo s v (f ∷ fs) ≡ gives s ∷ ss)
+      → endedBy (letterIn (read reply f)) ≡ end → (viewAfter s (withEnd v f end) (heardAll fs) .records ≡ (v .records ++ (f ∷ [])) ++ ks) × (saysTo s (withEnd v f end) (heardAll fs) ≡ ss)
+      → (viewAfter s v (heardAll (f ∷ fs)) .records ≡ v .records ++ (f ∷ ks)) × (saysTo s v (heardAll (f ∷ fs)) ≡ gives s ∷ ss)
   taken v f fs ks ss end o p q h =
       front v (withEnd v f end) (gives s) f fs (f ∷ ks) ss (step-taken s v f o p ∙ ap (λ (n : ℕ). record { answer = gives s; view = withEnd v f n }) q)
       (h .0 ∙ append-assoc (v .records) (f ∷ []) ks) (h .1)

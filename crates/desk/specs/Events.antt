@@ -53,12 +53,17 @@ unfoldable pub addressed : Key → Event → Bool
 addressed k (toOpen f) = false
 addressed k (toReply f) = isTo k (read reply f)
 
--- the frames addressed to a key, in order
+-- the events addressed to a key, in order
+unfoldable pub eventsTo : Key → List Event → List Event
+eventsTo k [] = []
+eventsTo k (e ∷ es) = cond (addressed k e) (e ∷ eventsTo k es) (eventsTo k es)
+
+-- their frames
 unfoldable pub framesTo : Key → List Event → List Frame
 framesTo k [] = []
 framesTo k (e ∷ es) = cond (addressed k e) (frameOf e ∷ framesTo k es) (framesTo k es)
 
--- the answers that these frames got
+-- the answers that they got
 unfoldable pub answersTo : Key → Memory → List Event → List (Told ℕ)
 answersTo k m [] = []
 answersTo k m (e ∷ es) =

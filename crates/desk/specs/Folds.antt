@@ -1,4 +1,4 @@
--- A request goes by its own frames alone, whatever may stand among them; and step after step is the rule of mixed replies.
+-- A request goes by the events addressed to it alone, whatever may stand among them; and for replies, step after step is the rule of mixed replies.
 use Prim.Native.Nat.{ℕ, _<_}
 use mathlib.Core.List.{List, [], _∷_, _++_}
 use mathlib.Core.Bool.{Bool, true, false, not}
@@ -11,7 +11,7 @@ use Rattle.desk.specs.Limits.{seatCount}
 use Rattle.desk.specs.Rule.{Frame, kept, said}
 use Rattle.desk.specs.Memory.{Memory}
 use Rattle.desk.specs.Desk.{isDesk}
-use Rattle.desk.specs.Events.{Event, toReply, happens, run, Stands, addressed, framesTo, answersTo}
+use Rattle.desk.specs.Events.{Event, happens, run, heardAll, Stands, addressed, eventsTo, answersTo}
 use Rattle.desk.specs.Views.{View, viewAt, seatStep, cellFree, Steps}
 
 -- ---- what may stand in a stretch
@@ -27,33 +27,33 @@ pub record MayStand (may : Event → Bool) : Type 0 where
 abbrev pub CallsMayStand : Type 0
 CallsMayStand = MayStand (λ e. true)
 
--- a cell is free for each frame addressed to k, when it comes
+-- a cell is free for each event addressed to k, when it comes
 abbrev pub CellsFor : Key → Memory → List Event → Type 0
 CellsFor k m [] = Unit {0}
 CellsFor k m (e ∷ es) = (addressed k e ≡ true → cellFree m ≡ true) × CellsFor k (happens m e .after) es
 
 -- ---- the view of a request, and the rule
 
--- its view after the frames addressed to it, and its answers to them, step by step
-unfoldable pub viewAfter : ℕ → View → List Frame → View
+-- its view after events addressed to it, and its answers to them, step by step
+unfoldable pub viewAfter : ℕ → View → List Event → View
 viewAfter s v [] = v
-viewAfter s v (f ∷ fs) = viewAfter s (seatStep s true v (toReply f) .view) fs
+viewAfter s v (e ∷ es) = viewAfter s (seatStep s true v e .view) es
 
-unfoldable pub saysTo : ℕ → View → List Frame → List (Told ℕ)
+unfoldable pub saysTo : ℕ → View → List Event → List (Told ℕ)
 saysTo s v [] = []
-saysTo s v (f ∷ fs) = seatStep s true v (toReply f) .answer ∷ saysTo s (seatStep s true v (toReply f) .view) fs
+saysTo s v (e ∷ es) = seatStep s true v e .answer ∷ saysTo s (seatStep s true v e .view) es
 
--- the steps, one after the other, are the rule
+-- the steps for replies, one after the other, are the rule
 pub record StepsAreRule (s : ℕ) (v : View) (fs : List Frame) : Type 0 where
-  pub records : viewAfter s v fs .records ≡ v .records ++ kept (not (eqb (length (v .records)) 0)) (not (eqb (v .ended) 0)) fs
-  pub answers : saysTo s v fs ≡ said s (not (eqb (length (v .records)) 0)) (not (eqb (v .ended) 0)) fs
+  pub records : viewAfter s v (heardAll fs) .records ≡ v .records ++ kept (not (eqb (length (v .records)) 0)) (not (eqb (v .ended) 0)) fs
+  pub answers : saysTo s v (heardAll fs) ≡ said s (not (eqb (length (v .records)) 0)) (not (eqb (v .ended) 0)) fs
 
 abbrev pub FoldIsRule : Type 0
 FoldIsRule = (s : ℕ) (v : View) (fs : List Frame) → StepsAreRule s v fs
 
--- whatever may stand in a stretch, an open request for whose frames there are cells goes by its own frames alone
+-- whatever may stand in a stretch, an open request for whose events there are cells goes by these events alone
 abbrev pub FoldsWhatMayStand : Type 0
 FoldsWhatMayStand =
     (may : Event → Bool) → MayStand may
     → (m : Memory) (es : List Event) (s : ℕ) → isDesk m ≡ true → Stands may es → s < seatCount → viewAt m s .used ≡ true → CellsFor (viewAt m s .key) m es
-    → (viewAt (run m es) s ≡ viewAfter s (viewAt m s) (framesTo (viewAt m s .key) es)) × (answersTo (viewAt m s .key) m es ≡ saysTo s (viewAt m s) (framesTo (viewAt m s .key) es))
+    → (viewAt (run m es) s ≡ viewAfter s (viewAt m s) (eventsTo (viewAt m s .key) es)) × (answersTo (viewAt m s .key) m es ≡ saysTo s (viewAt m s) (eventsTo (viewAt m s .key) es))
