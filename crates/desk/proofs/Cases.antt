@@ -90,9 +90,11 @@ orders-worked = record {
 }
 
 pub desk-worked : DeskWorked
-unfolding numberAt numberFrom oneOf between upTo isAddress isRaw isRequester allFrom fieldsOf headTold read timingKind timed isStatus P.isLetter P.isReplyChannel P.leastRun P.fromBib P.replyFields allBelow countBelow sameKey isKey heard ends keyed capacityOf isZero markNames lastEnds isDesk firstOff digitFrom
+unfolding numberAt numberFrom oneOf between upTo isAddress isRaw isRequester isOutput allFrom fieldsOf headTold read timingKind timed Q.isInformation Q.isRequestChannel Q.requestFields isStatus P.isLetter P.isReplyChannel P.leastRun P.fromBib P.replyFields allBelow countBelow first sameKey isKey heard ends inPlace keyed seatWith lowestClear capacityOf isZero markNames lastEnds isDesk keyTried requestTried openTried opens step seatTried labelTried replyTried replies recordsOf firstOff digitFrom
 desk-worked = record {
   a-desk = refl;
+  gap = refl;
+  gap-opened = refl;
   fifteen = refl;
   seventeen = refl;
   bit-16 = refl;

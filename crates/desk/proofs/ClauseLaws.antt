@@ -28,7 +28,7 @@ use Rattle.desk.specs.Replay.{replayed, takenAt, agrees, replays}
 use Rattle.desk.specs.inside.Clauses.{seatGood, seatGoodAt, turnOf, agreesAt}
 use Rattle.desk.specs.inside.Judging.{stepTold, isTaken}
 use Rattle.desk.proofs.Below.{past, eq-case, all-and, all-ext}
-use Rattle.desk.proofs.ReplayLaws.{replayed-next, desk-is-replay}
+use Rattle.desk.proofs.ReplayLaws.{replayed-next, desk-run}
 
 -- ---- the clauses in the definition's order, and in the order of the code
 
@@ -64,7 +64,7 @@ desk-by m n q =
     past (eq-eqb (length (m .row)) seatCount n)
     (q ∙ ap (λ (x : Bool). noBitAbove m && (x && (noKeyShared m && (countFits m && replays (m .row) (m .bits) (m .count) (m .cells) (m .marks))))) (sym (seats-are (m .row) (m .bits))))
     ∙ sym (turned (allSeats m) (noBitAbove m) (keysLegal m) (noKeyShared m) (unusedAllZero m) (countFits m) (replays (m .row) (m .bits) (m .count) (m .cells) (m .marks)))
-    ∙ sym (desk-is-replay m)
+    ∙ sym (desk-run m)
 
 -- ---- the result of a branch; x is what a call returned, and a is what the call's contract says of it
 

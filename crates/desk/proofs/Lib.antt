@@ -13,6 +13,7 @@ pub mod ReadBackLaws
 pub mod DeskLaws
 pub mod RuleLaws
 pub mod ViewLaws
+pub mod OpeningLaws
 pub mod MixLaws
 pub mod SameLaws
 pub mod SwapLaws

@@ -27,7 +27,7 @@ use Rattle.desk.specs.Desk.{isDesk}
 use Rattle.desk.specs.Calls.{Outcome, opens, opened, replies, emptied}
 use Rattle.desk.specs.Rule.{Frame}
 use Rattle.desk.specs.Events.{Event, toOpen, toReply, happens, run, openings, heardAll, Stands, addressed, eventsTo, framesTo, answersTo}
-use Rattle.desk.specs.Views.{View, viewAt, progressIn, newView, Seen, replySeen, seatStep, cellFree, Steps}
+use Rattle.desk.specs.Views.{View, viewAt, progressIn, newView, Seen, replySeen, seatStep, cellFree, IsStep}
 use Rattle.desk.specs.Folds.{MayStand, CallsMayStand, CellsFor, viewAfter, saysTo, FoldsWhatMayStand}
 use Rattle.desk.specs.Mix.{Stretch, seated, expected, repliesTo, Sorted, SortsFromAnyDesk, SortsOpenedRequests}
 use Rattle.desk.proofs.Below.{never}
@@ -61,9 +61,9 @@ calls-may-stand = record { desk = desk; own = own; other = other }
     desk m (toOpen f) y d = stays-desk .opening m f d
     desk m (toReply f) y d = stays-desk .reply m f d
 
-    own : (m : Memory) (e : Event) (s : ℕ) → true ≡ true → isDesk m ≡ true → s < seatCount → viewAt m s .used ≡ true → addressed (viewAt m s .key) e ≡ true → Steps m e s
+    own : (m : Memory) (e : Event) (s : ℕ) → true ≡ true → isDesk m ≡ true → s < seatCount → viewAt m s .used ≡ true → addressed (viewAt m s .key) e ≡ true → IsStep m e s
     own m (toOpen f) s y d l u h = never true refl (sym h)
-    own m (toReply f) s y d l u h = is-local .to-seat m f s d l u h
+    own m (toReply f) s y d l u h = is-local .to-seat m f s d l u h .step
 
     other : (m : Memory) (e : Event) (s : ℕ) → true ≡ true → isDesk m ≡ true → s < seatCount → viewAt m s .used ≡ true → addressed (viewAt m s .key) e ≡ false → viewAt (happens m e .after) s ≡ viewAt m s
     other m (toOpen f) s y d l u h = opening-other m f s u
@@ -252,7 +252,7 @@ just-opened m f r s e h =
     let below = by-opening m f (λ (o : Outcome). o .answer ≡ gives s → s < seatCount)
     (λ o k g. let q : o .seat ≡ s = cc in rw q at (k .below))
     (λ why g. absurd (not-refused s why (sym g))) in
-    (below h, rw e at (is-local .opening m f s h .1 .own))
+    (below h, rw e at (is-local .opening m f s h .1 .step .own))
 
 pub sorts-opened-requests : SortsOpenedRequests
 unfolding run

@@ -140,13 +140,16 @@ module _ (cells marks : List ℕ) where
 -- ---- a desk is the replay of its rows
 
 -- the clauses on rows and on held and ended seats, gathered
-gathered : (x m c h p e : Bool) → x && m && c && h && p && e ≡ x && ((m && (c && p)) && (h && e))
-gathered false m c h p e = refl
-gathered true false c h p e = refl
-gathered true true false h p e = refl
-gathered true true true true p e = refl
-gathered true true true false true e = refl
-gathered true true true false false e = refl
+gathered : (m c h p e : Bool) → m && c && h && p && e ≡ (m && (c && p)) && (h && e)
+gathered false c h p e = refl
+gathered true false h p e = refl
+gathered true true true p e = refl
+gathered true true false true e = refl
+gathered true true false false e = refl
+
+parted : (x m c h p e : Bool) → x && m && c && h && p && e ≡ x && (m && c && h && p && e)
+parted true m c h p e = refl
+parted false m c h p e = refl
 
 module _ (row : List Seat) (bits count : ℕ) (cells marks : List ℕ) where
   agree-by : (a c : Bool) (b : Bool) → cond b a true && cond b c true ≡ cond b (a && c) true
@@ -171,11 +174,14 @@ module _ (row : List Seat) (bits count : ℕ) (cells marks : List ℕ) where
       ∙ all-ext seatCount _ (λ s. agrees (replayed cells marks s count) (seatAt row s) bits s) (λ s l. agree-is s))
 
 pub desk-is-replay : DeskIsReplay
+desk-is-replay m = gathered (marksName m) (cellsAreReplies m) (heldIsNamed m) (endsLast m) (endedIsLast m) ∙ rows-are (m .row) (m .bits) (m .count) (m .cells) (m .marks)
+
+-- the first six clauses, and the replay
+pub desk-run : (m : Memory) → isDesk m ≡ allSeats m && noBitAbove m && keysLegal m && noKeyShared m && unusedAllZero m && countFits m && replays (m .row) (m .bits) (m .count) (m .cells) (m .marks)
 unfolding isDesk
-desk-is-replay m =
-    let first-six = allSeats m && noBitAbove m && keysLegal m && noKeyShared m && unusedAllZero m && countFits m in
-    gathered first-six (marksName m) (cellsAreReplies m) (heldIsNamed m) (endsLast m) (endedIsLast m)
-    ∙ ap (λ (x : Bool). first-six && x) (rows-are (m .row) (m .bits) (m .count) (m .cells) (m .marks))
+desk-run m =
+    let six = allSeats m && noBitAbove m && keysLegal m && noKeyShared m && unusedAllZero m && countFits m in
+    parted six (marksName m) (cellsAreReplies m) (heldIsNamed m) (endsLast m) (endedIsLast m) ∙ ap (λ (x : Bool). six && x) (desk-is-replay m)
 
 -- ---- the facts
 
@@ -248,7 +254,7 @@ module _ (m : Memory) where
       let c4 = c3 && noKeyShared m in
       let c5 = c4 && unusedAllZero m in
       let c6 = c5 && countFits m in
-      let h7 = sym (desk-is-replay m) ∙ h in
+      let h7 = sym (desk-run m) ∙ h in
       let h6 = and-l c6 _ h7 in
       let h5 = and-l c5 (countFits m) h6 in
       let h4 = and-l c4 (unusedAllZero m) h5 in
@@ -270,7 +276,7 @@ module _ (m : Memory) where
   pub facts-desk : Facts m → isDesk m ≡ true
   unfolding replays
   facts-desk f =
-      desk-is-replay m
+      desk-run m
       ∙ and-true (and-true (and-true (and-true (and-true (and-true
       (eq-eqb (length (m .row)) seatCount (f .size))
       (lt-ltb (m .bits) (2 ^ seatCount) (f .bits)))

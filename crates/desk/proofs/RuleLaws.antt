@@ -1,13 +1,13 @@
 -- The steps of a request, one after the other, are the rule of mixed replies, which is spelled over letters and keys. Assumes nothing.
-use Prim.Native.Nat.{ℕ}
+use Prim.Native.Nat.{ℕ, suc}
 use mathlib.Core.List.{List, [], _∷_, _++_, append-assoc, append-nil}
 use mathlib.Core.Bool.{Bool, true, false, not, _||_}
 use mathlib.Core.Path.{_≡_, refl, sym, ap, _∙_}
 use native.Mathlib.Omega.{arith}
 use lib.ListN.{length, length-append}
 use lib.Dec.{eqb}
-use borrow.Author.Tests.{ne-eqb}
-use Rattle.digits.specs.Refusals.{ENDED, OUT-OF-PLACE}
+use borrow.Author.Tests.{eq-eqb, ne-eqb}
+use Rattle.digits.specs.Refusals.{ENDED, OUT-OF-PLACE, FULL}
 use Rattle.digits.specs.Told.{Told, gives, refuses}
 use Rattle.digits.proofs.Tests.{by-test}
 use Rattle.frames.specs.Kind.{read}
@@ -18,7 +18,7 @@ use Rattle.desk.specs.Rule.{Frame, letterIn, hasStatusE, hasStatusZ, kep
 use Rattle.desk.specs.Events.{toReply, heardAll}
 use Rattle.desk.specs.Views.{View, Seen, seatStep}
 use Rattle.desk.proofs.HearingLaws.{letter}
-use Rattle.desk.specs.Folds.{viewAfter, saysTo, FoldIsRule}
+use Rattle.desk.specs.Folds.{viewAfter, saysTo, FoldIsRule, FullIsRule}
 
 -- ---- one step, by the letter
 
@@ -26,20 +26,37 @@ abbrev withEnd : View → Frame → ℕ → View
 withEnd v f end = record { used = v .used; key = v .key; records = v .records ++ (f ∷ []); ended = end }
 
 module _ (s : ℕ) (v : View) (f : Frame) where
-  abbrev seenNow : Seen
-  seenNow = seatStep s true v (toReply f)
+  abbrev seenNow : Bool → Seen
+  seenNow free = seatStep s free v (toReply f)
 
-  step-late : eqb (v .ended) 0 ≡ false → seenNow ≡ record { answer = refuses ENDED; view = v }
+  step-late : (free : Bool) → eqb (v .ended) 0 ≡ false → seenNow free ≡ record { answer = refuses ENDED; view = v }
   unfolding step
-  step-late e = rw e
+  step-late free e = rw e
 
-  step-astray : eqb (v .ended) 0 ≡ true → eqb (length (v .records)) 0 ≡ false → hasStatusZ f ≡ true → seenNow ≡ record { answer = refuses OUT-OF-PLACE; view = v }
+  step-astray : (free : Bool) → eqb (v .ended) 0 ≡ true → eqb (length (v .records)) 0 ≡ false → hasStatusZ f ≡ true → seenNow free ≡ record { answer = refuses OUT-OF-PLACE; view = v }
   unfolding step inPlace
-  step-astray e n z = rw (e, letter f, z, n)
+  step-astray free e n z = rw (e, letter f, z, n)
 
-  step-taken : eqb (v .ended) 0 ≡ true → not (hasStatusZ f) || eqb (length (v .records)) 0 ≡ true → seenNow ≡ record { answer = gives s; view = withEnd v f (endedBy (letterIn (read reply f))) }
+  step-taken : eqb (v .ended) 0 ≡ true → not (hasStatusZ f) || eqb (length (v .records)) 0 ≡ true → seenNow true ≡ record { answer = gives s; view = withEnd v f (endedBy (letterIn (read reply f))) }
   unfolding step inPlace
   step-taken e p = rw (e, letter f, p)
+
+  step-full : eqb (v .ended) 0 ≡ true → not (hasStatusZ f) || eqb (length (v .records)) 0 ≡ true → seenNow false ≡ record { answer = refuses FULL; view = v }
+  unfolding step inPlace
+  step-full e p = rw (e, letter f, p)
+
+-- ---- no cell is free
+
+holds-any : (l : List Frame) → (l ≡ [] → ⊥) → eqb (length l) 0 ≡ false
+holds-any [] n = absurd (n refl)
+holds-any (f ∷ l) n = ne-eqb (suc (length l)) 0 (λ (h : suc (length l) ≡ 0). omega arith)
+
+pub full-is-rule : FullIsRule
+full-is-rule = record {
+  late = λ s v f n. step-late s v f false (ne-eqb (v .ended) 0 n);
+  astray = λ s v f e z n. step-astray s v f false (eq-eqb (v .ended) 0 e) (holds-any (v .records) n) z;
+  full = λ s v f e h. step-full s v f (eq-eqb (v .ended) 0 e) (by-test (hasStatusZ f) (λ z. rw (z, h z)) (λ z. rw z));
+}
 
 -- ---- all steps
 
@@ -57,7 +74,7 @@ module _ (s : ℕ) where
   late : (any : Bool) (v : View) (fs : List Frame) → eqb (v .ended) 0 ≡ false → Rules s v any true fs
   unfolding viewAfter saysTo
   late any v [] e = (sym (append-nil (v .records)), refl)
-  late any v (f ∷ fs) e = let h = late any v fs e in front v v (refuses ENDED) f fs [] _ (step-late s v f e) (h .0) (h .1)
+  late any v (f ∷ fs) e = let h = late any v fs e in front v v (refuses ENDED) f fs [] _ (step-late s v f true e) (h .0) (h .1)
 
   -- a frame that is taken, in front of others
   taken : (v : View) (f : Frame) (fs ks : List Frame) (ss : List (Told ℕ)) (end : ℕ) → eqb (v .ended) 0 ≡ true → not (hasStatusZ f) || eqb (length (v .records)) 0 ≡ true
@@ -84,7 +101,7 @@ module _ (s : ℕ) where
   among [] v o n = (sym (append-nil (v .records)), refl)
   among (f ∷ fs) v o n =
       by-test (hasStatusZ f)
-      (λ z. let h = among fs v o n in rw z (front v v (refuses OUT-OF-PLACE) f fs _ _ (step-astray s v f o n z) (h .0) (h .1)))
+      (λ z. let h = among fs v o n in rw z (front v v (refuses OUT-OF-PLACE) f fs _ _ (step-astray s v f true o n z) (h .0) (h .1)))
       (λ z. plain v f fs (among fs) o z)
 
   first : (fs : List Frame) (v : View) → eqb (v .ended) 0 ≡ true → eqb (length (v .records)) 0 ≡ true → Rules s v false false fs

@@ -4,6 +4,7 @@ use mathlib.Core.Bool.{Bool, true, false, _&&_}
 use mathlib.Core.Path.{_≡_, refl, sym, ap, _∙_}
 use mathlib.Core.List.{[], _∷_, _++_}
 use native.Mathlib.Omega.{arith}
+use lib.ListN.{length-append}
 use lib.Dec.{eqb, ltb}
 use borrow.Author.Tests.{lt-ltb, ltb-true}
 use Rattle.digits.specs.declared.refusal.Refusal.{Refusal}
@@ -29,7 +30,7 @@ use Rattle.desk.specs.Seats.{seatAt, usedBit, keyed, keyedAt, seatWith, 
 use Rattle.desk.specs.Memory.{Memory}
 use Rattle.desk.specs.Calls.{whatIsGiven, openTried, opens, opened, seatTried, labelTried, replyTried, replies, taken}
 use Rattle.desk.specs.Events.{Event, toOpen, toReply, happens, addressed}
-use Rattle.desk.specs.Views.{View, viewAt, progressIn, newView, cellFree, Steps, strayAnswer, Local}
+use Rattle.desk.specs.Views.{View, viewAt, progressIn, newView, cellFree, StepTellsView, Steps, strayAnswer, Local}
 use Rattle.desk.proofs.Below.{never, false-or, first-at, first-ext}
 use Rattle.desk.proofs.KeyLaws.{same-key}
 use Rattle.desk.proofs.HearingLaws.{addressed-heard}
@@ -117,6 +118,12 @@ step-gives p q free status e =
     let c = tried-gives free _ _ _ (b .1) in
     let g = c .1 in cc
 
+pub step-tells-view : StepTellsView
+step-tells-view s free v f p e =
+    let q = step-gives (progressIn v) p free (statusIn (heard f)) e in
+    let n = length-append (v .records) (f ∷ []) in
+    rw e (λ i. record { held = (n ∙ ap (λ (y : Progress). y .held) q) i; ended = p .ended })
+
 module _ (m : Memory) (f : Frame) (s : ℕ) (c : ReplyLabel) (e : heard f ≡ gives c) where
   steps-by : (a : Told Progress) → step (progressIn (viewAt m s)) (cellFree m) (c .status) ≡ a
       → replyTried m f ≡ whatIsGiven a (λ p. gives (record { seat = s; status = c .status })) → Steps m (toReply f) s
@@ -126,11 +133,11 @@ module _ (m : Memory) (f : Frame) (s : ℕ) (c : ReplyLabel) (e : heard f ≡ gi
       let x : step (progressIn (viewAt m s)) (cellFree m) (statusIn (heard f)) ≡ gives p = rw e w in
       let z : endedIn (heard f) ≡ p .ended = rw e (ap (λ (y : Progress). y .ended) (step-gives _ p (cellFree m) (c .status) w)) in
       let a = after-taken m f t q in
-      record { answer = rw (a, x); own = rw (a, x) (mv .own ∙ view-is refl refl refl z); others = λ i n. rw a (mv .others i n) }
+      record { step = record { answer = rw (a, x); own = rw (a, x) (mv .own ∙ view-is refl refl refl z) }; others = λ i n. rw a (mv .others i n) }
   steps-by (refuses why) w q =
       let x : step (progressIn (viewAt m s)) (cellFree m) (statusIn (heard f)) ≡ refuses why = rw e w in
       let a = after-refused m f why q in
-      record { answer = rw (a, x); own = rw (a, x); others = λ i n. rw a }
+      record { step = record { answer = rw (a, x); own = rw (a, x) }; others = λ i n. rw a }
 
 reply-local : (m : Memory) (f : Frame) (s : ℕ) → Facts m → s < seatCount → usedBit (m .bits) s ≡ true → (got : Told ReplyLabel) → heard f ≡ got → hasKey (viewAt m s .key) got ≡ true → Steps m (toReply f) s
 reply-local m f s d l u (gives c) e h =
@@ -159,7 +166,7 @@ opening-local m f s h (gives o) e =
     let g : gives (o .seat) ≡ gives s = rw (after-opened m f o e) at h in
     let q : o .seat ≡ s = cc in
     let a = after-opened m f o e in
-    (sym q ∙ k .lowest, record { answer = rw (a, k .reads, q); own = rw (a, k .reads, ← q) (mv .own ∙ ap newView (sym (k .key))); others = λ i n. rw a (mv .others i (λ y. n (y ∙ q))) })
+    (sym q ∙ k .lowest, record { step = record { answer = rw (a, k .reads, q); own = rw (a, k .reads, ← q) (mv .own ∙ ap newView (sym (k .key))) }; others = λ i n. rw a (mv .others i (λ y. n (y ∙ q))) })
 opening-local m f s h (refuses why) e = absurd (not-refused s why (sym (rw (after-not-opened m f why e) at h)))
 
 pub is-local : Local

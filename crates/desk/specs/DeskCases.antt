@@ -5,10 +5,12 @@ use mathlib.Core.List.{List, [], _∷_, _++_}
 use mathlib.Core.Bool.{true, false}
 use mathlib.Core.Path.{_≡_}
 use lib.ListN.{replicate}
+use Rattle.digits.specs.Told.{gives}
 use Rattle.desk.specs.declared.state.Seat.{Seat}
 use Rattle.desk.specs.Memory.{Memory}
 use Rattle.desk.specs.Desk.{isDesk}
-use Rattle.desk.specs.Cases.{replyFrom, replyTo}
+use Rattle.desk.specs.Calls.{opens}
+use Rattle.desk.specs.Cases.{asking, replyFrom, replyTo}
 
 abbrev pub seat : ℕ → ℕ → ℕ → ℕ → ℕ → Seat
 seat address requester number held ended = record { address = address; requester = requester; number = number; held = held; ended = ended }
@@ -48,6 +50,9 @@ marks = 0 ∷ 1 ∷ 0 ∷ 99 ∷ []
 
 pub record DeskWorked : Type 0 where
   pub a-desk : isDesk (with (seats one two none) 3 3 records marks) ≡ true
+  -- a seat in use above one that is not: also a desk, and an opening gets the seat between
+  pub gap : isDesk (with (seats one none two) 5 3 records (0 ∷ 2 ∷ 0 ∷ 99 ∷ [])) ≡ true
+  pub gap-opened : opens (with (seats one none two) 5 3 records (0 ∷ 2 ∷ 0 ∷ 99 ∷ [])) (asking "B" "P") .answer ≡ gives 1
   -- sixteen seats
   pub fifteen : isDesk (with (one ∷ two ∷ replicate 13 none) 3 3 records marks) ≡ false
   pub seventeen : isDesk (with (one ∷ two ∷ replicate 15 none) 3 3 records marks) ≡ false

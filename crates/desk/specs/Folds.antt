@@ -5,21 +5,22 @@ use mathlib.Core.Bool.{Bool, true, false, not}
 use mathlib.Core.Path.{_≡_}
 use lib.ListN.{length}
 use lib.Dec.{eqb}
-use Rattle.digits.specs.Told.{Told}
+use Rattle.digits.specs.Refusals.{plain}
+use Rattle.digits.specs.Told.{Told, refuses}
 use Rattle.desk.specs.declared.key.Key.{Key}
 use Rattle.desk.specs.Limits.{seatCount}
-use Rattle.desk.specs.Rule.{Frame, kept, said}
+use Rattle.desk.specs.Rule.{Frame, hasStatusZ, kept, said}
 use Rattle.desk.specs.Memory.{Memory}
 use Rattle.desk.specs.Desk.{isDesk}
-use Rattle.desk.specs.Events.{Event, happens, run, heardAll, Stands, addressed, eventsTo, answersTo}
-use Rattle.desk.specs.Views.{View, viewAt, seatStep, cellFree, Steps}
+use Rattle.desk.specs.Events.{Event, toReply, happens, run, heardAll, Stands, addressed, eventsTo, answersTo}
+use Rattle.desk.specs.Views.{View, viewAt, seatStep, cellFree, IsStep}
 
 -- ---- what may stand in a stretch
 
 -- events that leave the desk a desk; one that is addressed to an open request is its step, and any other leaves its view
 pub record MayStand (may : Event → Bool) : Type 0 where
   pub desk : (m : Memory) (e : Event) → may e ≡ true → isDesk m ≡ true → isDesk (happens m e .after) ≡ true
-  pub own : (m : Memory) (e : Event) (s : ℕ) → may e ≡ true → isDesk m ≡ true → s < seatCount → viewAt m s .used ≡ true → addressed (viewAt m s .key) e ≡ true → Steps m e s
+  pub own : (m : Memory) (e : Event) (s : ℕ) → may e ≡ true → isDesk m ≡ true → s < seatCount → viewAt m s .used ≡ true → addressed (viewAt m s .key) e ≡ true → IsStep m e s
   pub other : (m : Memory) (e : Event) (s : ℕ) → may e ≡ true → isDesk m ≡ true → s < seatCount → viewAt m s .used ≡ true → addressed (viewAt m s .key) e ≡ false
       → viewAt (happens m e .after) s ≡ viewAt m s
 
@@ -50,6 +51,12 @@ pub record StepsAreRule (s : ℕ) (v : View) (fs : List Frame) : Type 0 where
 
 abbrev pub FoldIsRule : Type 0
 FoldIsRule = (s : ℕ) (v : View) (fs : List Frame) → StepsAreRule s v fs
+
+-- while no cell is free nothing is taken: after the end a reply is 14, a Z after a record is 15, and any other is 16
+pub record FullIsRule : Type 0 where
+  pub late : (s : ℕ) (v : View) (f : Frame) → (v .ended ≡ 0 → ⊥) → seatStep s false v (toReply f) ≡ record { answer = refuses (plain 14); view = v }
+  pub astray : (s : ℕ) (v : View) (f : Frame) → v .ended ≡ 0 → hasStatusZ f ≡ true → (v .records ≡ [] → ⊥) → seatStep s false v (toReply f) ≡ record { answer = refuses (plain 15); view = v }
+  pub full : (s : ℕ) (v : View) (f : Frame) → v .ended ≡ 0 → (hasStatusZ f ≡ true → v .records ≡ []) → seatStep s false v (toReply f) ≡ record { answer = refuses (plain 16); view = v }
 
 -- whatever may stand in a stretch, an open request for whose events there are cells goes by these events alone
 abbrev pub FoldsWhatMayStand : Type 0

@@ -14,6 +14,7 @@ pub mod Keeps
 pub mod Rule
 pub mod Events
 pub mod Views
+pub mod Openings
 pub mod Folds
 pub mod Mix
 pub mod Orders

@@ -40,7 +40,7 @@ pub record Swaps (m : Memory) (e d : Event) : Type 0 where
   pub second : happens (happens m e .after) d .answer ≡ happens m d .answer
   pub after : Same (run m (d ∷ e ∷ [])) (run m (e ∷ d ∷ []))
 
--- two openings cannot be swapped: each would get the other's seat
+-- two openings are left out: where both are done, each gets the other's seat in the other order
 pub record NeighboursSwap : Type 0 where
   -- two replies, with a cell for each that is addressed to an open request
   pub replies : (m : Memory) (f g : Frame) → isDesk m ≡ true → Apart (toReply f) (toReply g) → m .count + repliesTo m (toReply f ∷ toReply g ∷ []) ≤ capacity m

@@ -1,4 +1,4 @@
--- A desk is the replay of its rows: its held cells, in the order of the store, are replies that their seats take one after the other, and each used seat is where they bring it.
+-- The rows of a desk can be replayed: its held cells, in the order of the store, are replies that their seats take one after the other, and each used seat is where they bring it.
 use Prim.Native.Nat.{ℕ}
 use mathlib.Core.List.{List}
 use mathlib.Core.Bool.{Bool, true, cond, _&&_}
@@ -12,7 +12,7 @@ use Rattle.desk.specs.Hearing.{heard, statusIn}
 use Rattle.desk.specs.Step.{none, replay, goes, step}
 use Rattle.desk.specs.Seats.{seatAt, usedBit}
 use Rattle.desk.specs.Memory.{Memory, cellAt, markAt, recordsOf}
-use Rattle.desk.specs.Desk.{markGood, cellKeyed, allSeats, noBitAbove, keysLegal, noKeyShared, unusedAllZero, countFits, isDesk}
+use Rattle.desk.specs.Desk.{markGood, cellKeyed, marksName, cellsAreReplies, heldIsNamed, endsLast, endedIsLast}
 
 -- how far the first n rows bring the request at seat s
 abbrev pub replayed : List ℕ → List ℕ → ℕ → ℕ → Progress
@@ -35,8 +35,6 @@ replays row bits count cells marks =
     allBelow count (rowGood row bits cells marks)
     && allBelow seatCount (λ s. agrees (replayed cells marks s count) (seatAt row s) bits s)
 
--- the first six clauses of a desk, and the replay in place of the other five
+-- clauses 7 to 11 of a desk are this replay
 abbrev pub DeskIsReplay : Type 0
-DeskIsReplay =
-    (m : Memory) → isDesk m
-    ≡ allSeats m && noBitAbove m && keysLegal m && noKeyShared m && unusedAllZero m && countFits m && replays (m .row) (m .bits) (m .count) (m .cells) (m .marks)
+DeskIsReplay = (m : Memory) → marksName m && cellsAreReplies m && heldIsNamed m && endsLast m && endedIsLast m ≡ replays (m .row) (m .bits) (m .count) (m .cells) (m .marks)

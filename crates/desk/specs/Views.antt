@@ -1,4 +1,4 @@
--- What can be seen of a desk: a view of each seat. An event moves the view of the seat that it is addressed to, by one step, and no other.
+-- What openings and replies see of a desk: a view of each seat. An event moves the view of one seat at most, by one step.
 use Prim.Native.Nat.{ℕ, _<_}
 use mathlib.Core.List.{List, [], _∷_, _++_}
 use mathlib.Core.Bool.{Bool, true, false}
@@ -60,23 +60,33 @@ abbrev pub openSeen : ℕ → View → Told StaticRequest → Seen
 openSeen s v (gives r) = record { answer = gives s; view = newView (requestKey r) }
 openSeen s v (refuses why) = record { answer = refuses why; view = v }
 
--- what an event addressed to seat s does to its view, if a cell is free or not, and the answer
+-- what an event that seat s gets does to its view, if a cell is free or not, and the answer
 abbrev pub seatStep : ℕ → Bool → View → Event → Seen
 seatStep s free v (toOpen f) = openSeen s v (read request f)
 seatStep s free v (toReply f) = replySeen s v f (step (progressIn v) free (statusIn (heard f)))
+
+-- the view after a taken reply has come as far as the step says
+abbrev pub StepTellsView : Type 0
+StepTellsView =
+    (s : ℕ) (free : Bool) (v : View) (f : Frame) (p : Progress) → step (progressIn v) free (statusIn (heard f)) ≡ gives p
+    → progressIn (seatStep s free v (toReply f) .view) ≡ p
 
 -- ---- locality
 
 abbrev pub cellFree : Memory → Bool
 cellFree m = ltb (m .count) (capacity m)
 
--- the event is a step of seat s, and no other seat is seen to change
-pub record Steps (m : Memory) (e : Event) (s : ℕ) : Type 0 where
+-- the event is a step of seat s
+pub record IsStep (m : Memory) (e : Event) (s : ℕ) : Type 0 where
   pub answer : happens m e .answer ≡ seatStep s (cellFree m) (viewAt m s) e .answer
   pub own : viewAt (happens m e .after) s ≡ seatStep s (cellFree m) (viewAt m s) e .view
+
+-- and no other seat is seen to change
+pub record Steps (m : Memory) (e : Event) (s : ℕ) : Type 0 where
+  pub step : IsStep m e s
   pub others : (i : ℕ) → (i ≡ s → ⊥) → viewAt (happens m e .after) i ≡ viewAt m i
 
--- a frame that is no reply to any request: the refusal of its reader, or STRAY
+-- a frame that is no reply to an open request: the refusal of its reader, or STRAY
 abbrev pub strayAnswer : Told StaticReply → Told ℕ
 strayAnswer (gives r) = refuses STRAY
 strayAnswer (refuses why) = refuses why
@@ -94,7 +104,7 @@ pub record Local : Type 1 where
 
 -- ---- desks that look the same
 
--- as many cells in all, and the same view of each seat; the order of the store may differ
+-- the same capacity, and the same view of each seat; the order of the store may differ
 pub record Same (m x : Memory) : Type 0 where
   pub size : capacity x ≡ capacity m
   pub view : (s : ℕ) → s < seatCount → viewAt x s ≡ viewAt m s
@@ -103,7 +113,7 @@ pub record Same (m x : Memory) : Type 0 where
 abbrev pub ViewsTellAll : Type 0
 ViewsTellAll = (m x : Memory) → isDesk m ≡ true → isDesk x ≡ true → Same m x → (x .bits ≡ m .bits) × (x .count ≡ m .count)
 
--- no event tells them apart, and they look the same after it
+-- no opening and no reply tells them apart, and they look the same after it
 abbrev pub SameGoesOn : Type 0
 SameGoesOn =
     (m x : Memory) (e : Event) → isDesk m ≡ true → isDesk x ≡ true → Same m x
