@@ -27,7 +27,7 @@ use Rattle.desk.specs.Step.{progressOf, step, none, goes}
 use Rattle.desk.specs.Seats.{seatAt, usedBit, keyed, keyedAt, seatWith, clearAt, lowestClear}
 use Rattle.desk.specs.Memory.{Memory, capacity, capacityOf, heldBy}
 use Rattle.desk.specs.Desk.{isDesk}
-use Rattle.desk.specs.Calls.{Outcome, outcome, keyTried, requestTried, whatIsGiven, openTried, opens, opened, seatTried, labelTried, replyTried, replies, taken}
+use Rattle.desk.specs.Calls.{Outcome, outcome, letterQ, keyTried, requestTried, whatIsGiven, openTried, opens, opened, seatTried, labelTried, replyTried, replies, taken}
 use Rattle.digits.proofs.Tests.{and-true, and-l, and-r}
 use Rattle.desk.proofs.Below.{first-sound, first-before}
 use Rattle.desk.proofs.KeyLaws.{same-key, request-legal}
@@ -185,7 +185,7 @@ unfolding openTried requestTried
 opens-taken m f o q =
     let d = tried-gives (isDesk m) _ _ o q in
     let g = given (read request f) (requestTried (m .row) (m .bits)) o (d .1) in
-    let a = tried-gives (not (eqb (g .one .information) 113)) _ _ o (g .rest) in
+    let a = tried-gives (not (eqb (g .one .information) letterQ)) _ _ o (g .rest) in
     opens-key m f o (g .one) (desk-facts m (d .0)) (g .is) (a .1)
 
 -- ---- a call is taken or refused
