@@ -81,8 +81,6 @@ unfolding numberAt numberFrom oneOf between upTo isAddress isRaw isRequester isO
 orders-worked = record {
   marks-one-way = refl;
   marks-other-way = refl;
-  held-one-way = refl;
-  held-other-way = refl;
   one-cell-one-way = refl;
   one-cell-other-way = refl;
   openings-one-way = refl;

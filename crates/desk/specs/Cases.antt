@@ -197,11 +197,6 @@ pub record OrdersWorked : Type 0 where
   -- the stores differ
   pub marks-one-way : run (pair 102 2) (to1 ∷ toA ∷ []) .marks ≡ 0 ∷ 1 ∷ []
   pub marks-other-way : run (pair 102 2) (toA ∷ to1 ∷ []) .marks ≡ 1 ∷ 0 ∷ []
-  -- each request holds the same
-  pub held-one-way : heldBy (run (pair 102 2) (to1 ∷ toA ∷ [])) 0 ∷ heldBy (run (pair 102 2) (to1 ∷ toA ∷ [])) 1 ∷ []
-      ≡ (replyTo "R" "1" "00007" "00001" ∷ []) ∷ (replyTo "E" "A" "00007" "00002" ∷ []) ∷ []
-  pub held-other-way : heldBy (run (pair 102 2) (toA ∷ to1 ∷ [])) 0 ∷ heldBy (run (pair 102 2) (toA ∷ to1 ∷ [])) 1 ∷ []
-      ≡ (replyTo "R" "1" "00007" "00001" ∷ []) ∷ (replyTo "E" "A" "00007" "00002" ∷ []) ∷ []
   -- with one cell the order decides which of them is FULL
   pub one-cell-one-way : answersOf (pair 51 1) (to1 ∷ toA ∷ []) ≡ gives 0 ∷ refuses (plain 16) ∷ []
   pub one-cell-other-way : answersOf (pair 51 1) (toA ∷ to1 ∷ []) ≡ gives 1 ∷ refuses (plain 16) ∷ []
