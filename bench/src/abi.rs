@@ -1,6 +1,6 @@
-//! The structs of include/rei2.h, and its calls, which both sides have.
+//! The structs of include/rei2.h, and its calls, which all sides have.
 
-use crate::plain;
+use crate::{plain, tuned};
 
 pub const SEATS: usize = 16;
 pub const CELLS: usize = 256;
@@ -53,57 +53,78 @@ structs! {
     ListedAnswer { refusal: u32, size: usize }
 }
 
-/// Declares the calls, and the two sides as tables of pointers to them. The calls of both sides have the same types. They
-/// are made through the pointers, so that none is inlined.
+/// The function of a call on a side of plain Rust. A call that is tuned is generic, and the other ones are made in one way.
+macro_rules! on_side {
+    (tuned $call:ident $ways:ty) => {
+        plain::calls::$call::<$ways>
+    };
+    (as_plain $call:ident $ways:ty) => {
+        plain::calls::$call
+    };
+}
+
+/// Declares the calls, and the three sides as tables of pointers to them. The calls of all sides have the same types. They
+/// are made through the pointers, so that none is inlined. A call is `tuned`, or it is made on the tuned side `as_plain`.
 macro_rules! calls {
-    ($($call:ident $exported:ident($($name:ident: $type:ty),* $(,)?) -> $answer:ty;)*) => {
+    ($($call:ident $exported:ident $how:ident($($name:ident: $type:ty),* $(,)?) -> $answer:ty;)*) => {
         extern "C" { $(fn $exported($($name: $type),*) -> $answer;)* }
 
         pub struct Side { $(pub $call: unsafe extern "C" fn($($type),*) -> $answer),* }
 
         pub static PROVED: Side = Side { $($call: $exported),* };
-        pub static PLAIN: Side = Side { $($call: plain::calls::$call),* };
+        pub static PLAIN: Side = Side { $($call: on_side!($how $call plain::ways::Plain)),* };
+        pub static TUNED: Side = Side { $($call: on_side!($how $call tuned::Tuned)),* };
+
+        /// Has this call a function of its own on the tuned side?
+        pub fn is_tuned(call: &str) -> bool {
+            match call {
+                $(stringify!($exported) => stringify!($how) == "tuned",)*
+                _ => panic!("no call {call}"),
+            }
+        }
     };
 }
 
 // An answer of more than 16 bytes is stored where the first argument points, and the call returns that pointer. On x86-64
 // C does the same if a function returns such a struct.
 calls! {
-    reset rei2_reset(answer: *mut DeskAnswer, seats: *mut Seat, seats_len: usize, desk: Desk) -> *mut DeskAnswer;
-    open rei2_open(
+    reset rei2_reset as_plain(
+        answer: *mut DeskAnswer, seats: *mut Seat, seats_len: usize, desk: Desk,
+    ) -> *mut DeskAnswer;
+    open rei2_open tuned(
         answer: *mut DeskAnswer, seats: *mut Seat, seats_len: usize, desk: Desk, cells: *const u8, cells_len: usize,
         marks: *const u32, marks_len: usize, frame: *const u8, frame_len: usize,
     ) -> *mut DeskAnswer;
-    reply rei2_reply(
+    reply rei2_reply tuned(
         answer: *mut DeskAnswer, seats: *mut Seat, seats_len: usize, desk: Desk, cells: *mut u8, cells_len: usize,
         marks: *mut u32, marks_len: usize, frame: *const u8, frame_len: usize,
     ) -> *mut DeskAnswer;
-    capture rei2_capture(
+    capture rei2_capture tuned(
         answer: *mut CapturedAnswer, seats: *mut Seat, seats_len: usize, desk: Desk, cells: *mut u8, cells_len: usize,
         marks: *mut u32, marks_len: usize, capture: *const u8, capture_len: usize,
     ) -> *mut CapturedAnswer;
-    seats_in_use rei2_seats_in_use(desk: Desk) -> u32;
-    capacity rei2_capacity(cells: usize, marks: usize) -> usize;
-    next_held rei2_next_held(
+    seats_in_use rei2_seats_in_use as_plain(desk: Desk) -> u32;
+    capacity rei2_capacity as_plain(cells: usize, marks: usize) -> usize;
+    next_held rei2_next_held as_plain(
         desk: Desk, cells: *const u8, cells_len: usize, marks: *const u32, marks_len: usize, seat: u32, from: usize,
     ) -> CellAnswer;
-    read_request rei2_read_request(
+    read_request rei2_read_request as_plain(
         answer: *mut RequestAnswer, frame: *const u8, frame_len: usize,
     ) -> *mut RequestAnswer;
-    write_request rei2_write_request(record: StaticRequest, out: *mut u8, out_len: usize) -> WrittenAnswer;
-    read_reply rei2_read_reply(answer: *mut ReplyAnswer, frame: *const u8, frame_len: usize) -> *mut ReplyAnswer;
-    write_reply rei2_write_reply(record: ReplyRecord, out: *mut u8, out_len: usize) -> WrittenAnswer;
-    read_dynamic rei2_read_dynamic(
+    write_request rei2_write_request as_plain(record: StaticRequest, out: *mut u8, out_len: usize) -> WrittenAnswer;
+    read_reply rei2_read_reply tuned(answer: *mut ReplyAnswer, frame: *const u8, frame_len: usize) -> *mut ReplyAnswer;
+    write_reply rei2_write_reply as_plain(record: ReplyRecord, out: *mut u8, out_len: usize) -> WrittenAnswer;
+    read_dynamic rei2_read_dynamic tuned(
         answer: *mut DynamicAnswer, frame: *const u8, frame_len: usize,
     ) -> *mut DynamicAnswer;
-    write_dynamic rei2_write_dynamic(record: DynamicRequest, out: *mut u8, out_len: usize) -> WrittenAnswer;
-    next_frame rei2_next_frame(
+    write_dynamic rei2_write_dynamic as_plain(record: DynamicRequest, out: *mut u8, out_len: usize) -> WrittenAnswer;
+    next_frame rei2_next_frame tuned(
         answer: *mut FrameAnswer, capture: *const u8, capture_len: usize, at: usize,
     ) -> *mut FrameAnswer;
-    list rei2_list(
+    list rei2_list tuned(
         capture: *const u8, capture_len: usize, cells: *mut u8, cells_len: usize, marks: *mut u32, marks_len: usize,
         out: *mut u8, out_len: usize,
     ) -> ListedAnswer;
-    running_time rei2_running_time(of: RunningOf) -> RunningAnswer;
-    refusal_name rei2_refusal_name(refusal: u32, out: *mut u8, out_len: usize) -> WrittenAnswer;
+    running_time rei2_running_time as_plain(of: RunningOf) -> RunningAnswer;
+    refusal_name rei2_refusal_name as_plain(refusal: u32, out: *mut u8, out_len: usize) -> WrittenAnswer;
 }

@@ -1,5 +1,5 @@
-//! Times each call of the proved library beside plain Rust that does the same. Before this it checks that both give the
-//! same answers.
+//! Times each call of the proved library beside plain Rust that does the same, and beside plain Rust that was tuned in the
+//! same ways as the proved library. Before this it checks that all three give the same answers.
 
 mod abi;
 mod compare;
@@ -11,6 +11,7 @@ mod rows;
 mod side;
 mod sweep;
 mod timing;
+mod tuned;
 mod witness;
 
 use std::time::Duration;

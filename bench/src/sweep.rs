@@ -1,4 +1,6 @@
-//! Calls beyond those of the rows on which both sides must agree: damaged frames, records, desks and captures.
+//! Calls beyond those of the rows on which all sides must agree: damaged frames, records, desks and captures.
+
+mod edges;
 
 use crate::abi::*;
 use crate::compare::same;
@@ -57,6 +59,7 @@ pub fn all() -> usize {
         + spoiled_desks(&mut random)
         + captures(&mut random)
         + numbers(&mut random)
+        + edges::all(&mut random)
 }
 
 /// The answer of a call that stores it.

@@ -1,6 +1,6 @@
 //! Times a row.
 
-use crate::abi::{Side, PLAIN, PROVED};
+use crate::abi::{is_tuned, Side, PLAIN, PROVED, TUNED};
 use crate::rows::Row;
 use std::hint::black_box;
 use std::time::{Duration, Instant};
@@ -13,46 +13,48 @@ pub struct Plan {
     pub slice: Duration,
 }
 
-/// The nanoseconds of one call on each side and the ratio of proved to plain, as medians of the repeats, and the least and
-/// the greatest ratio.
+/// The nanoseconds of one call on each side, and the ratio of proved to each other side. They are medians of the repeats.
 pub struct Figures {
     pub proved: f64,
     pub plain: f64,
     pub ratio: f64,
+    /// The least and the greatest ratio of proved to plain.
     pub least: f64,
     pub most: f64,
+    /// The tuned side; none if the call is made there by the same function as on the plain side.
+    pub tuned: Option<Tuned>,
+}
+
+pub struct Tuned {
+    pub time: f64,
+    pub ratio: f64,
 }
 
 pub fn time(row: &mut Row, plan: &Plan) -> Figures {
-    let passes = passes_in(row, plan.slice);
-    let mut proved = Vec::new();
-    let mut plain = Vec::new();
-    let mut ratios = Vec::new();
-    for turn in 0..plan.repeats {
-        let (a, b) = repeat(row, plan.slices, passes, turn);
-        ratios.push(a / b);
-        proved.push(a);
-        plain.push(b);
+    let mut sides = vec![&PROVED, &PLAIN];
+    if is_tuned(row.about.call) {
+        sides.push(&TUNED);
     }
-    let least = ratios.iter().copied().fold(f64::INFINITY, f64::min);
-    let most = ratios.iter().copied().fold(0.0, f64::max);
-    Figures { proved: median(proved), plain: median(plain), ratio: median(ratios), least, most }
+    let passes = passes_in(row, plan.slice);
+    let repeats: Vec<Vec<f64>> = (0..plan.repeats).map(|turn| repeat(row, &sides, plan.slices, passes, turn)).collect();
+    let times = |side: usize| repeats.iter().map(|times| times[side]).collect();
+    let ratios = |side: usize| -> Vec<f64> { repeats.iter().map(|times| times[0] / times[side]).collect() };
+    let least = ratios(1).into_iter().fold(f64::INFINITY, f64::min);
+    let most = ratios(1).into_iter().fold(0.0, f64::max);
+    let tuned = (sides.len() > 2).then(|| Tuned { time: median(times(2)), ratio: median(ratios(2)) });
+    Figures { proved: median(times(0)), plain: median(times(1)), ratio: median(ratios(1)), least, most, tuned }
 }
 
-/// One repeat. The side that comes first changes with every pair of slices.
-fn repeat(row: &mut Row, slices: usize, passes: usize, turn: usize) -> (f64, f64) {
-    let mut proved = Vec::new();
-    let mut plain = Vec::new();
+/// One repeat: the time of each side. The side that comes first changes with every turn of slices.
+fn repeat(row: &mut Row, sides: &[&Side], slices: usize, passes: usize, turn: usize) -> Vec<f64> {
+    let mut times = vec![Vec::new(); sides.len()];
     for slice in 0..slices {
-        if (turn + slice).is_multiple_of(2) {
-            proved.push(a_slice(row, &PROVED, passes));
-            plain.push(a_slice(row, &PLAIN, passes));
-        } else {
-            plain.push(a_slice(row, &PLAIN, passes));
-            proved.push(a_slice(row, &PROVED, passes));
+        for next in 0..sides.len() {
+            let side = (turn + slice + next) % sides.len();
+            times[side].push(a_slice(row, sides[side], passes));
         }
     }
-    (median(proved), median(plain))
+    times.into_iter().map(median).collect()
 }
 
 /// The nanoseconds of one call, measured over `passes` passes.

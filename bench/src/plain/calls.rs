@@ -2,7 +2,8 @@
 #![allow(clippy::missing_safety_doc, clippy::too_many_arguments)]
 
 use super::refusal::{put_name, Refusal, DESK};
-use super::{desk, dynamic, finder, listing, reply, request, times};
+use super::ways::Ways;
+use super::{desk, dynamic, listing, reply, request, times};
 use crate::abi::*;
 use std::slice::{from_raw_parts, from_raw_parts_mut};
 
@@ -42,7 +43,7 @@ pub unsafe extern "C" fn reset(place: *mut DeskAnswer, seats: *mut Seat, len: us
 }
 
 #[inline(never)]
-pub unsafe extern "C" fn open(
+pub unsafe extern "C" fn open<W: Ways>(
     place: *mut DeskAnswer,
     seats: *mut Seat,
     seats_len: usize,
@@ -57,12 +58,12 @@ pub unsafe extern "C" fn open(
     let seats = from_raw_parts_mut(seats, seats_len);
     let cells = from_raw_parts(cells, cells_len);
     let marks = from_raw_parts(marks, marks_len);
-    let done = desk::open(seats, state, cells, marks, from_raw_parts(frame, frame_len));
+    let done = desk::open::<W>(seats, state, cells, marks, from_raw_parts(frame, frame_len));
     store(place, desk_answer(state, done))
 }
 
 #[inline(never)]
-pub unsafe extern "C" fn reply(
+pub unsafe extern "C" fn reply<W: Ways>(
     place: *mut DeskAnswer,
     seats: *mut Seat,
     seats_len: usize,
@@ -77,12 +78,12 @@ pub unsafe extern "C" fn reply(
     let seats = from_raw_parts_mut(seats, seats_len);
     let cells = from_raw_parts_mut(cells, cells_len);
     let marks = from_raw_parts_mut(marks, marks_len);
-    let done = desk::reply(seats, state, cells, marks, from_raw_parts(frame, frame_len));
+    let done = desk::reply::<W>(seats, state, cells, marks, from_raw_parts(frame, frame_len));
     store(place, desk_answer(state, done))
 }
 
 #[inline(never)]
-pub unsafe extern "C" fn capture(
+pub unsafe extern "C" fn capture<W: Ways>(
     place: *mut CapturedAnswer,
     seats: *mut Seat,
     seats_len: usize,
@@ -97,7 +98,7 @@ pub unsafe extern "C" fn capture(
     let seats = from_raw_parts_mut(seats, seats_len);
     let cells = from_raw_parts_mut(cells, cells_len);
     let marks = from_raw_parts_mut(marks, marks_len);
-    let answer = match desk::capture(seats, state, cells, marks, from_raw_parts(bytes, bytes_len)) {
+    let answer = match desk::capture::<W>(seats, state, cells, marks, from_raw_parts(bytes, bytes_len)) {
         Ok((desk, counts)) => CapturedAnswer { desk, refusal: 0, counts },
         Err(refusal) => CapturedAnswer { desk: state, refusal: refusal.number, counts: Counts::default() },
     };
@@ -146,8 +147,12 @@ pub unsafe extern "C" fn write_request(record: StaticRequest, out: *mut u8, len:
 }
 
 #[inline(never)]
-pub unsafe extern "C" fn read_reply(place: *mut ReplyAnswer, frame: *const u8, len: usize) -> *mut ReplyAnswer {
-    let answer = match reply::read(from_raw_parts(frame, len)) {
+pub unsafe extern "C" fn read_reply<W: Ways>(
+    place: *mut ReplyAnswer,
+    frame: *const u8,
+    len: usize,
+) -> *mut ReplyAnswer {
+    let answer = match W::read_reply(from_raw_parts(frame, len)) {
         Ok(reply) => ReplyAnswer { refusal: 0, offset: 0, spoiled: 0, reply },
         Err(Refusal { number, offset, spoiled }) => {
             ReplyAnswer { refusal: number, offset, spoiled, reply: ReplyRecord::default() }
@@ -162,8 +167,12 @@ pub unsafe extern "C" fn write_reply(record: ReplyRecord, out: *mut u8, len: usi
 }
 
 #[inline(never)]
-pub unsafe extern "C" fn read_dynamic(place: *mut DynamicAnswer, frame: *const u8, len: usize) -> *mut DynamicAnswer {
-    let answer = match dynamic::read(from_raw_parts(frame, len)) {
+pub unsafe extern "C" fn read_dynamic<W: Ways>(
+    place: *mut DynamicAnswer,
+    frame: *const u8,
+    len: usize,
+) -> *mut DynamicAnswer {
+    let answer = match W::read_dynamic(from_raw_parts(frame, len)) {
         Ok(request) => DynamicAnswer { refusal: 0, offset: 0, spoiled: 0, request },
         Err(Refusal { number, offset, spoiled }) => {
             DynamicAnswer { refusal: number, offset, spoiled, request: DynamicRequest::default() }
@@ -178,18 +187,18 @@ pub unsafe extern "C" fn write_dynamic(record: DynamicRequest, out: *mut u8, len
 }
 
 #[inline(never)]
-pub unsafe extern "C" fn next_frame(
+pub unsafe extern "C" fn next_frame<W: Ways>(
     place: *mut FrameAnswer,
     capture: *const u8,
     len: usize,
     at: usize,
 ) -> *mut FrameAnswer {
-    let found = finder::next_frame(from_raw_parts(capture, len), at);
+    let found = W::next_frame(from_raw_parts(capture, len), at);
     store(place, found.unwrap_or(FrameAnswer { next: len, ..FrameAnswer::default() }))
 }
 
 #[inline(never)]
-pub unsafe extern "C" fn list(
+pub unsafe extern "C" fn list<W: Ways>(
     bytes: *const u8,
     bytes_len: usize,
     cells: *mut u8,
@@ -202,7 +211,7 @@ pub unsafe extern "C" fn list(
     let capture = from_raw_parts(bytes, bytes_len);
     let cells = from_raw_parts_mut(cells, cells_len);
     let marks = from_raw_parts_mut(marks, marks_len);
-    match listing::list(capture, cells, marks, from_raw_parts_mut(out, out_len)) {
+    match listing::list::<W>(capture, cells, marks, from_raw_parts_mut(out, out_len)) {
         Ok(size) => ListedAnswer { refusal: 0, size },
         Err(refusal) => ListedAnswer { refusal: refusal.number, size: 0 },
     }

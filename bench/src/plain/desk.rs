@@ -1,9 +1,10 @@
 //! The desk: opens requests and sorts replies to them.
 
-use super::finder::{next_frame, WHOLE};
+use super::finder::WHOLE;
 use super::refusal::{Refusal, DESK, ENDED, FULL, IN_USE, NO_ANSWER_DUE, NO_SEAT, OUT_OF_PLACE, STRAY};
 use super::test::is_desk;
-use super::{dynamic, reply, request};
+use super::ways::{Keys, Ways};
+use super::{reply, request};
 use crate::abi::{Counts, Desk, ReplyHead, Seat, CELLS, CELL_SIZE, SEATS};
 
 /// The key by which a reply finds its seat.
@@ -19,9 +20,18 @@ pub fn key_of(seat: &Seat) -> Key {
     Key { address: seat.address, requester: seat.requester, number: seat.number }
 }
 
-#[inline]
-pub fn key_in(head: &ReplyHead) -> Key {
-    Key { address: head.address.into(), requester: head.requester.into(), number: head.number }
+/// What the desk needs of a reply.
+pub struct Label {
+    pub status: u8,
+    pub key: Key,
+}
+
+impl Label {
+    #[inline(always)]
+    pub fn of(head: &ReplyHead) -> Self {
+        let key = Key { address: head.address.into(), requester: head.requester.into(), number: head.number };
+        Label { status: head.status, key }
+    }
 }
 
 #[inline]
@@ -37,39 +47,42 @@ pub fn capacity(cells: usize, marks: usize) -> usize {
 /// The state after a call, and the place of the seat.
 type Done = Result<(Desk, usize), Refusal>;
 
-pub fn open(seats: &mut [Seat], desk: Desk, cells: &[u8], marks: &[u32], frame: &[u8]) -> Done {
-    let row = row_of_desk(seats, desk, cells, marks)?;
-    open_on_desk(row, desk, frame)
+pub fn open<W: Ways>(seats: &mut [Seat], desk: Desk, cells: &[u8], marks: &[u32], frame: &[u8]) -> Done {
+    let mut keys = W::Keys::default();
+    let row = row_of_desk::<W>(seats, &mut keys, desk, cells, marks)?;
+    open_on_desk(row, &mut keys, desk, frame)
 }
 
-pub fn reply(seats: &mut [Seat], desk: Desk, cells: &mut [u8], marks: &mut [u32], frame: &[u8]) -> Done {
-    let row = row_of_desk(seats, desk, cells, marks)?;
-    reply_on_desk(row, desk, cells, marks, frame)
+pub fn reply<W: Ways>(seats: &mut [Seat], desk: Desk, cells: &mut [u8], marks: &mut [u32], frame: &[u8]) -> Done {
+    let mut keys = W::Keys::default();
+    let row = row_of_desk::<W>(seats, &mut keys, desk, cells, marks)?;
+    reply_on_desk::<W>(row, &keys, desk, cells, marks, frame)
 }
 
-/// The row, if state and memory make a desk.
+/// The row, if state and memory make a desk. Its keys are taken too.
 #[inline]
-fn row_of_desk<'a>(
+fn row_of_desk<'a, W: Ways>(
     seats: &'a mut [Seat],
+    keys: &mut W::Keys,
     desk: Desk,
     cells: &[u8],
     marks: &[u32],
 ) -> Result<&'a mut [Seat; SEATS], Refusal> {
     let row: &mut [Seat; SEATS] = seats.try_into().map_err(|_| DESK)?;
-    if is_desk(row, desk, cells, marks) {
+    if is_desk::<W>(row, keys, desk, cells, marks) {
         Ok(row)
     } else {
         Err(DESK)
     }
 }
 
-fn open_on_desk(seats: &mut [Seat; SEATS], desk: Desk, frame: &[u8]) -> Done {
+fn open_on_desk(seats: &mut [Seat; SEATS], keys: &mut impl Keys, desk: Desk, frame: &[u8]) -> Done {
     let request = request::read(frame)?;
     if request.information == b'q' {
         return Err(NO_ANSWER_DUE);
     }
     let key = Key { address: request.address.into(), requester: request.requester.into(), number: request.number };
-    if seat_with(seats, desk.bits, key).is_some() {
+    if keys.find(seats, desk.bits, key).is_some() {
         return Err(IN_USE);
     }
     let seat = desk.bits.trailing_ones() as usize;
@@ -77,18 +90,25 @@ fn open_on_desk(seats: &mut [Seat; SEATS], desk: Desk, frame: &[u8]) -> Done {
         return Err(NO_SEAT);
     }
     seats[seat] = Seat { address: key.address, requester: key.requester, number: key.number, held: 0, ended: 0 };
+    keys.put(seat, key);
     Ok((Desk { bits: desk.bits | 1 << seat, ..desk }, seat))
 }
 
-fn reply_on_desk(seats: &mut [Seat; SEATS], desk: Desk, cells: &mut [u8], marks: &mut [u32], frame: &[u8]) -> Done {
-    let head = reply::read(frame)?.head;
-    let key = key_in(&head);
-    let place = seat_with(seats, desk.bits, key).ok_or(STRAY)?;
+fn reply_on_desk<W: Ways>(
+    seats: &mut [Seat; SEATS],
+    keys: &W::Keys,
+    desk: Desk,
+    cells: &mut [u8],
+    marks: &mut [u32],
+    frame: &[u8],
+) -> Done {
+    let Label { status, key } = W::label(frame)?;
+    let place = keys.find(seats, desk.bits, key).ok_or(STRAY)?;
     let seat = &mut seats[place];
     if seat.ended != 0 {
         return Err(ENDED);
     }
-    if head.status == b'Z' && seat.held != 0 {
+    if status == b'Z' && seat.held != 0 {
         return Err(OUT_OF_PLACE);
     }
     let cell = desk.count as usize;
@@ -98,29 +118,26 @@ fn reply_on_desk(seats: &mut [Seat; SEATS], desk: Desk, cells: &mut [u8], marks:
     cells[cell * CELL_SIZE..][..CELL_SIZE].copy_from_slice(frame);
     marks[cell] = place as u32;
     seat.held += 1;
-    seat.ended = u32::from(head.status != b'R');
+    seat.ended = u32::from(status != b'R');
     Ok((Desk { count: desk.count + 1, ..desk }, place))
 }
 
-#[inline]
-fn seat_with(seats: &[Seat; SEATS], bits: u64, key: Key) -> Option<usize> {
-    (0..SEATS).find(|&place| is_used(bits, place) && key_of(&seats[place]) == key)
-}
-
 /// Processes all frames of a capture, with one test of the desk.
-pub fn capture(
+pub fn capture<W: Ways>(
     seats: &mut [Seat],
     desk: Desk,
     cells: &mut [u8],
     marks: &mut [u32],
     bytes: &[u8],
 ) -> Result<(Desk, Counts), Refusal> {
-    let row = row_of_desk(seats, desk, cells, marks)?;
-    Ok(capture_on_desk(row, desk, cells, marks, bytes))
+    let mut keys = W::Keys::default();
+    let row = row_of_desk::<W>(seats, &mut keys, desk, cells, marks)?;
+    Ok(capture_on_desk::<W>(row, &mut keys, desk, cells, marks, bytes))
 }
 
-pub fn capture_on_desk(
+pub fn capture_on_desk<W: Ways>(
     seats: &mut [Seat; SEATS],
+    keys: &mut W::Keys,
     mut desk: Desk,
     cells: &mut [u8],
     marks: &mut [u32],
@@ -128,14 +145,14 @@ pub fn capture_on_desk(
 ) -> (Desk, Counts) {
     let mut counts = Counts::default();
     let mut at = 0;
-    while let Some(found) = next_frame(bytes, at) {
+    while let Some(found) = W::next_frame(bytes, at) {
         at = found.next;
         let frame = &bytes[found.start..found.end];
         let (done, count) = match frame[0] {
             _ if found.kind != WHOLE => (None, &mut counts.refused),
-            request::LEAD => (open_on_desk(seats, desk, frame).ok(), &mut counts.opened),
-            reply::LEAD => (reply_on_desk(seats, desk, cells, marks, frame).ok(), &mut counts.collected),
-            _ => (dynamic::read(frame).ok().map(|_| (desk, 0)), &mut counts.dynamic),
+            request::LEAD => (open_on_desk(seats, keys, desk, frame).ok(), &mut counts.opened),
+            reply::LEAD => (reply_on_desk::<W>(seats, keys, desk, cells, marks, frame).ok(), &mut counts.collected),
+            _ => (W::read_dynamic(frame).ok().map(|_| (desk, 0)), &mut counts.dynamic),
         };
         match done {
             Some((after, _)) => {

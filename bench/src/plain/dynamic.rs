@@ -1,32 +1,67 @@
 //! The dynamic request.
 
-use super::fields::{byte_at, clock_at, framed, is_address, is_output, is_requester, number_at, put_number, CR};
-use super::refusal::{part, Refusal, ROOM};
+use super::fields::{
+    byte_at, clock_at, framed, is_address, is_output, is_requester, number_at, put_number, Digits, OneByOne, CR,
+};
+use super::refusal::{part, Refusal, KIND, ROOM};
 use super::times::{is_clock, put_clock};
 use crate::abi::DynamicRequest;
 
 pub const LEAD: u8 = 0x13;
-const SIZE: usize = 46;
+pub const SIZE: usize = 46;
 
 #[inline(always)]
 pub fn read(bytes: &[u8]) -> Result<DynamicRequest, Refusal> {
-    let frame = framed::<SIZE>(bytes, LEAD)?;
+    read_by::<OneByOne>(bytes)
+}
+
+/// A way to read the digits of a dynamic request.
+pub trait DynamicDigits: Digits {
+    /// Can the numbers be read in this way?
+    #[inline(always)]
+    fn can_read(_: &[u8; SIZE]) -> bool {
+        true
+    }
+}
+
+impl DynamicDigits for OneByOne {}
+
+#[inline(always)]
+pub fn read_by<D: DynamicDigits>(bytes: &[u8]) -> Result<DynamicRequest, Refusal> {
+    let frame = framed(bytes, LEAD)?;
+    if D::can_read(frame) {
+        read_fields::<D>(frame)
+    } else {
+        Err(refusal_of(frame))
+    }
+}
+
+/// The refusal of a frame in which a byte is not a digit.
+#[cold]
+#[inline(never)]
+fn refusal_of(frame: &[u8; SIZE]) -> Refusal {
+    read_fields::<OneByOne>(frame).err().unwrap_or(KIND)
+}
+
+/// Reads the fields after the address.
+#[inline(always)]
+fn read_fields<D: Digits>(frame: &[u8; SIZE]) -> Result<DynamicRequest, Refusal> {
     let requester = byte_at(frame, 3, is_requester)?;
     let order = byte_at(frame, 4, is_order)?;
     Ok(DynamicRequest {
         address: frame[2],
         requester,
         order,
-        bib: number_at(frame, 5, b"69999", is_bib)?,
-        channel: number_at(frame, 10, b"299", is_channel)?,
-        run: number_at(frame, 13, b"299", is_run)?,
-        stop_bib: number_at(frame, 16, b"69999", is_stop_bib)?,
-        stop_channel: number_at(frame, 21, b"299", is_channel)?,
-        stop_run: number_at(frame, 24, b"299", is_run)?,
-        sign: number_at(frame, 27, b"1", |sign| sign <= 1)?,
-        time: clock_at(frame, 28)?,
-        days: number_at(frame, 38, b"9", |_| true)?,
-        period: number_at(frame, 39, b"99999", |period| is_period(period, order))?,
+        bib: number_at::<D, _>(frame, 5, b"69999", is_bib)?,
+        channel: number_at::<D, _>(frame, 10, b"299", is_channel)?,
+        run: number_at::<D, _>(frame, 13, b"299", is_run)?,
+        stop_bib: number_at::<D, _>(frame, 16, b"69999", is_stop_bib)?,
+        stop_channel: number_at::<D, _>(frame, 21, b"299", is_channel)?,
+        stop_run: number_at::<D, _>(frame, 24, b"299", is_run)?,
+        sign: number_at::<D, _>(frame, 27, b"1", |sign| sign <= 1)?,
+        time: clock_at::<D>(frame, 28)?,
+        days: number_at::<D, _>(frame, 38, b"9", |_| true)?,
+        period: number_at::<D, _>(frame, 39, b"99999", |period| is_period(period, order))?,
         output: byte_at(frame, 44, is_output)?,
     })
 }

@@ -23,18 +23,28 @@ pub fn framed<const SIZE: usize>(bytes: &[u8], lead: u8) -> Result<&[u8; SIZE], 
     Ok(frame)
 }
 
-/// The number that these digits are; none if one is not a digit.
-#[inline(always)]
-pub fn number(digits: &[u8]) -> Option<u32> {
-    let mut value = 0;
-    for &byte in digits {
-        let digit = byte.wrapping_sub(b'0');
-        if digit > 9 {
-            return None;
+/// A way to read digits.
+pub trait Digits {
+    /// The number that these digits are; none if one is not a digit.
+    fn number(digits: &[u8]) -> Option<u32>;
+}
+
+/// Tests each digit while it is read.
+pub struct OneByOne;
+
+impl Digits for OneByOne {
+    #[inline(always)]
+    fn number(digits: &[u8]) -> Option<u32> {
+        let mut value = 0;
+        for &byte in digits {
+            let digit = byte.wrapping_sub(b'0');
+            if digit > 9 {
+                return None;
+            }
+            value = value * 10 + u32::from(digit);
         }
-        value = value * 10 + u32::from(digit);
+        Some(value)
     }
-    Some(value)
 }
 
 /// FIELD for a field in which each byte can be one from `least` to `most` at its place. The spoiled byte is the first one
@@ -49,13 +59,13 @@ pub fn outside(frame: &[u8], at: usize, least: &[u8], most: &[u8]) -> Refusal {
 
 /// The number in a field, if `good` accepts it. `most` has the greatest digit that can be at each place.
 #[inline(always)]
-pub fn number_at<const WIDTH: usize>(
+pub fn number_at<D: Digits, const WIDTH: usize>(
     frame: &[u8],
     at: usize,
     most: &[u8; WIDTH],
     good: impl FnOnce(u32) -> bool,
 ) -> Result<u32, Refusal> {
-    let value = number(&frame[at..at + WIDTH]).filter(|&value| good(value));
+    let value = D::number(&frame[at..at + WIDTH]).filter(|&value| good(value));
     value.ok_or_else(|| outside(frame, at, &[b'0'; WIDTH], most))
 }
 
@@ -71,8 +81,8 @@ pub fn byte_at(frame: &[u8], at: usize, good: impl FnOnce(u8) -> bool) -> Result
 
 /// The time of day in a field of ten digits, in ticks.
 #[inline(always)]
-pub fn clock_at(frame: &[u8], at: usize) -> Result<u32, Refusal> {
-    times::clock(&frame[at..at + 10]).ok_or_else(|| outside(frame, at, b"0000000000", b"2959599999"))
+pub fn clock_at<D: Digits>(frame: &[u8], at: usize) -> Result<u32, Refusal> {
+    times::clock::<D>(&frame[at..at + 10]).ok_or_else(|| outside(frame, at, b"0000000000", b"2959599999"))
 }
 
 /// The bytes of a raw field.

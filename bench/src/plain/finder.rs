@@ -29,6 +29,6 @@ fn end_of_frame(capture: &[u8], start: usize) -> (u32, usize) {
     (CUT, capture.len())
 }
 
-fn is_lead(byte: u8) -> bool {
+pub fn is_lead(byte: u8) -> bool {
     matches!(byte, request::LEAD | reply::LEAD | dynamic::LEAD)
 }

@@ -2,6 +2,7 @@
 
 use super::desk::{capacity, capture_on_desk};
 use super::refusal::{Refusal, ROOM};
+use super::ways::Ways;
 use crate::abi::{Counts, Desk, Seat, CELLS, CELL_SIZE, SEATS};
 use std::ops::Range;
 
@@ -62,7 +63,7 @@ fn width_of(value: usize) -> usize {
 
 /// Writes the list. The frames are first kept in local memory. They are copied to the lent cells and marks only if the
 /// output has room for the list.
-pub fn list(capture: &[u8], cells: &mut [u8], marks: &mut [u32], out: &mut [u8]) -> Result<usize, Refusal> {
+pub fn list<W: Ways>(capture: &[u8], cells: &mut [u8], marks: &mut [u32], out: &mut [u8]) -> Result<usize, Refusal> {
     if capture.len() > MOST_INPUT {
         out.get_mut(..TOO_LONG.len()).ok_or(ROOM)?.copy_from_slice(TOO_LONG);
         return Ok(TOO_LONG.len());
@@ -71,7 +72,9 @@ pub fn list(capture: &[u8], cells: &mut [u8], marks: &mut [u32], out: &mut [u8])
     let mut own_cells = [0; CELLS * CELL_SIZE];
     let mut own_marks = [0; CELLS];
     let mut seats = [Seat::default(); SEATS];
-    let (desk, counts) = capture_on_desk(&mut seats, Desk::default(), &mut own_cells, &mut own_marks[..room], capture);
+    let mut keys = W::Keys::default();
+    let (desk, counts) =
+        capture_on_desk::<W>(&mut seats, &mut keys, Desk::default(), &mut own_cells, &mut own_marks[..room], capture);
     let count = desk.count as usize;
     let (own_cells, own_marks) = (&own_cells[..count * CELL_SIZE], &own_marks[..count]);
     let size = size_of_list(own_marks, &counts);

@@ -1,14 +1,16 @@
 //! The same calls in plain Rust, as one would write them by hand from docs/RULES.md and include/rei2.h, and tuned by
-//! measurements. The readers and the functions that they call are always inlined, which saves a third of their time.
+//! measurements. The readers and the functions that they call are always inlined, which saves a third of their time. What
+//! `tuned` does in other ways is generic here.
 
 pub mod calls;
 pub mod desk;
 pub mod dynamic;
-mod fields;
-mod finder;
+pub mod fields;
+pub mod finder;
 mod listing;
-mod refusal;
+pub mod refusal;
 pub mod reply;
 pub mod request;
-mod test;
-mod times;
+pub mod test;
+pub mod times;
+pub mod ways;

@@ -1,34 +1,78 @@
 //! The static reply.
 
 use super::fields::{
-    all_raw, byte_at, clock_at, framed, is_address, is_raw, is_requester, number, number_at, outside, put_number,
-    raw_at, CR,
+    all_raw, byte_at, clock_at, framed, is_address, is_raw, is_requester, number_at, outside, put_number, raw_at,
+    Digits, OneByOne, CR,
 };
-use super::refusal::{field, part, Refusal, ROOM};
+use super::refusal::{field, part, Refusal, KIND, ROOM};
 use super::times::{is_clock, is_day, net_parts, net_value, put_clock};
 use crate::abi::{ReplyHead, ReplyRecord, TimingNumbers, CLOCK, NET, RAW};
 
 pub const LEAD: u8 = 0x12;
-const SIZE: usize = 51;
+pub const SIZE: usize = 51;
 
 /// Reads a frame. It is inlined, so that a caller that needs one part of the record pays only for that part.
 #[inline(always)]
 pub fn read(bytes: &[u8]) -> Result<ReplyRecord, Refusal> {
-    let frame = framed::<SIZE>(bytes, LEAD)?;
+    read_by::<OneByOne>(bytes)
+}
+
+/// A way to read the digits of a reply.
+pub trait ReplyDigits: Digits {
+    /// Can the numbers before the information be read in this way?
+    #[inline(always)]
+    fn can_read_head(_: &[u8; SIZE]) -> bool {
+        true
+    }
+
+    /// The same for a time and a day.
+    #[inline(always)]
+    fn can_read_clock(_: &[u8; SIZE]) -> bool {
+        true
+    }
+
+    /// The same for a net time.
+    #[inline(always)]
+    fn can_read_net(_: &[u8; SIZE]) -> bool {
+        true
+    }
+}
+
+impl ReplyDigits for OneByOne {}
+
+#[inline(always)]
+pub fn read_by<D: ReplyDigits>(bytes: &[u8]) -> Result<ReplyRecord, Refusal> {
+    let frame = framed(bytes, LEAD)?;
+    if D::can_read_head(frame) {
+        read_fields::<D>(frame)
+    } else {
+        Err(refusal_of(frame))
+    }
+}
+
+/// The refusal of a frame in which a byte is not a digit.
+#[cold]
+#[inline(never)]
+fn refusal_of(frame: &[u8; SIZE]) -> Refusal {
+    read_fields::<OneByOne>(frame).err().unwrap_or(KIND)
+}
+
+#[inline(always)]
+fn read_fields<D: ReplyDigits>(frame: &[u8; SIZE]) -> Result<ReplyRecord, Refusal> {
     let program = byte_at(frame, 3, is_raw)?;
     let mode = byte_at(frame, 4, is_raw)?;
     let status = byte_at(frame, 5, is_status)?;
     let requester = byte_at(frame, 6, is_requester)?;
-    let number = number_at(frame, 7, b"99999", |_| true)?;
-    let bib = number_at(frame, 12, b"59999", is_bib)?;
-    let group = number_at(frame, 17, b"199", is_group)?;
-    let run = number_at(frame, 20, b"299", |run| is_run(run, status))?;
-    let physical = number_at(frame, 23, b"999", |_| true)?;
-    let channel = number_at(frame, 26, b"299", is_channel)?;
+    let number = number_at::<D, _>(frame, 7, b"99999", |_| true)?;
+    let bib = number_at::<D, _>(frame, 12, b"59999", is_bib)?;
+    let group = number_at::<D, _>(frame, 17, b"199", is_group)?;
+    let run = number_at::<D, _>(frame, 20, b"299", |run| is_run(run, status))?;
+    let physical = number_at::<D, _>(frame, 23, b"999", |_| true)?;
+    let channel = number_at::<D, _>(frame, 26, b"299", is_channel)?;
     let information = byte_at(frame, 29, is_information)?;
     let (timing, raw_time, raw_date) = match kind_of(status, information) {
-        CLOCK => (read_clock(frame)?, [0; 10], [0; 8]),
-        NET => (read_net(frame)?, [0; 10], [0; 8]),
+        CLOCK => (read_clock::<D>(frame)?, [0; 10], [0; 8]),
+        NET => (read_net::<D>(frame)?, [0; 10], [0; 8]),
         _ => (TimingNumbers { kind: RAW, ..TimingNumbers::default() }, raw_at(frame, 30)?, raw_at(frame, 40)?),
     };
     let spare = raw_at(frame, 48)?;
@@ -51,12 +95,21 @@ pub fn read(bytes: &[u8]) -> Result<ReplyRecord, Refusal> {
 }
 
 #[inline(always)]
-fn read_clock(frame: &[u8; SIZE]) -> Result<TimingNumbers, Refusal> {
-    let ticks = clock_at(frame, 30)?;
+fn read_clock<D: ReplyDigits>(frame: &[u8; SIZE]) -> Result<TimingNumbers, Refusal> {
+    if D::can_read_clock(frame) {
+        clock_fields::<D>(frame)
+    } else {
+        Err(refusal_of(frame))
+    }
+}
+
+#[inline(always)]
+fn clock_fields<D: Digits>(frame: &[u8; SIZE]) -> Result<TimingNumbers, Refusal> {
+    let ticks = clock_at::<D>(frame, 30)?;
     let wrong = || outside(frame, 40, b"00002000", b"39192099");
-    let day = number(&frame[40..42]).ok_or_else(wrong)?;
-    let month = number(&frame[42..44]).ok_or_else(wrong)?;
-    let year = number(&frame[44..48]).ok_or_else(wrong)?;
+    let day = D::number(&frame[40..42]).ok_or_else(wrong)?;
+    let month = D::number(&frame[42..44]).ok_or_else(wrong)?;
+    let year = D::number(&frame[44..48]).ok_or_else(wrong)?;
     if !is_day(day, month, year) {
         return Err(wrong());
     }
@@ -64,15 +117,24 @@ fn read_clock(frame: &[u8; SIZE]) -> Result<TimingNumbers, Refusal> {
 }
 
 #[inline(always)]
-fn read_net(frame: &[u8; SIZE]) -> Result<TimingNumbers, Refusal> {
-    let time = clock_at(frame, 30)?;
+fn read_net<D: ReplyDigits>(frame: &[u8; SIZE]) -> Result<TimingNumbers, Refusal> {
+    if D::can_read_net(frame) {
+        net_fields::<D>(frame)
+    } else {
+        Err(refusal_of(frame))
+    }
+}
+
+#[inline(always)]
+fn net_fields<D: Digits>(frame: &[u8; SIZE]) -> Result<TimingNumbers, Refusal> {
+    let time = clock_at::<D>(frame, 30)?;
     let minus = match frame[40] {
         b'+' => false,
         b'-' => true,
         _ => return Err(field(40, 40)),
     };
     let wrong = || outside(frame, 40, b"+0000000", b"-9999999");
-    let days = number(&frame[41..48]).ok_or_else(wrong)?;
+    let days = D::number(&frame[41..48]).ok_or_else(wrong)?;
     let net = net_value(minus, days, time).ok_or_else(wrong)?;
     Ok(TimingNumbers { kind: NET, net, ..TimingNumbers::default() })
 }
@@ -172,28 +234,28 @@ fn kind_of(status: u8, information: u8) -> u32 {
     }
 }
 
-fn is_status(code: u8) -> bool {
+pub fn is_status(code: u8) -> bool {
     matches!(code, b'R' | b'E' | b'Z')
 }
 
-fn is_bib(value: u32) -> bool {
+pub fn is_bib(value: u32) -> bool {
     value <= 59_999
 }
 
-fn is_group(value: u32) -> bool {
+pub fn is_group(value: u32) -> bool {
     value <= 199
 }
 
-fn is_run(value: u32, status: u8) -> bool {
+pub fn is_run(value: u32, status: u8) -> bool {
     value <= 250 && (value != 0 || status == b'Z')
 }
 
-fn is_channel(value: u32) -> bool {
+pub fn is_channel(value: u32) -> bool {
     matches!(value, 0..=240 | 245 | 248 | 249 | 250 | 255)
 }
 
 #[rustfmt::skip]
-fn is_information(code: u8) -> bool {
+pub fn is_information(code: u8) -> bool {
     matches!(
         code,
         b'0'..=b'9' | b'A' | b'Q' | b'P' | b'a' | b'S' | b's' | b'T' | b'K' | b'R' | b'G' | b'H' | b'h' | b'I' | b'i' | b'J'

@@ -1,6 +1,6 @@
 //! The static request.
 
-use super::fields::{byte_at, framed, is_address, is_output, is_requester, number_at, put_number, CR};
+use super::fields::{byte_at, framed, is_address, is_output, is_requester, number_at, put_number, OneByOne, CR};
 use super::refusal::{part, Refusal, ROOM};
 use crate::abi::StaticRequest;
 
@@ -13,12 +13,12 @@ pub fn read(bytes: &[u8]) -> Result<StaticRequest, Refusal> {
     Ok(StaticRequest {
         address: frame[2],
         requester: byte_at(frame, 3, is_requester)?,
-        number: number_at(frame, 4, b"999", |_| true)?,
-        bib: number_at(frame, 7, b"59999", is_bib)?,
+        number: number_at::<OneByOne, _>(frame, 4, b"999", |_| true)?,
+        bib: number_at::<OneByOne, _>(frame, 7, b"59999", is_bib)?,
         information: byte_at(frame, 12, is_information)?,
-        channel: number_at(frame, 13, b"299", is_channel)?,
-        run: number_at(frame, 16, b"299", is_run)?,
-        group: number_at(frame, 19, b"199", is_group)?,
+        channel: number_at::<OneByOne, _>(frame, 13, b"299", is_channel)?,
+        run: number_at::<OneByOne, _>(frame, 16, b"299", is_run)?,
+        group: number_at::<OneByOne, _>(frame, 19, b"199", is_group)?,
         output: byte_at(frame, 22, is_output)?,
     })
 }

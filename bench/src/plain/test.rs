@@ -1,9 +1,9 @@
 //! The desk test: its eleven clauses, with one pass over the held cells.
 
-use super::desk::{capacity, is_used, key_in, key_of, Key};
+use super::desk::{capacity, is_used, key_of, Key, Label};
 use super::fields::{is_address, is_requester};
-use super::reply;
-use crate::abi::{Desk, ReplyRecord, Seat, CELL_SIZE, SEATS};
+use super::ways::{Keys, Ways};
+use crate::abi::{Desk, Seat, CELL_SIZE, SEATS};
 
 /// What the cells that were read so far say about one seat.
 #[derive(Clone, Copy, Default)]
@@ -12,23 +12,25 @@ struct View {
     ended: bool,
 }
 
-/// Tests clauses 2 to 11. Clause 1 holds by the type of the row.
-pub fn is_desk(seats: &[Seat; SEATS], desk: Desk, cells: &[u8], marks: &[u32]) -> bool {
+/// Tests clauses 2 to 11, and takes the keys. Clause 1 holds by the type of the row.
+pub fn is_desk<W: Ways>(seats: &[Seat; SEATS], keys: &mut W::Keys, desk: Desk, cells: &[u8], marks: &[u32]) -> bool {
     desk.bits >> SEATS == 0
-        && seats_are_good(seats, desk.bits)
-        && keys_differ(seats, desk.bits)
+        && keys.take(seats, desk.bits)
         && desk.count as usize <= capacity(cells.len(), marks.len())
-        && cells_are_good(seats, desk, cells, marks)
+        && cells_are_good::<W>(seats, keys, desk, cells, marks)
 }
 
-fn seats_are_good(seats: &[Seat; SEATS], bits: u64) -> bool {
-    seats.iter().enumerate().all(|(place, seat)| {
-        if is_used(bits, place) {
-            is_request_key(key_of(seat))
-        } else {
-            *seat == Seat::default()
-        }
-    })
+pub fn seats_are_good(seats: &[Seat; SEATS], bits: u64) -> bool {
+    seats.iter().enumerate().all(|(place, seat)| seat_is_good(seat, is_used(bits, place)))
+}
+
+#[inline(always)]
+pub fn seat_is_good(seat: &Seat, used: bool) -> bool {
+    if used {
+        is_request_key(key_of(seat))
+    } else {
+        *seat == Seat::default()
+    }
 }
 
 fn is_request_key(key: Key) -> bool {
@@ -37,14 +39,14 @@ fn is_request_key(key: Key) -> bool {
         && key.number <= 999
 }
 
-fn keys_differ(seats: &[Seat; SEATS], bits: u64) -> bool {
+pub fn keys_differ(seats: &[Seat; SEATS], bits: u64) -> bool {
     (1..SEATS).filter(|&place| is_used(bits, place)).all(|place| {
         let key = key_of(&seats[place]);
         (0..place).all(|other| !is_used(bits, other) || key_of(&seats[other]) != key)
     })
 }
 
-fn cells_are_good(seats: &[Seat; SEATS], desk: Desk, cells: &[u8], marks: &[u32]) -> bool {
+fn cells_are_good<W: Ways>(seats: &[Seat; SEATS], keys: &W::Keys, desk: Desk, cells: &[u8], marks: &[u32]) -> bool {
     let mut views = [View::default(); SEATS];
     let marks = &marks[..desk.count as usize];
     for (&mark, cell) in marks.iter().zip(cells.chunks_exact(CELL_SIZE)) {
@@ -52,14 +54,14 @@ fn cells_are_good(seats: &[Seat; SEATS], desk: Desk, cells: &[u8], marks: &[u32]
         if place >= SEATS || !is_used(desk.bits, place) {
             return false;
         }
-        let Ok(ReplyRecord { head, .. }) = reply::read(cell) else { return false };
+        let Some(Label { status, key }) = W::held_label(cell) else { return false };
         let view = &mut views[place];
-        let in_place = !view.ended && (head.status != b'Z' || view.held == 0);
-        if key_in(&head) != key_of(&seats[place]) || !in_place {
+        let in_place = !view.ended && (status != b'Z' || view.held == 0);
+        if !keys.is_at(seats, place, key) || !in_place {
             return false;
         }
         view.held += 1;
-        view.ended = head.status != b'R';
+        view.ended = status != b'R';
     }
     // For a seat that is not in use, both the seat and its view are all zero.
     views.iter().zip(seats).all(|(view, seat)| view.held == seat.held && u32::from(view.ended) == seat.ended)

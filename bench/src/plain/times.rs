@@ -1,6 +1,6 @@
 //! Times of day, days, net times and running time.
 
-use super::fields::{number, put_number};
+use super::fields::{put_number, Digits};
 use super::refusal::{Refusal, TIME};
 use crate::abi::RunningOf;
 
@@ -13,11 +13,11 @@ pub fn is_clock(ticks: u32) -> bool {
 
 /// The ticks of a time `HHMMSSdddd`.
 #[inline(always)]
-pub fn clock(text: &[u8]) -> Option<u32> {
-    let hours = number(&text[..2])?;
-    let minutes = number(&text[2..4])?;
-    let seconds = number(&text[4..6])?;
-    let ticks = number(&text[6..10])?;
+pub fn clock<D: Digits>(text: &[u8]) -> Option<u32> {
+    let hours = D::number(&text[..2])?;
+    let minutes = D::number(&text[2..4])?;
+    let seconds = D::number(&text[4..6])?;
+    let ticks = D::number(&text[6..10])?;
     let good = hours < 24 && minutes < 60 && seconds < 60;
     good.then_some(((hours * 60 + minutes) * 60 + seconds) * 10_000 + ticks)
 }

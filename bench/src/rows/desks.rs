@@ -1,4 +1,4 @@
-//! Calls on a desk. What a call changed in the seats is put back before the next call. This is done on both sides and is
+//! Calls on a desk. What a call changed in the seats is put back before the next call. This is done on all sides and is
 //! timed too. Free cells and marks are not put back, since they may contain anything.
 
 use super::{About, Calls, Row};

@@ -1,6 +1,6 @@
 -- Laws of tests, and of tests over the numbers below a bound. Assumes nothing.
 use Prim.Native.Nat.{ℕ, zero, suc, _+_, _≤_, _<_}
-use mathlib.Core.Bool.{Bool, true, false, not, _&&_}
+use mathlib.Core.Bool.{Bool, true, false, cond, not, _&&_}
 use mathlib.Core.Path.{_≡_, refl, sym, ap, ap₂, _∙_}
 use native.Mathlib.Omega.{arith}
 use native.Mathlib.Numerals.{add-one}
@@ -87,6 +87,17 @@ all-of (suc n) p h = and-true (all-of n p (λ k l. h k (omega arith))) (h n (ome
 pub all-to : (i n : ℕ) (p : ℕ → Bool) → i ≡ n → allBelow i p ≡ true → allBelow n p ≡ true
 all-to i n p e h = rw e at h
 
+-- one more turn of a loop without an exit
+pub all-next : (n : ℕ) (p : ℕ → Bool) → allBelow (n + 1) p ≡ allBelow n p && p n
+unfolding allBelow
+all-next n p = rw (add-one n)
+
+pub all-on : {x : Bool} (n : ℕ) (p : ℕ → Bool) → x ≡ allBelow n p → x && p n ≡ allBelow (n + 1) p
+all-on n p e = ap (λ (y : Bool). y && p n) e ∙ sym (all-next n p)
+
+pub all-end : {x : Bool} (i n : ℕ) (p : ℕ → Bool) → i ≡ n → x ≡ allBelow i p → x ≡ allBelow n p
+all-end i n p e h = h ∙ ap (λ (k : ℕ). allBelow k p) e
+
 -- two tests at once
 pub all-and : (n : ℕ) (p q : ℕ → Bool) → allBelow n (λ i. p i && q i) ≡ allBelow n p && allBelow n q
 unfolding allBelow
@@ -106,6 +117,20 @@ all-ext zero p q h = refl
 all-ext (suc n) p q h = ap₂ (λ (a b : Bool). a && b) (all-ext n p q (λ k l. h k (omega arith))) (h n (omega arith))
 
 -- ---- how many below
+
+pub count-to : {r : ℕ} (i n : ℕ) (p : ℕ → Bool) → i ≡ n → r ≡ countBelow i p → r ≡ countBelow n p
+count-to i n p e h = h ∙ ap (λ (k : ℕ). countBelow k p) e
+
+count-next : (n : ℕ) (p : ℕ → Bool) → countBelow (n + 1) p ≡ cond (p n) (countBelow n p + 1) (countBelow n p)
+unfolding countBelow
+count-next n p = rw (add-one n, add-one (countBelow n p))
+
+-- one more turn of a loop that counts
+pub count-on : {x d : ℕ} (n : ℕ) (p : ℕ → Bool) → x ≡ countBelow n p → d ≡ cond (p n) 1 0 → (d ≤ 1) × (x + d ≡ countBelow (n + 1) p)
+count-on {x} {d} n p e q =
+    by-test (p n)
+    (λ t. let y : d ≡ 1 = rw t at q in (omega arith, rw (count-next n p, t) (omega arith)))
+    (λ t. let y : d ≡ 0 = rw t at q in (omega arith, rw (count-next n p, t) (omega arith)))
 
 pub count-most : (n : ℕ) (p : ℕ → Bool) → countBelow n p ≤ n
 unfolding countBelow
@@ -132,6 +157,22 @@ count-one (suc n) s p l t u =
     (λ b. rw (false-or (p n) (λ q. let e = u n (omega arith) q in omega arith)) (count-one n s p b t (λ k j q. u k (omega arith) q)))
     (λ e. let y : p n ≡ true = sym (ap p e) ∙ t in
     rw y (ap suc (count-none n p (λ k j. false-or (p k) (λ q. let g = u k (omega arith) q in omega arith)))))
+
+pub count-some : (n s : ℕ) (p : ℕ → Bool) → s < n → p s ≡ true → 1 ≤ countBelow n p
+unfolding countBelow
+count-some zero s p l t = absurd (omega arith)
+count-some (suc n) s p l t =
+    below-case s n l
+    (λ b. let h = count-some n s p b t in by-test (p n) (λ e. rw e (omega arith)) (λ e. rw e h))
+    (λ e. let y : p n ≡ true = sym (ap p e) ∙ t in rw y (omega arith))
+
+pub count-pair : (n j i : ℕ) (p : ℕ → Bool) → j < i → i < n → p j ≡ true → p i ≡ true → 2 ≤ countBelow n p
+unfolding countBelow
+count-pair zero j i p h l s t = absurd (omega arith)
+count-pair (suc n) j i p h l s t =
+    below-case i n l
+    (λ b. let k = count-pair n j i p h b s t in by-test (p n) (λ e. rw e (omega arith)) (λ e. rw e k))
+    (λ e. let y : p n ≡ true = sym (ap p e) ∙ t in let k = count-some n j p (omega arith) s in rw y (omega arith))
 
 -- a test whose result changes from false to true at one place
 pub count-turned : (n s : ℕ) (p q : ℕ → Bool) → s < n → p s ≡ false → q s ≡ true → ((k : ℕ) → (k ≡ s → ⊥) → q k ≡ p k) → countBelow n q ≡ countBelow n p + 1

@@ -4,7 +4,7 @@ use mathlib.Core.List.{List, [], _∷_}
 use mathlib.Core.Bool.{Bool, true, false, cond}
 use mathlib.Core.Path.{_≡_, refl, ap, _∙_}
 use native.Mathlib.Omega.{arith}
-use lib.ListN.{length, getD, set, take, drop}
+use lib.ListN.{length, getD, take, drop}
 use lib.Seq.{slice}
 use lib.Dec.{eqb}
 use borrow.Author.Tests.{eq-eqb, ne-eqb}
@@ -19,35 +19,32 @@ use Rattle.desk.specs.declared.capture.Fate.the-variants.{Opened, Collec
 use Rattle.desk.specs.declared.capture.Counts.{Counts}
 use Rattle.desk.specs.declared.capture.CaptureAnswer.the-variants.{Taken, NoDesk}
 use Rattle.desk.specs.declared.capture.Met.{Met}
-use Rattle.desk.specs.Limits.{seatCount}
-use Rattle.desk.specs.Memory.{Memory, memory}
+use Rattle.desk.specs.Memory.{Memory}
 use Rattle.desk.specs.Desk.{isDesk}
-use Rattle.desk.specs.Calls.{opens, replies, Did}
+use Rattle.desk.specs.Calls.{Outcome, opens, replies, Did}
 use Rattle.desk.specs.Capture.{fateBy, dynamicFate, Step, openLead, replyLead, meets, meetsPiece, fates, afterAll, isOpened, isCollected, isDynamic, isRefused, howMany, countsOf, TookCapture, CountsAddUp}
-use Rattle.desk.specs.inside.Counting.{Meets, oneMore}
+use Rattle.desk.specs.inside.Counting.{Meets, MeetsBy, oneMore}
 use Rattle.digits.proofs.Tests.{by-test}
 use Rattle.desk.proofs.DeskLaws.{stays-desk}
 
 -- ---- one frame, by its lead byte
 
-module _ (m : Memory) (f : List ℕ) (r : Met) (cells marks : List ℕ) where
-  -- the memory after the frame, with the one seat that changed
-  abbrev left : Memory
-  left = memory (r .desk) (set (m .row) (r .at) (r .seat)) cells marks
-
-  pub meets-request : getD f 0 0 ≡ openLead → (told : Told ℕ) → r .fate ≡ fateBy Opened told → r .at < seatCount → Did told left (opens m f) → Meets (m .row) (meets m f) r cells marks
+module _ (m : Memory) (f : List ℕ) (r : Met) (m′ : Memory) where
+  pub meets-request : getD f 0 0 ≡ openLead → MeetsBy Opened (opens m f) r m′ → Meets (meets m f) r m′
   unfolding meets
-  meets-request l told e b d =
-      rw (eq-eqb (getD f 0 0) openLead l) (record { at = b; fate = e ∙ ap (fateBy Opened) (d .answer); after = d .memory })
+  meets-request l w = rw (eq-eqb (getD f 0 0) openLead l) w
 
-  pub meets-reply : (getD f 0 0 ≡ openLead → ⊥) → getD f 0 0 ≡ replyLead → (told : Told ℕ) → r .fate ≡ fateBy Collected told → r .at < seatCount → Did told left (replies m f) → Meets (m .row) (meets m f) r cells marks
+  pub meets-reply : (getD f 0 0 ≡ openLead → ⊥) → getD f 0 0 ≡ replyLead → MeetsBy Collected (replies m f) r m′ → Meets (meets m f) r m′
   unfolding meets
-  meets-reply n l told e b d =
-      rw (ne-eqb (getD f 0 0) openLead n, eq-eqb (getD f 0 0) replyLead l) (record { at = b; fate = e ∙ ap (fateBy Collected) (d .answer); after = d .memory })
+  meets-reply n l w = rw (ne-eqb (getD f 0 0) openLead n, eq-eqb (getD f 0 0) replyLead l) w
 
-  pub meets-other : (getD f 0 0 ≡ openLead → ⊥) → (getD f 0 0 ≡ replyLead → ⊥) → r .fate ≡ dynamicFate (read dynamic f) → r .at < seatCount → left ≡ m → Meets (m .row) (meets m f) r cells marks
+  pub meets-other : (getD f 0 0 ≡ openLead → ⊥) → (getD f 0 0 ≡ replyLead → ⊥) → r .fate ≡ dynamicFate (read dynamic f) → m′ ≡ m → Meets (meets m f) r m′
   unfolding meets
-  meets-other n k e b d = rw (ne-eqb (getD f 0 0) openLead n, ne-eqb (getD f 0 0) replyLead k) (record { at = b; fate = e; after = d })
+  meets-other n k e d = rw (ne-eqb (getD f 0 0) openLead n, ne-eqb (getD f 0 0) replyLead k) (record { fate = e; after = d })
+
+  -- by what the call would have answered
+  pub met-by : (o : Outcome) (good : Fate) (told : Told ℕ) → r .fate ≡ fateBy good told → Did told m′ o → MeetsBy good o r m′
+  met-by o good told e d = record { fate = e ∙ ap (fateBy good) (d .answer); after = d .memory }
 
 -- what holds of each of the three steps holds of the one that the lead byte chooses
 pub by-lead : (P : Step → Type 0) (m : Memory) (f : List ℕ)
@@ -177,7 +174,7 @@ module _ (m₀ : Memory) (s : List ℕ) (at : ℕ) (m : Memory) (c : Counts) (g 
   pub goes-cut : piecesFrom s at ≡ cut a (slice a e s) ∷ piecesFrom s e → c′ ≡ oneMore c Refused → Going m₀ s e m c′
   goes-cut is q = rw q (goes m₀ s at m c g (cut a (slice a e s)) e is less)
 
-  pub goes-whole : piecesFrom s at ≡ whole a (slice a e s) ∷ piecesFrom s e → a < e → (r : Met) (cells marks : List ℕ) → Meets (m .row) (meets m (take (e - a) (drop a s))) r cells marks
-      → c′ ≡ oneMore c (r .fate) → (next : ℕ) → next ≡ e → Going m₀ s next (memory (r .desk) (set (m .row) (r .at) (r .seat)) cells marks) c′
-  goes-whole is l r cells marks w q next k =
+  pub goes-whole : piecesFrom s at ≡ whole a (slice a e s) ∷ piecesFrom s e → a < e → (r : Met) (m′ : Memory) → Meets (meets m (take (e - a) (drop a s))) r m′
+      → c′ ≡ oneMore c (r .fate) → (next : ℕ) → next ≡ e → Going m₀ s next m′ c′
+  goes-whole is l r m′ w q next k =
       rw (k, q, w .fate, w .after, ← part-is s a e l) (goes m₀ s at m c g (whole a (slice a e s)) e is less)

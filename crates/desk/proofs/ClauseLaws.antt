@@ -1,16 +1,19 @@
 -- The code of the desk's test computes the clauses, in its own order and in one pass over the rows. Assumes nothing.
-use Prim.Native.Nat.{ℕ, _+_, _*_, _-_, _<_, _≤_}
-use mathlib.Core.Bool.{Bool, true, false, cond, not, _&&_}
-use mathlib.Core.List.{List}
-use mathlib.Core.Path.{_≡_, refl, sym, ap, _∙_}
+use Prim.Native.Nat.{ℕ, zero, suc, _+_, _*_, _-_, _<_, _≤_}
+use mathlib.Core.Bool.{Bool, true, false, true≢false, cond, not, _&&_}
+use mathlib.Core.List.{List, []}
+use mathlib.Core.Path.{_≡_, refl, sym, ap, subst, _∙_}
 use lib.ListN.{length, getD, take, drop, set, replicate, length-replicate, getD-replicate, length-set}
 use lib.Seq.{getD-set-same, getD-set-other}
 use native.Mathlib.Omega.{arith}
 use borrow.Author.Tests.{eq-eqb, ne-eqb}
-use Rattle.frames.specs.Reply.{checkTold}
-use Rattle.frames.specs.declared.refusals.ReadRefusal.{ReadRefusal}
-use Rattle.frames.specs.declared.reply.ReplyCheck.{ReplyCheck}
-use Rattle.frames.specs.declared.reply.ReplyCheck.the-variants.{Refused as not-heard}
+use lib.Dec.{eqb, ltb}
+use Rattle.digits.specs.Told.{Told, gives, refuses}
+use Rattle.digits.proofs.Tests.{by-test, and-l, and-r}
+use Rattle.frames.specs.declared.reply.StaticReply.{StaticReply}
+use Rattle.frames.specs.declared.reply.ReplyLabel.{ReplyLabel}
+use Rattle.frames.specs.Kind.{read}
+use Rattle.frames.specs.Reply.{reply, isGood, labelled, labelAt}
 use Rattle.desk.specs.declared.state.Seat.{Seat}
 use Rattle.desk.specs.declared.step.Progress.{Progress}
 use Rattle.desk.specs.declared.step.Stepped.{Stepped}
@@ -18,16 +21,19 @@ use Rattle.desk.specs.declared.step.Stepped.the-variants.{Ended, OutOfPl
 use Rattle.desk.specs.declared.clauses.Turn.{Turn}
 use Rattle.desk.specs.Limits.{seatCount, mostCells, cellSize}
 use Rattle.desk.specs.Below.{allBelow}
-use Rattle.desk.specs.Key.{seatKey, isKey}
-use Rattle.desk.specs.Hearing.{heard}
+use Rattle.desk.specs.Key.{keyIn, seatKey, sameKey, isKey}
+use Rattle.desk.specs.Hearing.{heard, hasKey}
 use Rattle.desk.specs.Step.{advanced, step, none, replay, goes}
 use Rattle.desk.specs.Seats.{seatAt, usedBit}
 use Rattle.desk.specs.Memory.{Memory, capacityOf, cellAt, markAt, recordsOf}
-use Rattle.desk.specs.Desk.{isZero, keyLegal, unusedZero, cellKeyed, allSeats, noBitAbove, keysLegal, noKeyShared, unusedAllZero, countFits, isDesk}
-use Rattle.desk.specs.Replay.{replayed, takenAt, agrees, replays}
-use Rattle.desk.specs.inside.Clauses.{seatGood, seatGoodAt, turnOf, agreesAt}
+use Rattle.desk.specs.Desk.{isZero, keyLegal, unusedZero, markNames, markGood, allSeats, noBitAbove, keysLegal, noKeyShared, unusedAllZero, countFits, isDesk}
+use Rattle.desk.specs.Replay.{replayed, takenAt, rowGood, agrees, replays}
+use Rattle.desk.specs.inside.Columns.{Sized, rowOf, sameAt}
+use Rattle.desk.specs.inside.Clauses.{seatGood, seatGoodAt, hasNumber, turnOf, rowTaken, Tracks}
 use Rattle.desk.specs.inside.Judging.{stepTold, isTaken}
-use Rattle.desk.proofs.Below.{past, eq-case, all-and, all-ext}
+use Rattle.desk.proofs.Below.{never, past, out, and-false-r, eq-case, all-at, all-and, all-ext}
+use Rattle.desk.proofs.HearingLaws.{good-heard}
+use Rattle.desk.proofs.ColumnLaws.{seat-at, same-number, unused-held, unused-ended, heard-keyed}
 use Rattle.desk.proofs.ReplayLaws.{replayed-next, desk-run}
 
 -- ---- the clauses in the definition's order, and in the order of the code
@@ -66,6 +72,10 @@ desk-by m n q =
     ∙ sym (turned (allSeats m) (noBitAbove m) (keysLegal m) (noKeyShared m) (unusedAllZero m) (countFits m) (replays (m .row) (m .bits) (m .count) (m .cells) (m .marks)))
     ∙ sym (desk-run m)
 
+-- a row with a seat that is not good is no desk
+pub no-desk : (m : Memory) → length (m .row) ≡ seatCount → allBelow seatCount (seatGoodAt (m .row) (m .bits)) ≡ false → false ≡ isDesk m
+no-desk m n e = desk-by m n (sym (and-false-r (noBitAbove m) (sym (out _ e))))
+
 -- ---- the result of a branch; x is what a call returned, and a is what the call's contract says of it
 
 pub if-yes {ℓ} : {A : Type ℓ} {a x : Bool} {r b : A} (d : A) → x ≡ a → x ≡ true → r ≡ b → r ≡ cond a b d
@@ -86,10 +96,16 @@ taken-goes p free status r e = by r ∙ ap goes e
     by Taken = refl
 
 -- a cell that is no reply is not good
-pub turn-refused : (p after : Progress) (seat : Seat) (g : ReplyCheck) (x : ReadRefusal) → after ≡ advanced p 0 → g ≡ not-heard x
-    → _≡_ {A = Turn} (record { good = false; progress = after }) (turnOf p seat (checkTold g))
-unfolding turnOf
-turn-refused p after seat g x a e = rw (a, e)
+pub turn-refused : (p after : Progress) (key : ℕ) (f : List ℕ) → after ≡ advanced p 0 → isGood (read reply f) ≡ false → _≡_ {A = Turn} (record { good = false; progress = after }) (turnOf p key (heard f))
+unfolding turnOf heard
+turn-refused p after key f a e = rw a (go (read reply f) e)
+  where
+    go : (t : Told StaticReply) → isGood t ≡ false → _≡_ {A = Turn} (record { good = false; progress = advanced p 0 }) (turnOf p key (labelled t))
+    go (gives r) h = absurd (true≢false h)
+    go (refuses why) h = refl
+
+pub turn-taken : (p : Progress) (key : ℕ) (f : List ℕ) {t : Turn} → isGood (read reply f) ≡ true → t ≡ turnOf p key (gives (labelAt f)) → t ≡ turnOf p key (heard f)
+turn-taken p key f g e = e ∙ ap (turnOf p key) (sym (good-heard f g))
 
 -- ---- the loop over the rows
 
@@ -103,41 +119,87 @@ part-cell cells i =
     let e : i * cellSize + cellSize - i * cellSize ≡ cellSize = omega arith in
     ap (λ (n : ℕ). take n (drop (i * cellSize) cells)) e
 
--- after n rows the code has reached what they say
-pub record Tracks (cells marks : List ℕ) (n : ℕ) (reached : List Progress) : Type 0 where
-  pub size : length reached ≡ seatCount
-  pub each : (s : ℕ) → s < seatCount → getD reached s none ≡ replayed cells marks s n
-
-pub tracks-none : (cells marks : List ℕ) → Tracks cells marks 0 (replicate seatCount none)
+-- before the first row no seat holds a record
+tracks-none : (cells marks : List ℕ) → Tracks cells marks 0 (replicate seatCount 0) (replicate seatCount 0)
 unfolding replay recordsOf
-tracks-none cells marks = record { size = length-replicate seatCount none; each = λ s l. getD-replicate seatCount s none none l }
+tracks-none cells marks =
+    record {
+      held-size = length-replicate {A = ℕ} seatCount 0;
+      ended-size = length-replicate {A = ℕ} seatCount 0;
+      each = λ s l. let z = getD-replicate {A = ℕ} seatCount s 0 0 l in λ i. record { held = z i; ended = z i };
+    }
 
-module _ (row : List Seat) (cells marks : List ℕ) (i : ℕ) (reached : List Progress) (k : Tracks cells marks i reached) (l : markAt marks i < seatCount)
-    (t : Turn) (e : t ≡ turnOf (getD reached (markAt marks i) none) (seatAt row (markAt marks i)) (heard (cellAt cells i))) where
-  turn-is : t ≡ turnOf (replayed cells marks (markAt marks i) i) (seatAt row (markAt marks i)) (heard (cellAt cells i))
-  turn-is = e ∙ ap (λ (p : Progress). turnOf p (seatAt row (markAt marks i)) (heard (cellAt cells i))) (k .each (markAt marks i) l)
+pub tracks-start : (cells marks held ended : List ℕ) → held ≡ replicate seatCount 0 → ended ≡ replicate seatCount 0 → Tracks cells marks 0 held ended
+tracks-start cells marks held ended h e = subst (λ (x : List ℕ). Tracks cells marks 0 x ended) (sym h) (subst (λ (x : List ℕ). Tracks cells marks 0 (replicate seatCount 0) x) (sym e) (tracks-none cells marks))
 
-  pub turn-good : t .good ≡ cellKeyed row cells marks i && takenAt cells marks i
+module _ (keys cells marks : List ℕ) (i : ℕ) (held ended : List ℕ) (k : Tracks cells marks i held ended) (l : markAt marks i < seatCount)
+    (t : Turn) (e : t ≡ turnOf (record { held = getD held (markAt marks i) 0; ended = getD ended (markAt marks i) 0 }) (getD keys (markAt marks i) 0) (heard (cellAt cells i))) where
+  turn-is : t ≡ turnOf (replayed cells marks (markAt marks i) i) (getD keys (markAt marks i) 0) (heard (cellAt cells i))
+  turn-is = e ∙ ap (λ (p : Progress). turnOf p (getD keys (markAt marks i) 0) (heard (cellAt cells i))) (k .each (markAt marks i) l)
+
+  pub turn-good : t .good ≡ hasNumber (getD keys (markAt marks i) 0) (heard (cellAt cells i)) && takenAt cells marks i
   unfolding turnOf
   turn-good = ap (λ (x : Turn). x .good) turn-is
 
-  next : (s : ℕ) → s < seatCount → getD (set reached (markAt marks i) (t .progress)) s none ≡ replayed cells marks s (i + 1)
+  next : (s : ℕ) → s < seatCount → _≡_ {A = Progress} (record { held = getD (set held (markAt marks i) (t .progress .held)) s 0; ended = getD (set ended (markAt marks i) (t .progress .ended)) s 0 }) (replayed cells marks s (i + 1))
   unfolding turnOf
   next s h =
-      let z = k .size in
+      let y = k .held-size in
+      let z = k .ended-size in
       eq-case s (markAt marks i)
       (λ q.
-      rw (replayed-next cells marks s i, eq-eqb (markAt marks i) s (sym q), q)
-      (getD-set-same reached (markAt marks i) (t .progress) none (omega arith) ∙ ap (λ (x : Turn). x .progress) turn-is))
+      rw (replayed-next cells marks s i, eq-eqb (markAt marks i) s (sym q), q, getD-set-same held (markAt marks i) (t .progress .held) 0 (omega arith), getD-set-same ended (markAt marks i) (t .progress .ended) 0 (omega arith))
+      (ap (λ (x : Turn). x .progress) turn-is))
       (λ n.
-      rw (replayed-next cells marks s i, ne-eqb (markAt marks i) s (λ q. n (sym q)))
-      (getD-set-other reached (markAt marks i) s (t .progress) none n ∙ k .each s h))
+      rw (replayed-next cells marks s i, ne-eqb (markAt marks i) s (λ q. n (sym q)), getD-set-other held (markAt marks i) s (t .progress .held) 0 n, getD-set-other ended (markAt marks i) s (t .progress .ended) 0 n)
+      (k .each s h))
 
-  pub tracks-next : Tracks cells marks (i + 1) (set reached (markAt marks i) (t .progress))
-  tracks-next = record { size = length-set reached (markAt marks i) (t .progress) ∙ k .size; each = next }
+  pub tracks-next : Tracks cells marks (i + 1) (set held (markAt marks i) (t .progress .held)) (set ended (markAt marks i) (t .progress .ended))
+  tracks-next =
+      record {
+        held-size = length-set held (markAt marks i) (t .progress .held) ∙ k .held-size;
+        ended-size = length-set ended (markAt marks i) (t .progress .ended) ∙ k .ended-size;
+        each = next;
+      }
 
--- at the end it agrees with the seats exactly if they are where the rows bring them
-pub all-agree : (row : List Seat) (bits n : ℕ) (cells marks : List ℕ) (reached : List Progress) → Tracks cells marks n reached
-    → allBelow seatCount (agreesAt reached row bits) ≡ allBelow seatCount (λ s. agrees (replayed cells marks s n) (seatAt row s) bits s)
-all-agree row bits n cells marks reached k =
-    all-ext seatCount (agreesAt reached row bits) _ (λ s l. ap (λ (p : Progress). agrees p (seatAt row s) bits s) (k .each s l))
+-- ---- over a row of good seats the columns say what the row says
+
+no-records : (cells marks : List ℕ) (s n : ℕ) → ((j : ℕ) → j < n → eqb (markAt marks j) s ≡ false) → recordsOf cells marks s n ≡ []
+unfolding recordsOf
+no-records cells marks s zero h = refl
+no-records cells marks s (suc n) h = rw (h n (omega arith), no-records cells marks s n (λ j l. h j (omega arith)))
+
+module _ (keys held ended : List ℕ) (f : Sized keys held ended) (bits : ℕ) (good : allBelow seatCount (seatGoodAt (rowOf keys held ended) bits) ≡ true) (cells marks : List ℕ) where
+  number-has : (s : ℕ) (c : List ℕ) → hasNumber (getD keys s 0) (heard c) ≡ hasKey (seatKey (seatAt (rowOf keys held ended) s)) (heard c)
+  number-has s c = go (heard c) refl
+    where
+      go : (t : Told ReplyLabel) → heard c ≡ t → hasNumber (getD keys s 0) t ≡ hasKey (seatKey (seatAt (rowOf keys held ended) s)) t
+      go (gives l) e = same-number (getD keys s 0) (keyIn l) (heard-keyed c l e .short) ∙ ap (λ (x : Seat). sameKey (seatKey x) (keyIn l)) (sym (seat-at keys held ended f s))
+      go (refuses why) e = refl
+
+  pub rows-are : (n : ℕ) → allBelow n (rowTaken keys bits cells marks) ≡ allBelow n (rowGood (rowOf keys held ended) bits cells marks)
+  rows-are n =
+      all-ext n (rowTaken keys bits cells marks) (rowGood (rowOf keys held ended) bits cells marks)
+      (λ i l. ap (λ (x : Bool). markGood bits marks i && (x && takenAt cells marks i)) (number-has (markAt marks i) (cellAt cells i)))
+
+  module _ (n : ℕ) (all : allBelow n (rowGood (rowOf keys held ended) bits cells marks) ≡ true) (reached over : List ℕ) (k : Tracks cells marks n reached over) where
+    -- no mark names a seat that is not in use
+    unused-none : (s : ℕ) → usedBit bits s ≡ false → replayed cells marks s n ≡ none
+    unfolding replay markNames
+    unused-none s u =
+        ap (replay none) (no-records cells marks s n (λ j l.
+        let g = and-l (markGood bits marks j) _ (all-at n (rowGood (rowOf keys held ended) bits cells marks) all j l) in
+        ne-eqb (markAt marks j) s (λ e. never (usedBit bits s) (rw (← e) (and-r (ltb (markAt marks j) seatCount) _ g)) u)))
+
+    agree-at : (s : ℕ) → s < seatCount → sameAt held reached s && sameAt ended over s ≡ agrees (replayed cells marks s n) (seatAt (rowOf keys held ended) s) bits s
+    unfolding agrees
+    agree-at s l =
+        let p = k .each s l in
+        by-test (usedBit bits s)
+        (λ u. rw (u, seat-at keys held ended f s, ← p))
+        (λ u.
+        let q = p ∙ unused-none s u in
+        rw (u, unused-held keys held ended f bits good s l u, unused-ended keys held ended f bits good s l u, ap (λ (x : Progress). x .held) q, ap (λ (x : Progress). x .ended) q))
+
+    pub columns-agree : allBelow seatCount (sameAt held reached) && allBelow seatCount (sameAt ended over) ≡ allBelow seatCount (λ s. agrees (replayed cells marks s n) (seatAt (rowOf keys held ended) s) bits s)
+    columns-agree = sym (all-and seatCount (sameAt held reached) (sameAt ended over)) ∙ all-ext seatCount _ _ agree-at

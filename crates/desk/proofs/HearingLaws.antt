@@ -1,7 +1,8 @@
 -- What the label of a reply says is what its record says; and a frame that is accepted as a reply is as long as a cell. Assumes nothing.
 use Prim.Native.Nat.{ℕ}
 use mathlib.Core.List.{List}
-use mathlib.Core.Path.{_≡_, refl, sym, ap}
+use mathlib.Core.Bool.{true, false, true≢false, false≢true}
+use mathlib.Core.Path.{_≡_, refl, sym, ap, subst}
 use lib.ListN.{length}
 use lib.Dec.{eqb}
 use borrow.Author.Tests.{eqb-true}
@@ -10,8 +11,9 @@ use Rattle.digits.proofs.Sure.{not-refused}
 use Rattle.frames.specs.declared.reply.StaticReply.{StaticReply}
 use Rattle.frames.specs.declared.reply.ReplyLabel.{ReplyLabel}
 use Rattle.frames.specs.Kind.{Kind, leadIs, headTold, read}
-use Rattle.frames.specs.Reply.{reply, labelOf, labelled}
+use Rattle.frames.specs.Reply.{reply, labelOf, labelled, isGood, labelAt}
 use Rattle.frames.proofs.HeadLaws.{tried-gives, then-gives}
+use Rattle.frames.proofs.LabelLaws.{Labelled, label-legal, label-is-read}
 use Rattle.desk.specs.declared.key.Key.{Key}
 use Rattle.desk.specs.Limits.{cellSize}
 use Rattle.desk.specs.Key.{keyIn, sameKey}
@@ -36,6 +38,32 @@ labelled-gives (refuses why) l e = absurd (not-refused l why (sym e))
 pub heard-long : (f : List ℕ) (l : ReplyLabel) → heard f ≡ gives l → length f ≡ cellSize
 unfolding heard
 heard-long f l e = let r = labelled-gives (read reply f) l e in read-long reply f (r .0) (r .1)
+
+-- ---- the quick check: a good reply has the label of its bytes, and no other frame has one
+
+pub good-heard : (f : List ℕ) → isGood (read reply f) ≡ true → heard f ≡ gives (labelAt f)
+unfolding heard
+good-heard f g = go (read reply f) refl g
+  where
+    go : (t : Told StaticReply) → read reply f ≡ t → isGood t ≡ true → labelled t ≡ gives (labelAt f)
+    go (gives r) e h = ap gives (sym (label-is-read f r e))
+    go (refuses why) e h = absurd (false≢true h)
+
+pub bad-heard : (f : List ℕ) → isGood (read reply f) ≡ false → (l : ReplyLabel) → gives l ≡ heard f → ⊥
+unfolding heard
+bad-heard f g l = go (read reply f) g
+  where
+    go : (t : Told StaticReply) → isGood t ≡ false → gives l ≡ labelled t → ⊥
+    go (gives r) h e = true≢false h
+    go (refuses why) h e = not-refused l why e
+
+pub heard-legal : (f : List ℕ) (l : ReplyLabel) → heard f ≡ gives l → Labelled l
+unfolding heard
+heard-legal f l e = go (read reply f) refl e
+  where
+    go : (t : Told StaticReply) → read reply f ≡ t → labelled t ≡ gives l → Labelled l
+    go (gives r) q d = let s : labelOf r ≡ l = cc in subst Labelled s (label-legal f r q)
+    go (refuses why) q d = absurd (not-refused l why (sym d))
 
 -- ---- status and key are the record's
 

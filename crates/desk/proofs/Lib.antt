@@ -2,12 +2,14 @@ pub mod Below
 pub mod Bits
 pub mod KeyLaws
 pub mod HearingLaws
+pub mod ColumnLaws
 pub mod ReplayLaws
 pub mod ClauseLaws
 pub mod SumLaws
 pub mod WrittenLaws
 pub mod StepLaws
 pub mod OutcomeLaws
+pub mod JudgeLaws
 pub mod HeldLaws
 pub mod ReadBackLaws
 pub mod DeskLaws

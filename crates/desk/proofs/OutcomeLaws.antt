@@ -17,12 +17,12 @@ use Rattle.desk.specs.declared.step.Stepped.{Stepped}
 use Rattle.desk.specs.declared.opening.Opening.{Opening}
 use Rattle.desk.specs.declared.reply.Taking.{Taking}
 use Rattle.desk.specs.Hearing.{heard}
-use Rattle.desk.specs.Step.{progressOf, step}
+use Rattle.desk.specs.Step.{step}
 use Rattle.desk.specs.Seats.{zeroSeat, seatAt}
 use Rattle.desk.specs.Memory.{Memory, capacity}
 use Rattle.desk.specs.Desk.{isDesk}
-use Rattle.desk.specs.Calls.{whatIsGiven, requestTried, openTried, seatTried, labelTried, replyTried, opens, opened, replies, taken, Did}
-use Rattle.desk.specs.inside.Judging.{stepTold}
+use Rattle.desk.specs.Calls.{whatIsGiven, requestTried, openTried, labelTried, replyTried, opens, opened, replies, taken, Did}
+use Rattle.desk.specs.inside.Judging.{stepTold, stepTried}
 
 -- ---- further tests of an answer that is known
 
@@ -30,14 +30,13 @@ module _ {A B : Type 0} where
   pub given-on : (further : A → Told B) {t u : Told A} → t ≡ u → whatIsGiven t further ≡ whatIsGiven u further
   given-on further e = ap (λ (y : Told A). whatIsGiven y further) e
 
--- ---- the step of the code is the step of the seat
+-- ---- the step of the code is the step of the request
 
-pub step-judged : (s : Seat) (free : Bool) (t : Taking) {p : Progress} {r is : Stepped} → p ≡ progressOf s → stepTold p (t .status) r ≡ step p free (t .status) → r ≡ is
-    → whatIsGiven (stepTold p (t .status) is) (λ p. gives t) ≡ seatTried s free t
-unfolding seatTried
-step-judged s free t {p} {r} {is} e h q =
+pub step-judged : (p : Progress) (free : Bool) (t : Taking) {r is : Stepped} → stepTold p (t .status) r ≡ step p free (t .status) → r ≡ is → whatIsGiven (stepTold p (t .status) is) (λ p. gives t) ≡ stepTried p free t
+unfolding stepTried
+step-judged p free t {r} {is} h q =
     ap (λ (x : Stepped). whatIsGiven (stepTold p (t .status) x) (λ p. gives t)) (sym q)
-    ∙ ap (λ (x : Told Progress). whatIsGiven x (λ p. gives t)) (h ∙ ap (λ (x : Progress). step x free (t .status)) e)
+    ∙ ap (λ (x : Told Progress). whatIsGiven x (λ p. gives t)) h
 
 -- ---- DESK is tested first
 

@@ -1,5 +1,5 @@
 -- The calls of the desk: what each one answers, and the state and memory that it leaves.
-use Prim.Native.Nat.{ℕ, _+_, _*_, _^_, min}
+use Prim.Native.Nat.{ℕ, _+_, _*_, _^_, _<_, min}
 use mathlib.Core.List.{List, _++_}
 use mathlib.Core.Bool.{Bool, cond, not, _&&_}
 use mathlib.Core.Path.{_≡_}
@@ -24,12 +24,14 @@ use Rattle.desk.specs.declared.opening.OpenRefusal.{OpenRefusal}
 use Rattle.desk.specs.declared.opening.OpenRefusal.the-variants.{Desk as open-no-desk, Frame as open-frame, NoAnswerDue, InUse, NoSeat}
 use Rattle.desk.specs.declared.opening.OpenAnswer.{OpenAnswer}
 use Rattle.desk.specs.declared.opening.OpenDone.{OpenDone}
+use Rattle.desk.specs.declared.opening.OpenStep.{OpenStep}
 use Rattle.desk.specs.declared.opening.OpenAnswer.the-variants.{Opened, Refused as not-opened}
 use Rattle.desk.specs.declared.reply.Taking.{Taking}
 use Rattle.desk.specs.declared.reply.ReplyRefusal.{ReplyRefusal}
 use Rattle.desk.specs.declared.reply.ReplyRefusal.the-variants.{Desk as no-desk, Frame, Stray, Ended, OutOfPlace, Full}
 use Rattle.desk.specs.declared.reply.ReplyAnswer.{ReplyAnswer}
 use Rattle.desk.specs.declared.reply.ReplyDone.{ReplyDone}
+use Rattle.desk.specs.declared.reply.ReplyStep.{ReplyStep}
 use Rattle.desk.specs.declared.reply.ReplyAnswer.the-variants.{Taken, Refused}
 use Rattle.desk.specs.Limits.{seatCount, cellSize}
 use Rattle.desk.specs.Below.{first, countBelow}
@@ -212,3 +214,17 @@ OpenDid m f r = Did (openTold (r .answer)) (memory (r .desk) (r .row) (m .cells)
 -- of a reply: with the cells and marks after it
 abbrev pub ReplyDid : Memory → List ℕ → ReplyDone → List ℕ → List ℕ → Type 0
 ReplyDid m f r cells′ marks′ = Did (replyTold (r .answer)) (memory (r .desk) (r .row) cells′ marks′) (replies m f)
+
+-- the place of the seat that a call changed, 0 if it changed none
+abbrev pub placeIn : Told ℕ → ℕ
+placeIn (gives s) = s
+placeIn (refuses f) = 0
+
+-- of a step, which returns that seat and its place instead of the row: the row with the seat set is the row after the call
+abbrev pub OpenStepDid : Memory → List ℕ → OpenStep → Type 0
+OpenStepDid m f r =
+    ((r .at < seatCount) × (r .at ≡ placeIn (openTold (r .answer)))) × Did (openTold (r .answer)) (memory (r .desk) (set (m .row) (r .at) (r .seat)) (m .cells) (m .marks)) (opens m f)
+
+abbrev pub ReplyStepDid : Memory → List ℕ → ReplyStep → List ℕ → List ℕ → Type 0
+ReplyStepDid m f r cells′ marks′ =
+    ((r .at < seatCount) × (r .at ≡ placeIn (replyTold (r .answer)))) × Did (replyTold (r .answer)) (memory (r .desk) (set (m .row) (r .at) (r .seat)) cells′ marks′) (replies m f)

@@ -1,12 +1,19 @@
 // A whole capture at once: the desk is tested once, and each frame goes to the call of its lead byte.
 use crate::clauses::is_desk;
+use crate::columns::key_number;
+use crate::columns::row_of;
 use crate::limits::SEATS;
-use crate::opening::OpenAnswer;
-use crate::opening::open_on_desk;
-use crate::reply::ReplyAnswer;
-use crate::reply::reply_on_desk;
+use crate::opening::OpenJudged;
+use crate::opening::judged as opening_judged;
+use crate::opening::opened_state;
+use crate::reply::ReplyJudged;
+use crate::reply::judged as reply_judged;
+use crate::reply::put_reply;
 use crate::state::Desk;
 use crate::state::Seat;
+use crate::state::capacity;
+use crate::step::Progress;
+use crate::step::advanced;
 use digits::byte_at;
 use finder::Cursor;
 use finder::Found;
@@ -22,9 +29,10 @@ ghost use Rattle.frames.specs.Kind.{read};
 ghost use Rattle.frames.specs.Dynamic.{dynamic};
 ghost use Rattle.desk.specs.Memory.{memory};
 ghost use Rattle.desk.specs.Desk.{isDesk};
-ghost use Rattle.desk.specs.Calls.{openTold, replyTold};
-ghost use Rattle.desk.specs.Capture.{fateBy, dynamicFate, meets, TookCapture};
-ghost use Rattle.desk.specs.inside.Counting.{oneMore, Meets};
+ghost use Rattle.desk.specs.Calls.{opens, replies};
+ghost use Rattle.desk.specs.Capture.{dynamicFate, meets, TookCapture};
+ghost use Rattle.desk.specs.inside.Columns.{Sized, rowOf};
+ghost use Rattle.desk.specs.inside.Counting.{oneMore, Meets, MeetsBy};
 ghost use Rattle.desk.specs.declared.capture.Fate.the-variants.{Opened, Collected};
 
 // What becomes of a frame.
@@ -55,12 +63,10 @@ pub struct CaptureDone {
     pub row: [Seat; SEATS],
 }
 
-// What becomes of a frame, the state after it, and the one seat that may have changed, as in ReplyStep.
+// What becomes of a frame, and the state after it.
 struct Met {
     fate: Fate,
     desk: Desk,
-    at: usize,
-    seat: Seat,
 }
 
 // Takes the frames of a capture one after the other. Cells and marks change as by one call for each frame.
@@ -73,7 +79,10 @@ pub fn take_capture(
 ) -> CaptureDone
     ensures { λ r. ⌜ TookCapture (memory desk row (now (cells .entry)) (now (marks .entry))) (now (capture .entry)) (r .answer) (memory (r .desk) (r .row) (now (cells .exit)) (now (marks .exit))) ⌝ }
 {
-    if !is_desk(desk, row, cells, marks) {
+    let mut keys = [0u32; SEATS];
+    let mut held = [0u32; SEATS];
+    let mut ended = [0u32; SEATS];
+    if !is_desk(desk, row, cells, marks, &mut keys, &mut held, &mut ended) {
         return CaptureDone {
             answer: CaptureAnswer::NoDesk,
             desk,
@@ -81,7 +90,6 @@ pub fn take_capture(
         };
     }
     let mut desk = desk;
-    let mut row = row;
     let mut counts = Counts {
         opened: 0,
         collected: 0,
@@ -95,7 +103,7 @@ pub fn take_capture(
                 return CaptureDone {
                     answer: CaptureAnswer::Taken(counts),
                     desk,
-                    row,
+                    row: row_of(&keys, &held, &ended),
                 };
             }
             Found::Cut { start: _, next } => {
@@ -103,72 +111,114 @@ pub fn take_capture(
                 at = next.at;
             }
             Found::Whole { start, end, next } => {
-                let m = meet(desk, row, cells, marks, &capture[start..end]);
+                let m = meet(
+                    desk,
+                    &mut keys,
+                    &mut held,
+                    &mut ended,
+                    cells,
+                    marks,
+                    &capture[start..end],
+                );
                 let fate = m.fate;
                 counts = one_more(counts, fate);
                 let after = m.desk;
-                let changed = m.at;
-                let seat = m.seat;
                 desk = after;
-                row[changed] = seat;
                 at = next.at;
             }
         }
     }
 }
 
-fn meet(desk: Desk, row: [Seat; SEATS], cells: &mut [u8], marks: &mut [u32], frame: &[u8]) -> Met
-    requires { ⌜ isDesk (memory desk row (now cells) (now marks)) ≡ true ⌝ }
-    ensures { λ r. ⌜ Meets row (meets (memory desk row (now (cells .entry)) (now (marks .entry))) (now (frame .entry))) r (now (cells .exit)) (now (marks .exit)) ⌝ }
+// A frame goes to the call of its lead byte. The columns show the seats before and after.
+fn meet(
+    desk: Desk,
+    keys: &mut [u32],
+    held: &mut [u32],
+    ended: &mut [u32],
+    cells: &mut [u8],
+    marks: &mut [u32],
+    frame: &[u8],
+) -> Met
+    requires { ⌜ Sized (now keys) (now held) (now ended) × (isDesk (memory desk (rowOf (now keys) (now held) (now ended)) (now cells) (now marks)) ≡ true) ⌝ }
+    ensures { λ r. ⌜ Meets (meets (memory desk (rowOf (now (keys .entry)) (now (held .entry)) (now (ended .entry))) (now (cells .entry)) (now (marks .entry))) (now (frame .entry))) r (memory (r .desk) (rowOf (now (keys .exit)) (now (held .exit)) (now (ended .exit))) (now (cells .exit)) (now (marks .exit))) ⌝ }
 {
     let lead = byte_at(frame, 0);
     if lead == REQUEST_LEAD {
-        let step = open_on_desk(desk, row, cells, marks, frame);
-        let answer = step.answer;
-        let desk = step.desk;
-        let seat = step.seat;
-        return Met {
-            fate: open_fate(answer),
-            desk,
-            at: step.at,
-            seat,
-        };
+        return meet_request(desk, keys, held, ended, cells, marks, frame);
     }
     if lead == REPLY_LEAD {
-        let step = reply_on_desk(desk, row, cells, marks, frame);
-        let answer = step.answer;
-        let desk = step.desk;
-        let seat = step.seat;
-        return Met {
-            fate: reply_fate(answer),
-            desk,
-            at: step.at,
-            seat,
-        };
+        return meet_reply(desk, keys, held, ended, cells, marks, frame);
     }
     Met {
         fate: dynamic_fate(frame),
         desk,
-        at: 0,
-        seat: row[0],
     }
 }
 
-fn open_fate(a: OpenAnswer) -> Fate
-    ensures { λ r. ⌜ r ≡ fateBy Opened (openTold a) ⌝ }
+// A static request: if it is opened, its seat gets the key. Records, cells and marks are here only so that a desk can be required.
+fn meet_request(
+    desk: Desk,
+    keys: &mut [u32],
+    held: &[u32],
+    ended: &[u32],
+    cells: &[u8],
+    marks: &[u32],
+    frame: &[u8],
+) -> Met
+    requires { ⌜ Sized (now keys) (now held) (now ended) × (isDesk (memory desk (rowOf (now keys) (now held) (now ended)) (now cells) (now marks)) ≡ true) ⌝ }
+    ensures { λ r. ⌜ MeetsBy Opened (opens (memory desk (rowOf (now (keys .entry)) (now (held .entry)) (now (ended .entry))) (now (cells .entry)) (now (marks .entry))) (now (frame .entry))) r (memory (r .desk) (rowOf (now (keys .exit)) (now (held .entry)) (now (ended .entry))) (now (cells .entry)) (now (marks .entry))) ⌝ }
 {
-    match a {
-        OpenAnswer::Opened(_) => Fate::Opened,
-        OpenAnswer::Refused(_) => Fate::Refused,
+    match opening_judged(keys, desk.bits, frame) {
+        OpenJudged::Opens(opening) => {
+            let at = opening.seat;
+            let key = opening.key;
+            keys[at] = key_number(key);
+            Met {
+                fate: Fate::Opened,
+                desk: opened_state(desk, at),
+            }
+        }
+        OpenJudged::Refuses(_) => Met {
+            fate: Fate::Refused,
+            desk,
+        },
     }
 }
 
-fn reply_fate(a: ReplyAnswer) -> Fate
-    ensures { λ r. ⌜ r ≡ fateBy Collected (replyTold a) ⌝ }
+// A reply: if it is taken, it is stored, and its seat holds one more record.
+fn meet_reply(
+    desk: Desk,
+    keys: &[u32],
+    held: &mut [u32],
+    ended: &mut [u32],
+    cells: &mut [u8],
+    marks: &mut [u32],
+    frame: &[u8],
+) -> Met
+    requires { ⌜ Sized (now keys) (now held) (now ended) × (isDesk (memory desk (rowOf (now keys) (now held) (now ended)) (now cells) (now marks)) ≡ true) ⌝ }
+    ensures { λ r. ⌜ MeetsBy Collected (replies (memory desk (rowOf (now (keys .entry)) (now (held .entry)) (now (ended .entry))) (now (cells .entry)) (now (marks .entry))) (now (frame .entry))) r (memory (r .desk) (rowOf (now (keys .entry)) (now (held .exit)) (now (ended .exit))) (now (cells .exit)) (now (marks .exit))) ⌝ }
 {
-    match a {
-        ReplyAnswer::Taken(_) => Fate::Collected,
-        ReplyAnswer::Refused(_) => Fate::Refused,
+    let free = (desk.count as usize) < capacity(cells.len(), marks.len());
+    match reply_judged(keys, held, ended, free, frame) {
+        ReplyJudged::Takes(taking) => {
+            let at = taking.seat;
+            let so_far = Progress {
+                held: held[at],
+                ended: ended[at],
+            };
+            let p = advanced(so_far, taking.status);
+            held[at] = p.held;
+            ended[at] = p.ended;
+            Met {
+                fate: Fate::Collected,
+                desk: put_reply(desk, at, cells, marks, frame),
+            }
+        }
+        ReplyJudged::Refuses(_) => Met {
+            fate: Fate::Refused,
+            desk,
+        },
     }
 }
 

@@ -1,7 +1,8 @@
 // An opening: a static request takes a seat.
 use crate::clauses::is_desk;
+use crate::columns::find;
+use crate::columns::key_number;
 use crate::key::Key;
-use crate::key::find;
 use crate::limits::SEATS;
 use crate::state::Desk;
 use crate::state::Seat;
@@ -16,17 +17,18 @@ use frames::request::StaticRequest;
 use frames::request::read_request;
 ghost use mathlib.Core.Path.{_≡_};
 ghost use Prim.Native.Nat.{_+_, _^_, _<_};
-ghost use lib.ListN.{set};
+ghost use lib.ListN.{length};
 ghost use Rattle.desk.specs.Limits.{seatCount};
 ghost use Rattle.desk.specs.Memory.{memory};
 ghost use Rattle.desk.specs.Key.{requestKey};
 ghost use Rattle.desk.specs.Seats.{usedBit, lowestClear};
-ghost use Rattle.desk.specs.Calls.{whatIsGiven, newSeat, opens, openRefused, openTold, requestTried, keyTried, Did, OpenDid};
-ghost use Rattle.desk.specs.Desk.{isDesk};
+ghost use Rattle.desk.specs.Calls.{whatIsGiven, newSeat, openRefused, OpenDid, OpenStepDid};
+ghost use Rattle.desk.specs.Below.{first};
 ghost use Rattle.frames.specs.Kind.{read};
 ghost use Rattle.frames.specs.Request.{request};
-ghost use mathlib.Core.Bool.{true, false};
-ghost use Rattle.desk.specs.inside.Judging.{openJudged};
+ghost use mathlib.Core.Bool.{false};
+ghost use Rattle.desk.specs.inside.Columns.{Short, keyNumber, keyIs};
+ghost use Rattle.desk.specs.inside.Judging.{openJudged, numberTried, columnAsked};
 
 // In the order in which they are tested.
 pub enum OpenRefusal {
@@ -62,20 +64,20 @@ pub struct OpenDone {
 }
 
 // What an opening leaves, as in ReplyStep.
-pub(crate) struct OpenStep {
-    pub(crate) answer: OpenAnswer,
-    pub(crate) desk: Desk,
-    pub(crate) at: usize,
-    pub(crate) seat: Seat,
+pub struct OpenStep {
+    pub answer: OpenAnswer,
+    pub desk: Desk,
+    pub at: usize,
+    pub seat: Seat,
 }
 
 // The seat that a request gets, and its key.
-struct Opening {
-    seat: usize,
-    key: Key,
+pub(crate) struct Opening {
+    pub(crate) seat: usize,
+    pub(crate) key: Key,
 }
 
-enum OpenJudged {
+pub(crate) enum OpenJudged {
     Opens(Opening),
     Refuses(OpenRefusal),
 }
@@ -83,37 +85,39 @@ enum OpenJudged {
 pub fn open(desk: Desk, row: [Seat; SEATS], cells: &[u8], marks: &[u32], frame: &[u8]) -> OpenDone
     ensures { λ r. ⌜ OpenDid (memory desk row (now (cells .entry)) (now (marks .entry))) (now (frame .entry)) r ⌝ }
 {
-    if is_desk(desk, row, cells, marks) {
-        let step = open_on_desk(desk, row, cells, marks, frame);
-        let answer = step.answer;
-        let desk = step.desk;
-        let seat = step.seat;
-        OpenDone {
-            answer,
-            desk,
-            row: with_seat(row, step.at, seat),
-        }
-    } else {
-        OpenDone {
-            answer: OpenAnswer::Refused(OpenRefusal::Desk),
-            desk,
-            row,
-        }
+    let step = open_step(desk, row, cells, marks, frame);
+    let answer = step.answer;
+    let desk = step.desk;
+    let seat = step.seat;
+    OpenDone {
+        answer,
+        desk,
+        row: with_seat(row, step.at, seat),
     }
 }
 
-// The opening on a state and memory that are a desk. Cells and marks are here only so that this can be required.
-pub(crate) fn open_on_desk(
+// The same for a caller who stores only the seat that changed.
+pub fn open_step(
     desk: Desk,
     row: [Seat; SEATS],
     cells: &[u8],
     marks: &[u32],
     frame: &[u8],
 ) -> OpenStep
-    requires { ⌜ isDesk (memory desk row (now cells) (now marks)) ≡ true ⌝ }
-    ensures { λ r. ⌜ (r .at < seatCount) × Did (openTold (r .answer)) (memory (r .desk) (set row (r .at) (r .seat)) (now (cells .entry)) (now (marks .entry))) (opens (memory desk row (now (cells .entry)) (now (marks .entry))) (now (frame .entry))) ⌝ }
+    ensures { λ r. ⌜ OpenStepDid (memory desk row (now (cells .entry)) (now (marks .entry))) (now (frame .entry)) r ⌝ }
 {
-    match judged(row, desk.bits, frame) {
+    let mut keys = [0u32; SEATS];
+    let mut held = [0u32; SEATS];
+    let mut ended = [0u32; SEATS];
+    if !is_desk(desk, row, cells, marks, &mut keys, &mut held, &mut ended) {
+        return OpenStep {
+            answer: OpenAnswer::Refused(OpenRefusal::Desk),
+            desk,
+            at: 0,
+            seat: row[0],
+        };
+    }
+    match judged(&keys, desk.bits, frame) {
         OpenJudged::Opens(opening) => {
             let at = opening.seat;
             let key = opening.key;
@@ -133,22 +137,24 @@ pub(crate) fn open_on_desk(
     }
 }
 
-fn judged(row: [Seat; SEATS], bits: u64, frame: &[u8]) -> OpenJudged
-    ensures { λ r. ⌜ openJudged r ≡ whatIsGiven (read request (now (frame .entry))) (requestTried row bits) ⌝ }
+pub(crate) fn judged(keys: &[u32], bits: u64, frame: &[u8]) -> OpenJudged
+    requires { ⌜ length (now keys) ≡ seatCount ⌝ }
+    ensures { λ r. ⌜ openJudged r ≡ whatIsGiven (read request (now (frame .entry))) (columnAsked (now (keys .entry)) bits) ⌝ }
 {
     match read_request(frame) {
-        RequestRead::Request(r) => request_judged(row, bits, r),
+        RequestRead::Request(r) => request_judged(keys, bits, r),
         RequestRead::Refused(refusal) => OpenJudged::Refuses(OpenRefusal::Frame(refusal)),
     }
 }
 
-fn request_judged(row: [Seat; SEATS], bits: u64, r: StaticRequest) -> OpenJudged
-    ensures { λ a. ⌜ openJudged a ≡ requestTried row bits r ⌝ }
+fn request_judged(keys: &[u32], bits: u64, r: StaticRequest) -> OpenJudged
+    requires { ⌜ (length (now keys) ≡ seatCount) × Short (requestKey r) ⌝ }
+    ensures { λ a. ⌜ openJudged a ≡ columnAsked (now (keys .entry)) bits r ⌝ }
 {
     if r.information == b'q' {
         return OpenJudged::Refuses(OpenRefusal::NoAnswerDue);
     }
-    key_judged(row, bits, key_asked(r))
+    key_judged(keys, bits, key_asked(r))
 }
 
 fn key_asked(r: StaticRequest) -> Key
@@ -161,10 +167,11 @@ fn key_asked(r: StaticRequest) -> Key
     }
 }
 
-fn key_judged(row: [Seat; SEATS], bits: u64, key: Key) -> OpenJudged
-    ensures { λ r. ⌜ openJudged r ≡ keyTried row bits key ⌝ }
+fn key_judged(keys: &[u32], bits: u64, key: Key) -> OpenJudged
+    requires { ⌜ (length (now keys) ≡ seatCount) × Short key ⌝ }
+    ensures { λ r. ⌜ openJudged r ≡ numberTried (first seatCount (keyIs (now (keys .entry)) (keyNumber key))) bits key ⌝ }
 {
-    if find(row, bits, key) < SEATS {
+    if find(keys, key_number(key)) < SEATS {
         return OpenJudged::Refuses(OpenRefusal::InUse);
     }
     let seat = lowest_clear(bits);
@@ -194,7 +201,7 @@ fn new_seat(key: Key) -> Seat
     }
 }
 
-fn opened_state(desk: Desk, seat: usize) -> Desk
+pub(crate) fn opened_state(desk: Desk, seat: usize) -> Desk
     requires { ⌜ (seat < seatCount) × ((desk .bits < 2 ^ seatCount) × (usedBit (desk .bits) seat ≡ false)) ⌝ }
     ensures { λ r. ⌜ (r .bits ≡ desk .bits + 2 ^ seat) × (r .count ≡ desk .count) ⌝ }
 {

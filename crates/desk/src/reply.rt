@@ -1,6 +1,7 @@
 // A reply: sorted to the seat with its key, and kept.
 use crate::clauses::is_desk;
-use crate::key::find;
+use crate::columns::find;
+use crate::columns::key_number;
 use crate::key::key_in;
 use crate::limits::CELL_SIZE;
 use crate::limits::SEATS;
@@ -8,6 +9,7 @@ use crate::state::Desk;
 use crate::state::Seat;
 use crate::state::capacity;
 use crate::state::with_seat;
+use crate::step::Progress;
 use crate::step::Stepped;
 use crate::step::advanced;
 use crate::step::progress_of;
@@ -16,6 +18,8 @@ use digits::put_bytes;
 use digits::refusal as table;
 use digits::refusal::Refusal;
 use digits::refusal::plain;
+use frames::check::is_reply;
+use frames::check::label_at;
 use frames::refusals::ReadRefusal;
 use frames::refusals::of_reading;
 use frames::reply::ReplyCheck;
@@ -23,14 +27,13 @@ use frames::reply::ReplyLabel;
 use frames::reply::check_reply;
 ghost use mathlib.Core.Path.{_≡_};
 ghost use Prim.Native.Nat.{_<_};
-ghost use lib.ListN.{set};
-ghost use Rattle.desk.specs.Limits.{seatCount, mostCells};
+ghost use Rattle.desk.specs.Limits.{mostCells};
 ghost use Rattle.desk.specs.Memory.{memory};
-ghost use Rattle.desk.specs.Calls.{whatIsGiven, grown, replies, replyRefused, replyTold, labelTried, seatTried, Did, ReplyDid};
-ghost use Rattle.desk.specs.Desk.{isDesk};
+ghost use Rattle.desk.specs.Calls.{whatIsGiven, grown, replyRefused, ReplyDid, ReplyStepDid};
+ghost use Rattle.desk.specs.Key.{keyIn};
 ghost use Rattle.desk.specs.Hearing.{heard};
-ghost use mathlib.Core.Bool.{true};
-ghost use Rattle.desk.specs.inside.Judging.{replyJudged};
+ghost use Rattle.desk.specs.inside.Columns.{Short, Sized};
+ghost use Rattle.desk.specs.inside.Judging.{replyJudged, stepTried, columnTried, RoomFor, PutReply};
 
 // In the order in which they are tested.
 pub enum ReplyRefusal {
@@ -68,20 +71,20 @@ pub struct ReplyDone {
 }
 
 // What a reply leaves: the state, and the one seat that changed, with its place. If none changed, that is the first seat as it was.
-pub(crate) struct ReplyStep {
-    pub(crate) answer: ReplyAnswer,
-    pub(crate) desk: Desk,
-    pub(crate) at: usize,
-    pub(crate) seat: Seat,
+pub struct ReplyStep {
+    pub answer: ReplyAnswer,
+    pub desk: Desk,
+    pub at: usize,
+    pub seat: Seat,
 }
 
 // The seat that takes a reply, and the reply's status.
-struct Taking {
-    seat: usize,
-    status: u8,
+pub(crate) struct Taking {
+    pub(crate) seat: usize,
+    pub(crate) status: u8,
 }
 
-enum ReplyJudged {
+pub(crate) enum ReplyJudged {
     Takes(Taking),
     Refuses(ReplyRefusal),
 }
@@ -95,51 +98,46 @@ pub fn reply(
 ) -> ReplyDone
     ensures { λ r. ⌜ ReplyDid (memory desk row (now (cells .entry)) (now (marks .entry))) (now (frame .entry)) r (now (cells .exit)) (now (marks .exit)) ⌝ }
 {
-    if is_desk(desk, row, cells, marks) {
-        let step = reply_on_desk(desk, row, cells, marks, frame);
-        let answer = step.answer;
-        let desk = step.desk;
-        let seat = step.seat;
-        ReplyDone {
-            answer,
-            desk,
-            row: with_seat(row, step.at, seat),
-        }
-    } else {
-        ReplyDone {
-            answer: ReplyAnswer::Refused(ReplyRefusal::Desk),
-            desk,
-            row,
-        }
+    let step = reply_step(desk, row, cells, marks, frame);
+    let answer = step.answer;
+    let desk = step.desk;
+    let seat = step.seat;
+    ReplyDone {
+        answer,
+        desk,
+        row: with_seat(row, step.at, seat),
     }
 }
 
-// The reply call on a state and memory that are a desk.
-pub(crate) fn reply_on_desk(
+// The same for a caller who stores only the seat that changed.
+pub fn reply_step(
     desk: Desk,
     row: [Seat; SEATS],
     cells: &mut [u8],
     marks: &mut [u32],
     frame: &[u8],
 ) -> ReplyStep
-    requires { ⌜ isDesk (memory desk row (now cells) (now marks)) ≡ true ⌝ }
-    ensures { λ r. ⌜ (r .at < seatCount) × Did (replyTold (r .answer)) (memory (r .desk) (set row (r .at) (r .seat)) (now (cells .exit)) (now (marks .exit))) (replies (memory desk row (now (cells .entry)) (now (marks .entry))) (now (frame .entry))) ⌝ }
+    ensures { λ r. ⌜ ReplyStepDid (memory desk row (now (cells .entry)) (now (marks .entry))) (now (frame .entry)) r (now (cells .exit)) (now (marks .exit)) ⌝ }
 {
+    let mut keys = [0u32; SEATS];
+    let mut held = [0u32; SEATS];
+    let mut ended = [0u32; SEATS];
+    if !is_desk(desk, row, cells, marks, &mut keys, &mut held, &mut ended) {
+        return ReplyStep {
+            answer: ReplyAnswer::Refused(ReplyRefusal::Desk),
+            desk,
+            at: 0,
+            seat: row[0],
+        };
+    }
     let free = (desk.count as usize) < capacity(cells.len(), marks.len());
-    match judged(row, desk.bits, free, frame) {
+    match judged(&keys, &held, &ended, free, frame) {
         ReplyJudged::Takes(taking) => {
             let at = taking.seat;
-            let bits = desk.bits;
-            let count = desk.count;
-            let seat = at as u32;
-            put_bytes(cells, count as usize * CELL_SIZE, frame);
-            marks[count as usize] = seat;
+            let after = put_reply(desk, at, cells, marks, frame);
             ReplyStep {
-                answer: ReplyAnswer::Taken(seat),
-                desk: Desk {
-                    bits,
-                    count: count + 1,
-                },
+                answer: ReplyAnswer::Taken(at as u32),
+                desk: after,
                 at,
                 seat: grown_seat(row[at], taking.status),
             }
@@ -153,31 +151,75 @@ pub(crate) fn reply_on_desk(
     }
 }
 
-fn judged(row: [Seat; SEATS], bits: u64, free: bool, frame: &[u8]) -> ReplyJudged
-    ensures { λ r. ⌜ replyJudged r ≡ whatIsGiven (heard (now (frame .entry))) (labelTried row bits free) ⌝ }
+// The frame goes to the first free cell, and its seat to the mark beside it.
+pub(crate) fn put_reply(
+    desk: Desk,
+    seat: usize,
+    cells: &mut [u8],
+    marks: &mut [u32],
+    frame: &[u8],
+) -> Desk
+    requires { ⌜ RoomFor desk seat (now cells) (now marks) (now frame) ⌝ }
+    ensures { λ r. ⌜ PutReply desk seat (now (cells .entry)) (now (marks .entry)) (now (frame .entry)) r (now (cells .exit)) (now (marks .exit)) ⌝ }
 {
+    let bits = desk.bits;
+    let count = desk.count;
+    put_bytes(cells, count as usize * CELL_SIZE, frame);
+    marks[count as usize] = seat as u32;
+    Desk {
+        bits,
+        count: count + 1,
+    }
+}
+
+// What becomes of a reply. Why a frame is refused is looked for only if it is.
+pub(crate) fn judged(
+    keys: &[u32],
+    held: &[u32],
+    ended: &[u32],
+    free: bool,
+    frame: &[u8],
+) -> ReplyJudged
+    requires { ⌜ Sized (now keys) (now held) (now ended) ⌝ }
+    ensures { λ r. ⌜ replyJudged r ≡ whatIsGiven (heard (now (frame .entry))) (columnTried (now (keys .entry)) (now (held .entry)) (now (ended .entry)) free) ⌝ }
+{
+    if is_reply(frame) {
+        return label_judged(keys, held, ended, free, label_at(frame));
+    }
     match check_reply(frame) {
-        ReplyCheck::Good(label) => label_judged(row, bits, free, label),
+        // A frame that is no reply is refused, so this case never occurs.
+        ReplyCheck::Good(_) => ReplyJudged::Refuses(ReplyRefusal::Stray),
         ReplyCheck::Refused(refusal) => ReplyJudged::Refuses(ReplyRefusal::Frame(refusal)),
     }
 }
 
-fn label_judged(row: [Seat; SEATS], bits: u64, free: bool, label: ReplyLabel) -> ReplyJudged
-    ensures { λ r. ⌜ replyJudged r ≡ labelTried row bits free label ⌝ }
+fn label_judged(
+    keys: &[u32],
+    held: &[u32],
+    ended: &[u32],
+    free: bool,
+    label: ReplyLabel,
+) -> ReplyJudged
+    requires { ⌜ Sized (now keys) (now held) (now ended) × Short (keyIn label) ⌝ }
+    ensures { λ r. ⌜ replyJudged r ≡ columnTried (now (keys .entry)) (now (held .entry)) (now (ended .entry)) free label ⌝ }
 {
     let status = label.status;
-    let seat = find(row, bits, key_in(label));
+    let seat = find(keys, key_number(key_in(label)));
     if seat < SEATS {
-        seat_judged(row[seat], free, Taking { seat, status })
+        let so_far = Progress {
+            held: held[seat],
+            ended: ended[seat],
+        };
+        step_judged(so_far, free, Taking { seat, status })
     } else {
         ReplyJudged::Refuses(ReplyRefusal::Stray)
     }
 }
 
-fn seat_judged(seat: Seat, free: bool, t: Taking) -> ReplyJudged
-    ensures { λ r. ⌜ replyJudged r ≡ seatTried seat free t ⌝ }
+fn step_judged(p: Progress, free: bool, t: Taking) -> ReplyJudged
+    ensures { λ r. ⌜ replyJudged r ≡ stepTried p free t ⌝ }
 {
-    match step(progress_of(seat), free, t.status) {
+    match step(p, free, t.status) {
         Stepped::Taken => ReplyJudged::Takes(t),
         Stepped::Ended => ReplyJudged::Refuses(ReplyRefusal::Ended),
         Stepped::OutOfPlace => ReplyJudged::Refuses(ReplyRefusal::OutOfPlace),

@@ -1,4 +1,5 @@
 mod Search
+mod Quiet
 mod Walk
 pub mod Step
 pub mod Demands

@@ -1,3 +1,4 @@
 pub mod Leads
 pub mod Pieces
 pub mod Demands
+pub mod inside

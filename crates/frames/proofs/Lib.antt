@@ -9,6 +9,9 @@ pub mod KindLaws
 pub mod TimingLaws
 pub mod RequestLaws
 pub mod ReplyLaws
+pub mod LabelLaws
+pub mod DigitLaws
+pub mod CheckLaws
 pub mod DynamicLaws
 pub mod Demands
 pub mod Unique

@@ -156,10 +156,20 @@ abbrev pub lettered : ReplyHead → ℕ → ReplyHead
 lettered h letter =
     record { address = h .address; program = h .program; mode = h .mode; status = h .status; requester = h .requester; number = h .number; bib = h .bib; group = h .group; run = h .run; physical = h .physical; channel = h .channel; information = letter }
 
--- a head and the rest that are not wrong; with any good letter the head leaves what the rest says
+-- a head and the rest that are not wrong: each part is good, and with any good letter the head leaves what the rest says
 pub record HeadFine (h : ReplyHead) (rest : ℕ) : Type 0 where
   pub none : rest ≡ 0
+  pub program : isRaw (h .program) ≡ true
+  pub mode : isRaw (h .mode) ≡ true
   pub status : isStatus (h .status) ≡ true
+  pub requester : isRequester (h .requester) ≡ true
+  pub number : upTo 99999 (h .number) ≡ true
+  pub bib : upTo 59999 (h .bib) ≡ true
+  pub group : upTo 199 (h .group) ≡ true
+  pub run : between (leastRun (h .status)) 250 (h .run) ≡ true
+  pub physical : upTo 999 (h .physical) ≡ true
+  pub channel : isReplyChannel (h .channel) ≡ true
+  pub letter : isLetter (h .information) ≡ true
   pub passes : (letter : ℕ) → isLetter letter ≡ true → (other : ℕ) → headWrong (lettered h letter) other ≡ other
 
 pub head-fine : (h : ReplyHead) (rest : ℕ) → headWrong h rest ≡ 0 → HeadFine h rest
@@ -178,7 +188,17 @@ head-fine h rest e =
     let letter = unless-none (isLetter (h .information)) 29 _ (omega arith) (channel .1) in
     record {
       none = letter .1;
+      program = program .0;
+      mode = mode .0;
       status = status .0;
+      requester = requester .0;
+      number = number .0;
+      bib = bib .0;
+      group = group .0;
+      run = run .0;
+      physical = physical .0;
+      channel = channel .0;
+      letter = letter .0;
       passes = λ letter good other. rw (program .0, mode .0, status .0, requester .0, number .0, bib .0, group .0, run .0, physical .0, channel .0, good);
     }
 
@@ -211,7 +231,7 @@ sees-tail s =
     (λ times. record { bib = orNone (numberAt s 12 5); group = orNone (numberAt s 17 3); run = orNone (numberAt s 20 3); physical = orNone (numberAt s 23 3); channel = orNone (numberAt s 26 3); information = getD s 29 0; times = times })
     (sees-timed (kindAt s) s) refl
 
-sees-reply : (s : List ℕ) → isAddress (getD s 2 0) ≡ true → Sees replyFields 2 s (replyByte (kindAt s) s) (wrongAt s) (replyAt s)
+pub sees-reply : (s : List ℕ) → isAddress (getD s 2 0) ≡ true → Sees replyFields 2 s (replyByte (kindAt s) s) (wrongAt s) (replyAt s)
 unfolding replyFields headWrong upTo lookedIn inClass digitFrom
 sees-reply s =
     sees-address (before-time s 2 refl refl)
@@ -294,7 +314,7 @@ module _ (r : StaticReply) (w b : ℕ) where
       go true = refl
       go false = refl
 
-fields-told : (s : List ℕ) (h : ReadVerdict) → h ≡ Read → verdictTold h ≡ headTold 18 51 s → tried (eqb (wrongAt s) 0) (FIELD (wrongAt s) (spoiledByte s)) (gives (replyAt s)) ≡ read reply s
+pub fields-told : (s : List ℕ) (h : ReadVerdict) → h ≡ Read → verdictTold h ≡ headTold 18 51 s → tried (eqb (wrongAt s) 0) (FIELD (wrongAt s) (spoiledByte s)) (gives (replyAt s)) ≡ read reply s
 fields-told s h is e = K.read-fields reply s (replyByte (kindAt s) s) (wrongAt s) (replyAt s) (sees-reply s) h _ is e refl
 
 pub read-as : (s : List ℕ) (h : ReadVerdict) (a : ReplyRead) → h ≡ Read → verdictTold h ≡ headTold 18 51 s → a ≡ fieldsRead s → ReadAs s a

@@ -1,9 +1,9 @@
 -- The static reply: 51 bytes, lead byte DC2.
-use Prim.Native.Nat.{ℕ}
+use Prim.Native.Nat.{ℕ, _+_, _*_, _%_}
 use mathlib.Core.List.{List}
 use mathlib.Core.Path.{_≡_}
-use mathlib.Core.Bool.{Bool, cond, _||_}
-use lib.ListN.{length, replicate}
+use mathlib.Core.Bool.{Bool, true, false, cond, _||_}
+use lib.ListN.{length, getD, replicate}
 use lib.Dec.{leb, eqb}
 use Rattle.digits.specs.Text.{codes, oneOf}
 use Rattle.digits.specs.Told.{Told, gives, refuses}
@@ -138,3 +138,28 @@ checkTold (Rejected f) = refuses (readRefused f)
 -- what is promised of checking s
 abbrev pub CheckedAs : List ℕ → ReplyCheck → Type 0
 CheckedAs s a = checkTold a ≡ labelled (read reply s)
+
+-- ---- the check alone
+
+-- whether the reader gives a record
+abbrev pub isGood : Told StaticReply → Bool
+isGood (gives r) = true
+isGood (refuses f) = false
+
+-- the low half of the byte at a place; of a digit it is the value
+abbrev pub digitAt : List ℕ → ℕ → ℕ
+digitAt s at = getD s at 0 % 16
+
+-- the label by the bytes alone, whether the frame is good or not
+unfoldable pub labelAt : List ℕ → ReplyLabel
+labelAt s =
+    record {
+      status = getD s 5 0;
+      address = getD s 2 0;
+      requester = getD s 6 0;
+      number = digitAt s 7 * 10000 + digitAt s 8 * 1000 + digitAt s 9 * 100 + digitAt s 10 * 10 + digitAt s 11;
+    }
+
+-- of a good reply it is the label that the reader gives
+abbrev pub LabelIsRead : Type 0
+LabelIsRead = (s : List ℕ) (r : StaticReply) → read reply s ≡ gives r → labelAt s ≡ labelOf r

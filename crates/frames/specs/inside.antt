@@ -3,3 +3,4 @@ pub mod Held
 pub mod Timing
 pub mod Spoiled
 pub mod Reply
+pub mod Check

@@ -1,4 +1,5 @@
 // Frames: reading and writing each kind, with a module for each.
+pub mod check;
 pub mod dynamic;
 mod fields;
 mod head;

@@ -377,25 +377,28 @@ fn head_wrong(h: ReplyHead, rest: u8) -> u8
     wrong_unless(is_raw(h.program), field::PROGRAM, wrong)
 }
 
-fn is_status(b: u8) -> bool
+pub(crate) fn is_status(b: u8) -> bool
     ensures { λ r. ⌜ r ≡ isStatus b ⌝ }
 {
     (b == STATUS_R) | (b == STATUS_E) | (b == STATUS_Z)
 }
 
-fn is_letter(b: u8) -> bool
+pub(crate) fn is_letter(b: u8) -> bool
     ensures { λ r. ⌜ r ≡ isLetter b ⌝ }
 {
     in_set(LETTERS_LOW, LETTERS_HIGH, b)
 }
 
-fn is_reply_channel(v: u32) -> bool
+pub(crate) fn is_reply_channel(v: u32) -> bool
     ensures { λ r. ⌜ r ≡ isReplyChannel v ⌝ }
 {
-    (v <= 240) | (v == 245) | (v == 248) | (v == 249) | (v == 250) | (v == 255)
+    if v <= 240 {
+        return true;
+    }
+    (v == 245) | (v == 248) | (v == 249) | (v == 250) | (v == 255)
 }
 
-fn least_run(status: u8) -> u32
+pub(crate) fn least_run(status: u8) -> u32
     ensures { λ r. ⌜ r ≡ leastRun status ⌝ }
 {
     if status == STATUS_Z { 0 } else { 1 }

@@ -3,8 +3,8 @@
 use mathlib.Core.Path.{_≡_, refl, sym, subst, _∙_}
 use mathlib.Core.Bool.{false}
 use mathlib.Core.List.{List, []}
-use Prim.Native.Nat.{ℕ}
-use lib.ListN.{length}
+use Prim.Native.Nat.{ℕ, _<_}
+use lib.ListN.{length, set}
 use lib.Dec.{eqb}
 use Rattle.digits.specs.Refusals.{DESK}
 use Rattle.digits.specs.Told.{refuses}
@@ -18,6 +18,7 @@ use Rattle.desk.proofs.KeepsLaws.{keeps-memory}
 use Rattle.rei2.specs.declared.lent.DeskAnswer.{DeskAnswer}
 use Rattle.rei2.specs.declared.lent.CapturedAnswer.{CapturedAnswer}
 use Rattle.rei2.specs.declared.lent.Out.{Out}
+use Rattle.rei2.specs.declared.lent.One.{One}
 use Rattle.rei2.specs.declared.lent.Captured.{Captured}
 use Rattle.rei2.specs.Lent.{deskAnswer, captureAnswer, LentCall, ResetLent, OpenLent, ReplyLent, CaptureLent}
 use Rattle.rei2.specs.inside.Core.{outOf, CoreReset, CoreOpen, CoreReply, CoreCapture}
@@ -79,8 +80,11 @@ module _ (v-seats : List Seat) (v-desk : Desk) where
   refused-reset e cells marks = rw e (record { answer = refl; seats = refl; cells = refl; marks = refl })
 
   module _ (v-cells v-marks v-frame : List ℕ) where
-    pub done-open : (r : Out) → CoreOpen v-seats v-desk v-cells v-marks v-frame r → OpenLent v-seats v-desk v-cells v-marks v-frame (r .answer) (r .row)
-    done-open r e = record { answer = λ i. e i .answer; seats = λ i. e i .row; cells = sym (keeps-memory .opening-cells _ v-frame); marks = sym (keeps-memory .opening-marks _ v-frame) }
+    pub below-open : (r : One) → CoreOpen v-seats v-desk v-cells v-marks v-frame r → r .at < seatCount
+    below-open r e = e .below
+
+    pub done-open : (r : One) → CoreOpen v-seats v-desk v-cells v-marks v-frame r → OpenLent v-seats v-desk v-cells v-marks v-frame (r .answer) (set v-seats (r .at) (r .seat))
+    done-open r e = record { answer = e .answer; seats = e .seats; cells = sym (keeps-memory .opening-cells _ v-frame); marks = sym (keeps-memory .opening-marks _ v-frame) }
 
     pub refused-open : eqb (length v-seats) seatCount ≡ false → OpenLent v-seats v-desk v-cells v-marks v-frame (refusal-open v-desk) v-seats
     refused-open e =
@@ -88,8 +92,11 @@ module _ (v-seats : List Seat) (v-desk : Desk) where
         subst (λ (o : Outcome). LentCall o (refusal-open v-desk) v-seats v-cells v-marks) (sym (not-opened m v-frame (no-desk m e)))
         (record { answer = refl; seats = refl; cells = refl; marks = refl })
 
-    pub done-reply : (r : Out) (cells′ marks′ : List ℕ) → CoreReply v-seats v-desk v-cells v-marks v-frame r cells′ marks′ → ReplyLent v-seats v-desk v-cells v-marks v-frame (r .answer) (r .row) cells′ marks′
-    done-reply r cells′ marks′ e = record { answer = λ i. e .0 i .answer; seats = λ i. e .0 i .row; cells = e .1 .0; marks = e .1 .1 }
+    pub below-reply : (r : One) (cells′ marks′ : List ℕ) → CoreReply v-seats v-desk v-cells v-marks v-frame r cells′ marks′ → r .at < seatCount
+    below-reply r cells′ marks′ e = e .0 .below
+
+    pub done-reply : (r : One) (cells′ marks′ : List ℕ) → CoreReply v-seats v-desk v-cells v-marks v-frame r cells′ marks′ → ReplyLent v-seats v-desk v-cells v-marks v-frame (r .answer) (set v-seats (r .at) (r .seat)) cells′ marks′
+    done-reply r cells′ marks′ e = record { answer = e .0 .answer; seats = e .0 .seats; cells = e .1 .0; marks = e .1 .1 }
 
     pub refused-reply : eqb (length v-seats) seatCount ≡ false → ReplyLent v-seats v-desk v-cells v-marks v-frame (refusal-reply v-desk) v-seats v-cells v-marks
     refused-reply e =

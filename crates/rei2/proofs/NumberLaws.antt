@@ -1,8 +1,8 @@
 -- From the answers of the other crates' calls to the numbers of the host's answers. Assumes nothing.
 use mathlib.Core.Path.{_≡_, ap}
 use mathlib.Core.List.{List, []}
-use Prim.Native.Nat.{ℕ}
-use lib.ListN.{length}
+use Prim.Native.Nat.{ℕ, _<_}
+use lib.ListN.{length, set}
 use borrow.Author.Tests.{eq-eqb}
 use Rattle.digits.specs.Told.{Told, gives}
 use Rattle.frames.specs.Refusals.{readRefused}
@@ -19,10 +19,11 @@ use Rattle.desk.specs.Memory.{Memory, memory}
 use Rattle.desk.specs.Calls.{Outcome, Did, resets, emptyRow, emptyState}
 use Rattle.desk.specs.Capture.{captureTold, captures, TookCapture}
 use Rattle.rei2.specs.declared.lent.Out.{Out}
+use Rattle.rei2.specs.declared.lent.One.{One}
 use Rattle.rei2.specs.declared.lent.Captured.{Captured}
 use Rattle.rei2.specs.declared.reply.ReplyAnswer.{ReplyAnswer}
 use Rattle.rei2.specs.Lent.{stateIn, deskAnswer, captureAnswer}
-use Rattle.rei2.specs.inside.Core.{outOf}
+use Rattle.rei2.specs.inside.Core.{outOf, OneSeat}
 use Rattle.rei2.specs.Reply.{shown, replyAnswer}
 
 -- ---- the reply
@@ -37,8 +38,9 @@ module _ (s : List ℕ) (a : ReplyRead) (h : ReadAs s a) where
 
 -- ---- the calls by value
 
-pub out-is : (t : Told ℕ) (m : Memory) (o : Outcome) → Did t m o → _≡_ {A = Out} (record { row = m .row; answer = deskAnswer (stateIn m) t }) (outOf o)
-out-is t m o d = λ i. record { row = d .memory i .row; answer = deskAnswer (stateIn (d .memory i)) (d .answer i) }
+pub one-seat-is : (row : List Seat) (d : Desk) (cells marks : List ℕ) (at : ℕ) (s : Seat) (t : Told ℕ) (o : Outcome) → at < seatCount → Did t (memory d (set row at s) cells marks) o
+    → OneSeat row o (record { at = at; seat = s; answer = deskAnswer d t })
+one-seat-is row d cells marks at s t o l h = record { answer = λ i. deskAnswer (stateIn (h .memory i)) (h .answer i); below = l; seats = λ i. h .memory i .row }
 
 pub captured-is : (m m′ : Memory) (s : List ℕ) (a : CaptureAnswer) → TookCapture m s a m′
     → _≡_ {A = Captured} (record { row = m′ .row; answer = captureAnswer (stateIn m′) (captureTold a) })

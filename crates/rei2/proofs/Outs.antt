@@ -1,4 +1,4 @@
--- What a call by value returns, taken apart: its row is an array of seats, and its answer an answer, with the machine values that they have. Assumes nothing.
+-- What a call by value returns, taken apart: its row is an array of seats, its seat a seat, and its answer an answer, with the machine values that they have. Assumes nothing.
 use mathlib.Core.Path.{sym, subst, _∙_}
 use mathlib.Core.List.{[], _∷_, List, map}
 use Prim.Native.Nat.{ℕ}
@@ -19,6 +19,9 @@ use Rattle.rei2.proofs.lent.CapturedAnswer.Laws as CapturedAnswerL
 use Rattle.rei2.specs.declared.lent.Out.{Out}
 use Rattle.rei2.proofs.lent.Out as OutD
 use Rattle.rei2.proofs.lent.Out.Laws as OutL
+use Rattle.rei2.specs.declared.lent.One.{One}
+use Rattle.rei2.proofs.lent.One as OneD
+use Rattle.rei2.proofs.lent.One.Laws as OneL
 use Rattle.rei2.specs.declared.lent.Captured.{Captured}
 use Rattle.rei2.proofs.lent.Captured as CapturedD
 use Rattle.rei2.proofs.lent.Captured.Laws as CapturedL
@@ -43,6 +46,17 @@ module _ (r : Out) (vs : List Val) (is : Is OutD.the-row r vs) where
   pub out-answer-is : Is DeskAnswerD.the-row (r .answer) (DeskAnswerL.lowered (r .answer) ∷ [])
   out-answer-is =
       let p : Is DeskAnswerD.the-row (r .answer) _ = LL.owed OutD.the-type OutL.the-laws r vs is .1 .0 in
+      subst (Is DeskAnswerD.the-row (r .answer)) (DeskAnswerL.lowers .val-is (r .answer) _ p) p
+
+module _ (r : One) (vs : List Val) (is : Is OneD.the-row r vs) where
+  pub one-seat-is : Is SeatD.the-row (r .seat) (spell (r .seat))
+  one-seat-is =
+      let p : Is SeatD.the-row (r .seat) _ = LL.owed OneD.the-type OneL.the-laws r vs is .1 .0 in
+      subst (Is SeatD.the-row (r .seat)) (LL.tells SeatD.the-type SeatL.the-laws (r .seat) _ p) p
+
+  pub one-answer-is : Is DeskAnswerD.the-row (r .answer) (DeskAnswerL.lowered (r .answer) ∷ [])
+  one-answer-is =
+      let p : Is DeskAnswerD.the-row (r .answer) _ = LL.owed OneD.the-type OneL.the-laws r vs is .1 .1 .0 in
       subst (Is DeskAnswerD.the-row (r .answer)) (DeskAnswerL.lowers .val-is (r .answer) _ p) p
 
 module _ (r : Captured) (vs : List Val) (is : Is CapturedD.the-row r vs) where

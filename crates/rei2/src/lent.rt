@@ -1,20 +1,22 @@
-// The desk's calls on a row that a host lends: the row is loaded, the call by value is made, and the row is stored back.
+// The desk's calls on a row that a host lends: the row is loaded, the call by value is made, and what it changed is stored back: the
+// whole row, or one seat.
 use desk::capture::CaptureAnswer;
 use desk::capture::Counts;
 use desk::capture::take_capture;
 use desk::limits::SEATS;
 use desk::opening::OpenAnswer;
 use desk::opening::of_opening;
-use desk::opening::open;
+use desk::opening::open_step;
 use desk::reply::ReplyAnswer;
 use desk::reply::of_reply;
-use desk::reply::reply;
+use desk::reply::reply_step;
 use desk::state::Desk;
 use desk::state::Seat;
 use desk::state::reset;
 use digits::refusal as table;
 ghost use mathlib.Core.Path.{_≡_};
-ghost use lib.ListN.{length};
+ghost use Prim.Native.Nat.{_<_};
+ghost use lib.ListN.{length, set};
 ghost use Rattle.digits.specs.Refusals.{DESK};
 ghost use Rattle.digits.specs.Told.{refuses};
 ghost use Rattle.desk.specs.Limits.{seatCount};
@@ -52,6 +54,13 @@ pub(crate) struct Captured {
     pub answer: CapturedAnswer,
 }
 
+// The same for a call that changes at most one seat: the seat to store, and its place.
+pub(crate) struct One {
+    pub at: usize,
+    pub seat: Seat,
+    pub answer: DeskAnswer,
+}
+
 // ---- loading and storing the row
 
 pub(crate) fn load(s: &[Seat]) -> [Seat; SEATS]
@@ -76,6 +85,13 @@ pub(crate) fn store(s: &mut [Seat], row: [Seat; SEATS])
         s[i] = row[i];
         i += 1;
     }
+}
+
+pub(crate) fn put_seat(s: &mut [Seat], at: usize, seat: Seat)
+    requires { ⌜ at < length (now s) ⌝ }
+    ensures { λ _. ⌜ now (s .exit) ≡ set (now (s .entry)) at seat ⌝ }
+{
+    s[at] = seat;
 }
 
 // ---- answers in numbers
@@ -189,38 +205,48 @@ pub(crate) fn reset_row(row: [Seat; SEATS], desk: Desk) -> Out
     }
 }
 
-pub(crate) fn open_row(
+pub(crate) fn open_seat(
     row: [Seat; SEATS],
     desk: Desk,
     cells: &[u8],
     marks: &[u32],
     frame: &[u8],
-) -> Out
+) -> One
     ensures { λ r. ⌜ CoreOpen row desk (now (cells .entry)) (now (marks .entry)) (now (frame .entry)) r ⌝ }
 {
-    let done = open(desk, row, cells, marks, frame);
-    let after = done.desk;
-    let answer = done.answer;
+    let opened = open_step(desk, row, cells, marks, frame);
+    let after = opened.desk;
+    let answer = opened.answer;
     let said = open_answer(after, answer);
-    let row = done.row;
-    Out { row, answer: said }
+    let at = opened.at;
+    let seat = opened.seat;
+    One {
+        at,
+        seat,
+        answer: said,
+    }
 }
 
-pub(crate) fn reply_row(
+pub(crate) fn reply_seat(
     row: [Seat; SEATS],
     desk: Desk,
     cells: &mut [u8],
     marks: &mut [u32],
     frame: &[u8],
-) -> Out
+) -> One
     ensures { λ r. ⌜ CoreReply row desk (now (cells .entry)) (now (marks .entry)) (now (frame .entry)) r (now (cells .exit)) (now (marks .exit)) ⌝ }
 {
-    let done = reply(desk, row, cells, marks, frame);
-    let after = done.desk;
-    let answer = done.answer;
+    let taken = reply_step(desk, row, cells, marks, frame);
+    let after = taken.desk;
+    let answer = taken.answer;
     let said = reply_answer(after, answer);
-    let row = done.row;
-    Out { row, answer: said }
+    let at = taken.at;
+    let seat = taken.seat;
+    One {
+        at,
+        seat,
+        answer: said,
+    }
 }
 
 pub(crate) fn capture_row(
@@ -269,8 +295,8 @@ pub extern "C" fn rei2_open(
         return no_desk(desk);
     }
     let row = load(seats);
-    let out = open_row(row, desk, cells, marks, frame);
-    store(seats, out.row);
+    let out = open_seat(row, desk, cells, marks, frame);
+    put_seat(seats, out.at, out.seat);
     out.answer
 }
 
@@ -288,8 +314,8 @@ pub extern "C" fn rei2_reply(
         return no_desk(desk);
     }
     let row = load(seats);
-    let out = reply_row(row, desk, cells, marks, frame);
-    store(seats, out.row);
+    let out = reply_seat(row, desk, cells, marks, frame);
+    put_seat(seats, out.at, out.seat);
     out.answer
 }
 

@@ -81,7 +81,7 @@ fn tells(p: &Param) -> String {
     }
 }
 
-/// What is owned of the parameters at exit, and the contracts of the functions that it calls, but for load and store.
+/// What is owned of the parameters at exit, and the contracts of the functions that it calls, but for load, store and put_seat.
 fn contracts(c: &Call) -> String {
     let contract = |name: &str, of: &str| {
         let value = format!("tripleOf 𝓤 H A {of}.signature ({of}.spec 𝓤 H A at-mem run)");

@@ -5,8 +5,8 @@
 //! Exit status: 0 if it wrote the files or they are as it would write them, 1 if a file differs, 2 if it could not be run.
 //!
 //! The prover does not walk a function that takes a slice of structs, so this program writes the walks of such calls. They
-//! differ only in the calls' parameters and in whether something is tested before the row. A call is read from the source
-//! and must have exactly this form:
+//! differ only in the calls' parameters, in whether something is tested before the row, and in whether the whole row is
+//! stored or one seat. A call is read from the source and must have exactly this form:
 //!
 //! ```text
 //! pub extern "C" fn F(seats: &mut [Seat], desk: Desk, cells: &mut [u8], text: &[u8], seat: u32, ..) -> Answer
@@ -21,7 +21,7 @@
 //!     }
 //!     let row = load(seats);
 //!     let out = CORE(row, desk, cells, text, seat);    the parameters in their order, row for seats
-//!     store(seats, out.row);
+//!     store(seats, out.row);                      or: put_seat(seats, out.at, out.seat);
 //!     out.answer
 //! }
 //! ```
@@ -37,14 +37,16 @@
 //! All functions that it calls stand in the module. REFUSER and EARLY take the same struct. TESTER takes some of the
 //! parameters in their order, none that is `&mut`, and returns a `u32`. CORE ensures CoreX (each parameter at entry) r (each
 //! other `&mut` parameter at exit), REFUSER ensures r ≡ refusal-x desk, TESTER ensures TestX (each parameter that it takes,
-//! at entry) r, and EARLY ensures r ≡ early-refusal-x desk n.
+//! at entry) r, and EARLY ensures r ≡ early-refusal-x desk n. CORE returns a struct of row and answer or, for `put_seat`, of
+//! at, seat and answer, in this order.
 //!
 //! The crate's proofs/LentLaws has `refusal-x`, `early-refusal-x` and these laws, where x is X in lower case. Those about an
-//! early test are only needed if there is one, and only then do the first two take TestX:
+//! early test are only needed if there is one, and only then do the others take TestX:
 //!
 //! ```text
-//! done-x     (each parameter) → TestX .. 0 → (r : Out) (each other `&mut` at exit) → CoreX ..
-//!            → XLent .. (r .answer) (each `&mut` at exit, (r .row) for seats)
+//! done-x     (each parameter) → TestX .. 0 → (r : what CORE returns) (each other `&mut` at exit) → CoreX ..
+//!            → XLent .. (r .answer) (each `&mut` at exit; for seats (r .row), or set seats (r .at) (r .seat))
+//! below-x    only for `put_seat`; with the premises of done-x: r .at < seatCount
 //! refused-x  (each parameter) → TestX .. 0 → eqb (length seats) seatCount ≡ false
 //!            → XLent .. (refusal-x desk) (each `&mut` parameter as it was)
 //! early-x    (each parameter) (n : ℕ) → TestX .. n → eqb n 0 ≡ false

@@ -25,6 +25,8 @@ pub struct Call {
     /// The call by value, and the struct that it returns.
     pub core: String,
     pub made: String,
+    /// What it stores in the row after the call by value.
+    pub stored: Stored,
     /// The structs that the call names, sorted by name, and where they are declared.
     pub homes: Vec<(String, Home)>,
 }
@@ -35,6 +37,15 @@ pub struct Early {
     pub tester: String,
     takes: Vec<usize>,
     pub answerer: String,
+}
+
+/// What a call stores in the row.
+#[derive(Clone, Copy, Debug, PartialEq)]
+pub enum Stored {
+    /// All seats: the call by value returns `row` and `answer`.
+    Row,
+    /// One seat: the call by value returns `at`, `seat` and `answer`.
+    Seat,
 }
 
 impl Call {
@@ -171,6 +182,7 @@ impl Source<'_> {
             state: form.state,
             core: form.core.to_string(),
             made: made.to_string(),
+            stored: form.stored,
         })
     }
 
@@ -252,6 +264,7 @@ struct Form<'a> {
     core: &'a str,
     /// The arguments of the core.
     handed: Vec<String>,
+    stored: Stored,
 }
 
 /// The parts of an early test: the function that tests, its arguments, and the function that answers.
@@ -290,7 +303,9 @@ impl<'a> Form<'a> {
         reader.all(&format!(") ; }} let row = load ( {seats} ) ; let out ="))?;
         let core = reader.word()?;
         let handed = reader.handed()?;
-        reader.all(&format!("; store ( {seats} , out . row ) ; out . answer }}"))?;
+        reader.all(";")?;
+        let stored = Stored::read(reader, seats)?;
+        reader.all("; out . answer }")?;
         let row = params.iter_mut().find(|p| p.name == seats && p.kind == Kind::Slice(Loan::Mut) && p.of == SEAT)?;
         row.is_seats = true;
         let same_state = early_state.is_none_or(|early| early == state);
@@ -300,7 +315,20 @@ impl<'a> Form<'a> {
         if params.iter().any(hidden) {
             return None;
         }
-        Some(Form { params, result, kind, early, refuser, state, core, handed })
+        Some(Form { params, result, kind, early, refuser, state, core, handed, stored })
+    }
+}
+
+impl Stored {
+    /// Reads the call that stores in the row `seats`.
+    fn read(reader: &mut Reader, seats: &str) -> Option<Stored> {
+        let (stored, handed) = match reader.word()? {
+            "store" => (Stored::Row, "out . row"),
+            "put_seat" => (Stored::Seat, "out . at , out . seat"),
+            _ => return None,
+        };
+        reader.all(&format!("( {seats} , {handed} )"))?;
+        Some(stored)
     }
 }
 

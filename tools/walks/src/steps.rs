@@ -3,7 +3,7 @@
 mod early;
 
 use crate::param::{lawful, Loan, Param};
-use crate::source::Call;
+use crate::source::{Call, Stored};
 use crate::text::{joined, product, spaced, step};
 use crate::walk::{copy, field, local, operands, Walk};
 use std::collections::BTreeMap;
@@ -436,18 +436,29 @@ impl Steps<'_> {
         w.say(&format!("rewrite ! {place} {cell} (ap only ({made}L.lowers .val-is r (w ∷ []) is)) refl $"));
     }
 
-    /// Stores the row.
+    /// Stores the row, or the seat that changed.
     fn stores(&mut self) {
         let Steps { c, w, at } = self;
         let s = c.seats();
-        w.line("-- the row is stored");
+        let (noun, fields) = match c.stored {
+            Stored::Row => ("row", 0..1),
+            Stored::Seat => ("seat", 0..2),
+        };
+        w.line(&format!("-- the {noun} is stored"));
         w.reborrow(at.of(s), at.again, &s.typed());
         w.line("");
         w.front(&[&own(s), &token(s)]);
         // when the operands are read, there is one item less before the locals
-        let handed = operands(&[copy(w.cell(at.again.1) - 1), field(w.cell(at.out) - 1, 0)]);
-        let row_is = is_part(c, "row");
-        w.line(&format!("stores {} (r .row) {row_is} ! fm known-store (λ i. {handed}) $", lent_seats(s)));
+        let parts = fields.map(|part| field(w.cell(at.out) - 1, part));
+        let handed: Vec<String> = [copy(w.cell(at.again.1) - 1)].into_iter().chain(parts).collect();
+        let (lent, handed, is) = (lent_seats(s), operands(&handed), is_part(c, noun));
+        w.line(&match c.stored {
+            Stored::Row => format!("stores {lent} (r .row) {is} ! fm known-store (λ i. {handed}) $"),
+            Stored::Seat => {
+                let below = of_core(c, "below");
+                format!("puts {lent} (r .at) (r .seat) {below} {is} ! fm known-put (λ i. {handed}) $")
+            }
+        });
         w.rename(&format!("final {}", s.name));
         w.lands(at.unit, "(tt, tt)");
     }
@@ -456,18 +467,20 @@ impl Steps<'_> {
     fn returns(&mut self) {
         let Steps { c, w, at } = self;
         let answer_is = is_part(c, "answer");
-        let answer = field(w.cell(at.out), 1);
+        let answer = field(w.cell(at.out), if c.stored == Stored::Row { 1 } else { 2 });
         w.assign(0, &format!("(of-opd ! {answer})"), &lawful(&c.result, "(r .answer)", &answer_is));
         w.line(&format!("returns ! (look ! {} refl) $", w.cell(0)));
         w.free();
         w.line("");
         gathers(c, w);
-        let finals = spaced(&c.muts(), |p| if p.is_seats { "(r .row)".to_string() } else { last(p) });
-        let row_length = format!("({} .1 .0 .1 ∙ sym full)", is_part(c, "row"));
+        let v = &c.seats().v;
+        let (row, row_length) = match c.stored {
+            Stored::Row => ("(r .row)".to_string(), format!("({} .1 .0 .1 ∙ sym full)", is_part(c, "row"))),
+            Stored::Seat => (format!("(set {v} (r .at) (r .seat))"), format!("(length-set {v} (r .at) (r .seat))")),
+        };
+        let finals = spaced(&c.muts(), |p| if p.is_seats { row.clone() } else { last(p) });
         let lengths = spaced(&c.mut_slices(), |p| if p.is_seats { &row_length } else { &p.len }.clone());
-        let (values, lasts) = (spaced(&c.params, |p| p.v.clone()), spaced(&c.core_muts(), |p| last(p)));
-        let passed = if c.early.is_some() { "passed" } else { "" };
-        let said = format!("(done-{} {values} {passed} r {lasts} e)", c.law());
+        let said = of_core(c, "done");
         w.ends(&format!("by ! (exits (r .answer) _ {finals} {lengths} {answer_is} {said})"), 0);
     }
 }
@@ -525,6 +538,13 @@ fn tokens(refs: &[&Param]) -> String {
 /// The proof that a field of the struct that the core returned is in its row.
 fn is_part(c: &Call, field: &str) -> String {
     format!("({}-{field}-is r (w ∷ []) is)", c.out())
+}
+
+/// What a law of the crate says of what the core ensures.
+fn of_core(c: &Call, law: &str) -> String {
+    let (values, lasts) = (spaced(&c.params, |p| p.v.clone()), spaced(&c.core_muts(), |p| last(p)));
+    let passed = if c.early.is_some() { "passed" } else { "" };
+    format!("({law}-{} {values} {passed} r {lasts} e)", c.law())
 }
 
 /// The arguments about the seats for the load and the store.

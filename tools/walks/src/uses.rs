@@ -1,7 +1,7 @@
 //! The `use` lines of a proof.
 
 use crate::param::{Kind, Loan, Param};
-use crate::source::{Call, Early};
+use crate::source::{Call, Early, Stored};
 use crate::text::joined;
 use std::collections::{BTreeMap, BTreeSet};
 
@@ -64,10 +64,17 @@ const EARLY: [(&str, &str); 6] = [
     ("types.Run", "store"),
 ];
 
+/// The names of the kit that a call needs that stores one seat, each with its module.
+const SEAT: [(&str, &str); 2] = [("lib.ListN", "length-set"), ("lib.ListN", "set")];
+
 /// The functions that a call calls, in their order: the name of each in the proof, and its own name.
 pub fn callees(c: &Call) -> Vec<(&str, &str)> {
     let early = c.early.iter().flat_map(|early| [("tested", early.tester.as_str()), ("early", &early.answerer)]);
-    early.chain([("refused", c.refuser.as_str()), ("load", "load"), ("core", &c.core), ("store", "store")]).collect()
+    let stored = match c.stored {
+        Stored::Row => ("store", "store"),
+        Stored::Seat => ("put", "put_seat"),
+    };
+    early.chain([("refused", c.refuser.as_str()), ("load", "load"), ("core", &c.core), stored]).collect()
 }
 
 /// All `use` lines of a call's proof.
@@ -89,7 +96,8 @@ pub fn uses(c: &Call) -> String {
 /// The `use` lines for names of the kit that only some calls need.
 fn of_kit(c: &Call) -> String {
     let early = if c.early.is_some() { &EARLY[..] } else { &[] };
-    let all = c.params.iter().flat_map(for_param).chain(early.iter().copied());
+    let seat = if c.stored == Stored::Seat { &SEAT[..] } else { &[] };
+    let all = c.params.iter().flat_map(for_param).chain([early, seat].concat());
     let mut names: BTreeMap<&str, BTreeSet<&str>> = BTreeMap::new();
     for (module, name) in all.filter(|(module, name)| !in_head(module, name)) {
         names.entry(module).or_default().insert(name);
@@ -140,6 +148,10 @@ fn of_crate(c: &Call) -> String {
     let Call { crate_name, module, kind, refuser, core, .. } = c;
     let (specs, proofs) = (format!("Rattle.{crate_name}.specs"), format!("Rattle.{crate_name}.proofs"));
     let (law, out) = (c.law(), c.out());
+    let (steps, part, below) = match c.stored {
+        Stored::Row => ("Store, loads, stores", "row", String::new()),
+        Stored::Seat => ("Put, loads, puts", "seat", format!("below-{law}, ")),
+    };
     let early = |text: String| if c.early.is_some() { text } else { String::new() };
     let (test, laws) = (early(format!(", Test{kind}")), early(format!(", early-refusal-{law}, early-{law}")));
     let aliases = c.early.iter().map(|Early { tester, answerer, .. }| {
@@ -148,9 +160,9 @@ fn of_crate(c: &Call) -> String {
     [
         format!("use {specs}.Lent.{{{kind}Lent}}\nuse {specs}.inside.Core.{{Core{kind}{test}}}\n"),
         format!("use {proofs}.Rows.{{guards, is-true, is-false}}\nuse {proofs}.Views.{{gives-up}}\n"),
-        format!("use {proofs}.Steps.{{rowVal, Load, Store, loads, stores}}\n"),
-        format!("use {proofs}.Outs.{{{out}-row-is, {out}-answer-is}}\n"),
-        format!("use {proofs}.LentLaws.{{refusal-{law}, done-{law}, refused-{law}{laws}}}\n"),
+        format!("use {proofs}.Steps.{{rowVal, Load, {steps}}}\n"),
+        format!("use {proofs}.Outs.{{{out}-{part}-is, {out}-answer-is}}\n"),
+        format!("use {proofs}.LentLaws.{{refusal-{law}, {below}done-{law}, refused-{law}{laws}}}\n"),
         aliases.collect(),
         format!("use {proofs}.{module}.{refuser} as refuser\nuse {proofs}.{module}.{core} as core\n"),
     ]

@@ -522,6 +522,67 @@ fn what_is_tested_is_handed_over_and_put_together_again() {
     );
 }
 
+/// The call that stores the row, and the one that stores one seat.
+const STORE: &str = "store(seats, out.row);";
+const PUT: &str = "put_seat(seats, out.at, out.seat);";
+
+/// The module in which `rei2_take` stores one seat.
+fn with_seat() -> String {
+    replaced(MODULE, "frame: &[u8]) -> Out {}", "frame: &[u8]) -> One {}").replacen(STORE, PUT, 1)
+}
+
+#[test]
+fn one_seat_is_stored() {
+    let proof = written(&with_seat(), "rei2_take");
+    stand(
+        &proof,
+        1,
+        &[
+            "use lib.ListN.{length-set, set}\n",
+            "use Rattle.rei2.specs.declared.lent.One.{One}\n",
+            "use Rattle.rei2.proofs.Steps.{rowVal, Load, Put, loads, puts}\n",
+            "use Rattle.rei2.proofs.Outs.{one-seat-is, one-answer-is}\n",
+            "use Rattle.rei2.proofs.LentLaws.{refusal-take, below-take, done-take, refused-take}\n",
+            "use Rattle.rei2.proofs.lent.put_seat.Met as put-thm\n",
+            "-- the seat is stored\n",
+            "code.env #put put-def.routine code.calls-rei2·lent·put-seat (put-thm.met 𝓤 H 𝓜 𝓖 𝓡)",
+        ],
+    );
+    stand(&proof, 0, &["Out}", "OutD", "stores", "Store", "-store", "out-", ".row", "the row is stored"]);
+    // local 15 has the seats that are lent again, and local 6 what the call by value returned
+    let place = |text: &str| proof.split_once(text).and_then(|(_, rest)| rest.split(' ').next()?.parse().ok());
+    let again: usize = place(" ! fm known-put (λ i. (and-then ! (load ! (from ! (stop !)) (look ! ").expect("a place");
+    let out = |part: usize| {
+        let place = again + 2 * (15 - 6);
+        format!("(load ! (from ! (fld ! refl (stop !))) (look-in ! {place} (sub ! {part} refl (whole !))))")
+    };
+    in_order(
+        &proof,
+        &[
+            "puts 𝓤 H A W at-mem run κ-seats q-seats b-seats o-seats γ-seats v-seats room-seats full (r .at) (r .seat) ",
+            "(below-take v-seats v-desk v-cells v-frame r (zs .1 .1 .0) e) (one-seat-is r (w ∷ []) is) ! fm known-put ",
+            &format!("(and-then ! {} (and-then ! {} (no-more !)))", out(0), out(1)),
+            "(sub ! 2 refl (whole !))",
+            "by ! (exits (r .answer) _ (set v-seats (r .at) (r .seat)) (zs .1 .1 .0) (length-set v-seats (r .at) (r .seat)) ",
+            "len-cells (one-answer-is r (w ∷ []) is) (done-take v-seats v-desk v-cells v-frame r (zs .1 .1 .0) e))",
+        ],
+    );
+    // the other call stores the row
+    assert!(written(&with_seat(), "rei2_look") == written(MODULE, "rei2_look"));
+}
+
+#[test]
+fn one_seat_is_stored_after_an_early_test() {
+    let proof = written(&edited_page(STORE, PUT), "rei2_page");
+    let values = "v-seats v-desk v-tally v-cells v-line v-counts v-text v-seat v-whole passed r ";
+    stand(&proof, 1, &[&format!("(below-page {values}"), &format!("(done-page {values}")]);
+    stand(
+        &proof,
+        1,
+        &[".LentLaws.{refusal-page, below-page, done-page, refused-page, early-refusal-page, early-page}\n"],
+    );
+}
+
 #[test]
 fn the_locals_are_those_of_the_compiler() {
     let locals = |module: &str, call: &str| written(module, call).matches("alloc1 ! (λ l").count();
@@ -529,6 +590,8 @@ fn the_locals_are_those_of_the_compiler() {
     assert_eq!(locals(MODULE, "rei2_look"), 1 + 2 + 9);
     // and two for the cells
     assert_eq!(locals(MODULE, "rei2_take"), 1 + 4 + 9 + 2);
+    // and none for the parts of one seat
+    assert_eq!(locals(&with_seat(), "rei2_take"), 1 + 4 + 9 + 2);
     // and one for each array, and the number of the early test
     assert_eq!(locals(PAGE, "rei2_page"), 1 + 9 + 9 + 2 + 2 + 1);
 }
@@ -552,7 +615,9 @@ fn numbers_and_arrays_without_an_early_test() {
 
 #[test]
 fn parentheses_are_closed() {
-    for (module, call) in [(MODULE, "rei2_take"), (&with_numbers(), "rei2_look"), (PAGE, "rei2_page")] {
+    let calls =
+        [(MODULE, "rei2_take"), (&with_seat(), "rei2_take"), (&with_numbers(), "rei2_look"), (PAGE, "rei2_page")];
+    for (module, call) in calls {
         let proof = written(module, call);
         let depths = proof.chars().scan(0, |depth, c| {
             *depth += i32::from(c == '(') - i32::from(c == ')');
@@ -604,6 +669,30 @@ fn the_store_is_left_out_or_another() {
     has_no_form(&edited_look("    store(seats, out.row);\n", ""), "rei2_look");
     has_no_form(&edited_look("store(seats, out.row)", "store(seats, row)"), "rei2_look");
     has_no_form(&edited_look("store(seats, out.row)", "store(cells, out.row)"), "rei2_look");
+}
+
+#[test]
+fn one_seat_is_stored_in_another_way() {
+    for other in [
+        "put_seat(seats, out.seat, out.at);",
+        "put_seat(out.at, seats, out.seat);",
+        "put_seat(out.at, out.seat, seats);",
+        "put_seat(seats, out.at, out.answer);",
+        "put_seat(seats, 0, out.seat);",
+        "put_seat(seats, out.at);",
+        "put_seat(seats, out.at, out.seat, out.row);",
+        "put_seat(seats, out.row);",
+        "put_seat(cells, out.at, out.seat);",
+        "put_seat(row, out.at, out.seat);",
+        "store(seats, out.at, out.seat);",
+        "set_seat(seats, out.at, out.seat);",
+        "put_seat(seats, out.at, out.seat)",
+        "",
+    ] {
+        has_no_form(&replaced(&with_seat(), PUT, other), "rei2_take");
+    }
+    has_no_form(&replaced(&with_seat(), PUT, &[PUT, STORE].concat()), "rei2_take");
+    has_no_form(&replaced(&with_seat(), PUT, &[PUT, PUT].concat()), "rei2_take");
 }
 
 #[test]

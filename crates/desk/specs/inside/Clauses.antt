@@ -1,19 +1,24 @@
 -- The clauses of a desk, as the code computes them.
-use Prim.Native.Nat.{ℕ}
+use Prim.Native.Nat.{ℕ, _<_}
 use mathlib.Core.List.{List}
-use mathlib.Core.Bool.{Bool, true, cond, not, _&&_}
-use lib.ListN.{getD}
-use Rattle.digits.specs.Told.{Told}
+use mathlib.Core.Bool.{Bool, true, false, cond, _&&_}
+use mathlib.Core.Path.{_≡_}
+use lib.Dec.{eqb}
+use lib.ListN.{length, getD}
+use Rattle.digits.specs.Told.{Told, gives, refuses}
 use Rattle.frames.specs.declared.reply.ReplyLabel.{ReplyLabel}
 use Rattle.desk.specs.declared.state.Seat.{Seat}
 use Rattle.desk.specs.declared.step.Progress.{Progress}
 use Rattle.desk.specs.declared.clauses.Turn.{Turn}
-use Rattle.desk.specs.Key.{seatKey, isKey}
-use Rattle.desk.specs.Hearing.{hasKey, statusIn}
-use Rattle.desk.specs.Step.{advanced, step, none, goes}
-use Rattle.desk.specs.Seats.{seatAt, usedBit, keyed}
-use Rattle.desk.specs.Desk.{isZero}
-use Rattle.desk.specs.Replay.{agrees}
+use Rattle.desk.specs.Limits.{seatCount}
+use Rattle.desk.specs.Key.{keyIn, seatKey, isKey}
+use Rattle.desk.specs.Hearing.{heard, statusIn}
+use Rattle.desk.specs.Step.{advanced, step, goes}
+use Rattle.desk.specs.Memory.{cellAt, markAt}
+use Rattle.desk.specs.Seats.{seatAt, usedBit}
+use Rattle.desk.specs.Desk.{isZero, markGood}
+use Rattle.desk.specs.Replay.{replayed, takenAt}
+use Rattle.desk.specs.inside.Columns.{keyNumber}
 
 -- a used seat has a legal key, an unused one is all zero
 unfoldable pub seatGood : Seat → ℕ → ℕ → Bool
@@ -22,12 +27,21 @@ seatGood s bits i = cond (usedBit bits i) (isKey (seatKey s)) (isZero s)
 abbrev pub seatGoodAt : List Seat → ℕ → ℕ → Bool
 seatGoodAt row bits i = seatGood (seatAt row i) bits i
 
-unfoldable pub apart : Seat → Seat → ℕ → ℕ → ℕ → Bool
-apart a b bits i j = cond (usedBit bits i) (not (keyed b bits j (seatKey a))) true
+-- a well formed reply whose key is this number
+abbrev pub hasNumber : ℕ → Told ReplyLabel → Bool
+hasNumber key (gives l) = eqb key (keyNumber (keyIn l))
+hasNumber key (refuses f) = false
 
 -- one more row of a seat: good if it is a reply with the seat's key that the seat takes
-unfoldable pub turnOf : Progress → Seat → Told ReplyLabel → Turn
-turnOf p seat got = record { good = hasKey (seatKey seat) got && goes (step p true (statusIn got)); progress = advanced p (statusIn got) }
+unfoldable pub turnOf : Progress → ℕ → Told ReplyLabel → Turn
+turnOf p key got = record { good = hasNumber key got && goes (step p true (statusIn got)); progress = advanced p (statusIn got) }
 
-abbrev pub agreesAt : List Progress → List Seat → ℕ → ℕ → Bool
-agreesAt reached row bits i = agrees (getD reached i none) (seatAt row i) bits i
+-- row i, with the keys as a column
+abbrev pub rowTaken : List ℕ → ℕ → List ℕ → List ℕ → ℕ → Bool
+rowTaken keys bits cells marks i = markGood bits marks i && (hasNumber (getD keys (markAt marks i) 0) (heard (cellAt cells i)) && takenAt cells marks i)
+
+-- the columns are what the first n rows bring each seat to
+pub record Tracks (cells marks : List ℕ) (n : ℕ) (held ended : List ℕ) : Type 0 where
+  pub held-size : length held ≡ seatCount
+  pub ended-size : length ended ≡ seatCount
+  pub each : (s : ℕ) → s < seatCount → _≡_ {A = Progress} (record { held = getD held s 0; ended = getD ended s 0 }) (replayed cells marks s n)

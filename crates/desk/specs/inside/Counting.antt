@@ -1,21 +1,21 @@
 -- A frame of a capture: given to the desk, and counted.
-use Prim.Native.Nat.{ℕ, _+_, _<_}
-use mathlib.Core.List.{List}
+use Prim.Native.Nat.{_+_}
 use mathlib.Core.Path.{_≡_}
-use lib.ListN.{set}
-use Rattle.desk.specs.declared.state.Seat.{Seat}
 use Rattle.desk.specs.declared.capture.Fate.{Fate}
 use Rattle.desk.specs.declared.capture.Fate.the-variants.{Opened, Collected, Dynamic, Refused}
 use Rattle.desk.specs.declared.capture.Counts.{Counts}
 use Rattle.desk.specs.declared.capture.Met.{Met}
-use Rattle.desk.specs.Limits.{seatCount}
-use Rattle.desk.specs.Memory.{memory}
-use Rattle.desk.specs.Capture.{Step}
+use Rattle.desk.specs.Memory.{Memory}
+use Rattle.desk.specs.Calls.{Outcome}
+use Rattle.desk.specs.Capture.{Step, fateBy}
 
-pub record Meets (row : List Seat) (o : Step) (r : Met) (cells marks : List ℕ) : Type 0 where
-  pub at : r .at < seatCount
+pub record Meets (o : Step) (r : Met) (m′ : Memory) : Type 0 where
   pub fate : r .fate ≡ o .fate
-  pub after : memory (r .desk) (set row (r .at) (r .seat)) cells marks ≡ o .after
+  pub after : m′ ≡ o .after
+
+-- by the outcome of a call
+abbrev pub MeetsBy : Fate → Outcome → Met → Memory → Type 0
+MeetsBy good o = Meets (record { fate = fateBy good (o .answer); after = o .after })
 
 abbrev pub oneMore : Counts → Fate → Counts
 oneMore c Opened = record { opened = c .opened + 1; collected = c .collected; dynamic = c .dynamic; refused = c .refused }

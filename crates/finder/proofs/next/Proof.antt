@@ -7,6 +7,7 @@ use lib.ListN.{length}
 use denote.Ref.{now}
 use Rattle.finder.specs.Pieces.{foundFrom}
 use Rattle.finder.proofs.Search.{skipped, none}
+use Rattle.finder.proofs.Quiet.{run-skipped}
 use Rattle.finder.proofs.next.Statement.{statement}
 use Rattle.finder.proofs.next.Tie as tie
 
@@ -15,6 +16,9 @@ Inv-loop s i₀ i = foundFrom s i₀ ≡ foundFrom s i
 
 abbrev μ-loop : tie.MeasureT-loop
 μ-loop s i₀ i = length s - i
+
+quiet-until-requires : tie.Need-quiet-until-requires Inv-loop μ-loop
+quiet-until-requires c κs = search needs
 
 loop-holds : tie.Need-loop-holds Inv-loop μ-loop
 loop-holds c = refl
@@ -29,7 +33,9 @@ frame-at-requires : tie.Need-frame-at-requires Inv-loop μ-loop
 frame-at-requires c κs = (omega arith, sym (c .before .is-lead .ensures) ∙ c .if1 .taken)
 
 returns : tie.Need-returns Inv-loop μ-loop
-returns c = c .frame-at .ensures ∙ sym (c .before .before .before .before .before .loop .inv)
+returns c =
+    let l = c .before .before .before .before .before in
+    c .frame-at .ensures ∙ sym (run-skipped (l .before .quiet-until .ensures) ∙ l .loop .inv)
 
 add-i : tie.Need-add-i Inv-loop μ-loop
 add-i c = search needs
@@ -40,12 +46,12 @@ loop-less c = search needs
 loop-again : tie.Need-loop-again Inv-loop μ-loop
 loop-again c =
     let l = c .before .before .before .before in
-    l .loop .inv ∙ skipped (now (l .before .before .args .s)) (l .loop .i) (omega arith) (sym (c .before .is-lead .ensures) ∙ c .if1 .left)
+    l .loop .inv ∙ skipped (now (l .before .before .before .args .s)) (l .loop .i) (omega arith) (sym (c .before .is-lead .ensures) ∙ c .if1 .left)
 
 returns-2 : tie.Need-returns-2 Inv-loop μ-loop
 returns-2 c =
     let l = c .before in
-    sym (l .loop .inv ∙ none (now (l .before .before .args .s)) (l .loop .i) (omega arith))
+    sym (run-skipped (l .before .quiet-until .ensures) ∙ l .loop .inv ∙ none (now (l .before .before .before .args .s)) (l .loop .i) (omega arith))
 
 pub next-spec : {M : Type 1} → statement M
 next-spec =
@@ -53,6 +59,7 @@ next-spec =
     (tie.spec
     Inv-loop
     μ-loop
+    quiet-until-requires
     loop-holds
     shared-slice-read-is-lead
     is-lead-requires

@@ -1,34 +1,62 @@
 -- `desk::capture::take_capture` meets its contract. Assumes nothing.
-use Rattle.desk.proofs.CaptureLaws.{goes-cut, goes-whole, Going, begins, took-none, took-all}
-use mathlib.Core.Path.{subst, _≡_, refl, sym, _∙_}
+use Prim.Native.Nat.{_-_, _≤_}
+use native.Mathlib.Omega.{arith}
+use mathlib.Core.Bool.{true}
+use mathlib.Core.List.{List}
+use mathlib.Core.Path.{_≡_, refl, sym, ap, subst, _∙_}
 use denote.Ref.{now}
 use lib.ListN.{length}
 use Rattle.finder.proofs.Step.{Told, told}
+use Rattle.desk.specs.declared.state.Seat.{Seat}
+use Rattle.desk.specs.declared.capture.CaptureAnswer.the-variants.{Taken}
 use Rattle.desk.specs.Memory.{Memory, memory}
+use Rattle.desk.specs.Desk.{isDesk}
+use Rattle.desk.specs.Capture.{TookCapture}
+use Rattle.desk.specs.inside.Columns.{Sized, rowOf}
 use Rattle.desk.proofs.Below.{not-came, not-left}
-use native.Mathlib.Omega.{arith}
-use Prim.Native.Nat.{_-_, _≤_}
+use Rattle.desk.proofs.CaptureLaws.{goes-cut, goes-whole, Going, begins, took-none, took-all}
 use borrow.Author.Needs.{needs}
 use Rattle.desk.proofs.capture.take_capture.Statement.{statement}
 use Rattle.desk.proofs.capture.take_capture.Tie as tie
 
 abbrev Inv-loop : tie.InvT-loop
-Inv-loop cells₀ marks₀ capture desk₀ row₀ counts₀ at₀ cells marks desk row counts at =
-    Going (memory desk₀ row₀ cells₀ marks₀) capture at (memory desk row cells marks) counts
-    × ((at ≤ length capture) × ((length cells ≡ length cells₀) × (length marks ≡ length marks₀)))
+Inv-loop cells₀ marks₀ capture keys₀ held₀ ended₀ desk₀ counts₀ at₀ cells marks keys held ended desk counts at =
+    Going (memory desk₀ (rowOf keys₀ held₀ ended₀) cells₀ marks₀) capture at (memory desk (rowOf keys held ended) cells marks) counts
+    × ((at ≤ length capture) × (Sized keys held ended × ((length cells ≡ length cells₀) × (length marks ≡ length marks₀))))
 
 abbrev μ-loop : tie.MeasureT-loop
-μ-loop cells₀ marks₀ capture desk₀ row₀ counts₀ at₀ cells marks desk row counts at = length capture - at
+μ-loop cells₀ marks₀ capture keys₀ held₀ ended₀ desk₀ counts₀ at₀ cells marks keys held ended desk counts at = length capture - at
+
+sized : (c : tie.After-is-desk Inv-loop μ-loop) → Sized (c .is-desk .last .1 .1 .1 .1 .0) (c .is-desk .last .1 .1 .1 .1 .1 .0) (c .is-desk .last .1 .1 .1 .1 .1 .1 .0)
+sized c = record { all-keys = c .is-desk .kept .1 .1 .1 .1 .0; all-held = c .is-desk .kept .1 .1 .1 .1 .1 .0; all-ended = c .is-desk .kept .1 .1 .1 .1 .1 .1 .0 }
+
+-- the columns show the row, and the memory is a desk
+shown : (c : tie.Else1 Inv-loop μ-loop) → rowOf (c .before .before .before .before .is-desk .last .1 .1 .1 .1 .0) (c .before .before .before .before .is-desk .last .1 .1 .1 .1 .1 .0) (c .before .before .before .before .is-desk .last .1 .1 .1 .1 .1 .1 .0) ≡ c .before .before .before .before .before .before .before .before .before .before .before .before .before .args .row
+shown c = c .before .before .before .before .is-desk .ensures .1 (not-left refl (c .if1 .left))
 
 abbrev Start : tie.Else1 Inv-loop μ-loop → Memory
-Start c = memory (c .before .before .before .before .before .before .before .args .desk) (c .before .before .before .before .before .before .before .args .row) (now (c .before .before .before .before .before .before .before .args .cells)) (now (c .before .before .before .before .before .before .before .args .marks))
+Start c = memory (c .before .before .before .before .before .before .before .before .before .before .before .before .before .args .desk) (rowOf (c .before .before .before .before .is-desk .last .1 .1 .1 .1 .0) (c .before .before .before .before .is-desk .last .1 .1 .1 .1 .1 .0) (c .before .before .before .before .is-desk .last .1 .1 .1 .1 .1 .1 .0)) (now (c .before .before .before .before .before .before .before .before .before .before .before .before .before .args .cells)) (now (c .before .before .before .before .before .before .before .before .before .before .before .before .before .args .marks))
+
+is-start : (c : tie.Else1 Inv-loop μ-loop) → isDesk (Start c) ≡ true
+is-start c =
+    let a = c .before .before .before .before .before .before .before .before .before .before .before .before .before .args in
+    ap (λ (r : List Seat). isDesk (memory (a .desk) r (now (a .cells)) (now (a .marks)))) (shown c) ∙ not-left (c .before .before .before .before .is-desk .ensures .0) (c .if1 .left)
 
 -- what the answer of `next` means in a turn of the loop
-here : (c : tie.After-next Inv-loop μ-loop) → Told (now (c .before .before .before .before .before .before .before .before .before .args .capture)) (c .before .loop .at) (c .next .result)
+here : (c : tie.After-next Inv-loop μ-loop) → Told (now (c .before .before .before .before .before .before .before .before .before .before .before .before .before .before .before .args .capture)) (c .before .loop .at) (c .next .result)
 here c =
-    let s = now (c .before .before .before .before .before .before .before .before .before .args .capture) in
+    let s = now (c .before .before .before .before .before .before .before .before .before .before .before .before .before .before .before .args .capture) in
     let at = c .before .loop .at in
     subst (Told s at) (sym (c .next .ensures)) (told s at)
+
+slice-aggregate-is-desk : tie.Need-slice-aggregate-is-desk Inv-loop μ-loop
+slice-aggregate-is-desk c = search needs
+
+slice-aggregate-is-desk-2 : tie.Need-slice-aggregate-is-desk-2 Inv-loop μ-loop
+slice-aggregate-is-desk-2 c = search needs
+
+slice-aggregate-is-desk-3 : tie.Need-slice-aggregate-is-desk-3 Inv-loop μ-loop
+slice-aggregate-is-desk-3 c = search needs
 
 is-desk-requires : tie.Need-is-desk-requires Inv-loop μ-loop
 is-desk-requires c κs = search needs
@@ -41,11 +69,11 @@ same-length-2 c = search needs
 
 returns : tie.Need-returns Inv-loop μ-loop
 returns c =
-    let a = c .before .before .before .before .before .before .before .args in
-    took-none (memory (a .desk) (a .row) (now (a .cells)) (now (a .marks))) (now (a .capture)) (not-came (c .before .is-desk .ensures) (c .if1 .taken))
+    let a = c .before .before .before .before .before .before .before .before .before .before .before .before .before .args in
+    took-none (memory (a .desk) (a .row) (now (a .cells)) (now (a .marks))) (now (a .capture)) (not-came (c .before .before .before .before .is-desk .ensures .0) (c .if1 .taken))
 
 loop-holds : tie.Need-loop-holds Inv-loop μ-loop
-loop-holds c = (begins (Start c) (now (c .before .before .before .before .before .before .before .args .capture)) (not-left (c .before .is-desk .ensures) (c .if1 .left)), (search needs, (refl, refl)))
+loop-holds c = (begins (Start c) (now (c .before .before .before .before .before .before .before .before .before .before .before .before .before .args .capture)) (is-start c), (search needs, (sized (c .before .before .before .before), (refl, refl))))
 
 next-requires : tie.Need-next-requires Inv-loop μ-loop
 next-requires c κs = search needs
@@ -53,17 +81,33 @@ next-requires c κs = search needs
 enum-told : tie.Need-enum-told Inv-loop μ-loop
 enum-told c = search needs
 
+slice-aggregate-row-of : tie.Need-slice-aggregate-row-of Inv-loop μ-loop
+slice-aggregate-row-of c = search needs
+
+slice-aggregate-row-of-2 : tie.Need-slice-aggregate-row-of-2 Inv-loop μ-loop
+slice-aggregate-row-of-2 c = search needs
+
+slice-aggregate-row-of-3 : tie.Need-slice-aggregate-row-of-3 Inv-loop μ-loop
+slice-aggregate-row-of-3 c = search needs
+
+row-of-requires : tie.Need-row-of-requires Inv-loop μ-loop
+row-of-requires c κs = c .before .before .before .before .before .before .loop .inv .1 .1 .0
+
 same-length-3 : tie.Need-same-length-3 Inv-loop μ-loop
-same-length-3 c = search needs
+same-length-3 c = c .before .before .before .before .before .before .before .loop .inv .1 .1 .1 .0
 
 same-length-4 : tie.Need-same-length-4 Inv-loop μ-loop
-same-length-4 c = search needs
+same-length-4 c = c .before .before .before .before .before .before .before .loop .inv .1 .1 .1 .1
 
 returns-2 : tie.Need-returns-2 Inv-loop μ-loop
 returns-2 c =
-    let e = c .before .before .before .before in
-    let t = subst (Told _ _) (c .enum-told .given .1) (here (c .before .before)) in
-    took-all (Start e) (now (c .before .before .before .before .before .before .before .before .before .before .before .args .capture)) (c .before .before .before .loop .at) _ _ (not-left (e .before .is-desk .ensures) (e .if1 .left)) (c .before .before .before .loop .inv .0) t
+    let a = c .before .before .before .before .before .before .before .before .before .before .before .before .before .before .before .before .before .before .before .before .before .args in
+    let l = c .before .before .before .before .before .before .before in
+    let d = c .before .before .before .before .before .before .before .before in
+    let t = subst (Told _ _) (c .before .before .before .before .enum-told .given .1) (here (c .before .before .before .before .before .before)) in
+    let took = took-all (Start d) (now (a .capture)) (l .loop .at) _ _ (is-start d) (l .loop .inv .0) t in
+    subst (λ (r : List Seat). TookCapture (memory (a .desk) r (now (a .cells)) (now (a .marks))) (now (a .capture)) (Taken (l .loop .counts)) (memory (l .loop .desk) (c .row-of .result) (l .loop .cells) (l .loop .marks))) (shown d)
+    (subst (λ (r : List Seat). TookCapture (Start d) (now (a .capture)) (Taken (l .loop .counts)) (memory (l .loop .desk) r (l .loop .cells) (l .loop .marks))) (sym (c .row-of .ensures)) took)
 
 enum-known-next : tie.Need-enum-known-next Inv-loop μ-loop
 enum-known-next c = search needs
@@ -83,36 +127,40 @@ loop-again c =
 enum-known-start : tie.Need-enum-known-start Inv-loop μ-loop
 enum-known-start c = search needs
 
+slice-aggregate-meet : tie.Need-slice-aggregate-meet Inv-loop μ-loop
+slice-aggregate-meet c = search needs
+
+slice-aggregate-meet-2 : tie.Need-slice-aggregate-meet-2 Inv-loop μ-loop
+slice-aggregate-meet-2 c = search needs
+
+slice-aggregate-meet-3 : tie.Need-slice-aggregate-meet-3 Inv-loop μ-loop
+slice-aggregate-meet-3 c = search needs
+
 sub-meet : tie.Need-sub-meet Inv-loop μ-loop
-sub-meet c = let t = subst (Told _ _) (c .before .before .before .start .given .1) (here (c .before .before .before .before .before)) in omega (arith, t .0 .some)
+sub-meet c = let t = subst (Told _ _) (c .before .before .before .before .before .before .start .given .1) (here (c .before .before .before .before .before .before .before .before)) in omega (arith, t .0 .some)
 
 part-meet-start : tie.Need-part-meet-start Inv-loop μ-loop
-part-meet-start c = let t = subst (Told _ _) (c .before .before .before .start .given .1) (here (c .before .before .before .before .before)) in omega (arith, t .0 .some)
+part-meet-start c = let t = subst (Told _ _) (c .before .before .before .before .before .before .start .given .1) (here (c .before .before .before .before .before .before .before .before)) in omega (arith, t .0 .some)
 
 part-meet-end : tie.Need-part-meet-end Inv-loop μ-loop
-part-meet-end c = let t = subst (Told _ _) (c .before .before .before .start .given .1) (here (c .before .before .before .before .before)) in omega (arith, t .0 .within)
+part-meet-end c = let t = subst (Told _ _) (c .before .before .before .before .before .before .start .given .1) (here (c .before .before .before .before .before .before .before .before)) in omega (arith, t .0 .within)
 
 meet-requires : tie.Need-meet-requires Inv-loop μ-loop
-meet-requires c κs = search needs
+meet-requires c κs = let g = c .before .before .before .before .before .before .before .before .before .before .loop .inv in (g .1 .1 .0, g .0 .desk)
 
 one-more-requires-2 : tie.Need-one-more-requires-2 Inv-loop μ-loop
-one-more-requires-2 c κs = let t = subst (Told _ _) (c .before .before .before .before .before .before .before .before .before .start .given .1) (here (c .before .before .before .before .before .before .before .before .before .before .before)) in let g = c .before .before .before .before .before .before .before .before .before .before .before .before .loop .inv .0 in omega (arith, g .few, t .0 .from, t .0 .some, t .0 .within)
-
-mul-row : tie.Need-mul-row Inv-loop μ-loop
-mul-row c = let h = c .before .before .before .before .before .before .before .meet .ensures .at in omega (arith, h)
-
-array-set-from-row : tie.Need-array-set-from-row Inv-loop μ-loop
-array-set-from-row c = c .before .before .before .before .before .before .before .meet .ensures .at
+one-more-requires-2 c κs = let t = subst (Told _ _) (c .before .before .before .before .before .before .before .before .before .before .before .before .before .before .before .start .given .1) (here (c .before .before .before .before .before .before .before .before .before .before .before .before .before .before .before .before .before)) in let g = c .before .before .before .before .before .before .before .before .before .before .before .before .before .before .before .before .before .before .loop .inv .0 in omega (arith, g .few, t .0 .from, t .0 .some, t .0 .within)
 
 loop-less-2 : tie.Need-loop-less-2 Inv-loop μ-loop
-loop-less-2 c = let t = subst (Told _ _) (c .before .before .before .before .before .before .before .before .before .before .before .before .start .given .1) (here (c .before .before .before .before .before .before .before .before .before .before .before .before .before .before)) in omega (arith, t .0 .from, t .0 .some, t .0 .within, t .1)
+loop-less-2 c = let t = subst (Told _ _) (c .before .before .before .before .before .before .before .before .before .before .before .before .before .before .before .before .before .start .given .1) (here (c .before .before .before .before .before .before .before .before .before .before .before .before .before .before .before .before .before .before .before)) in omega (arith, t .0 .from, t .0 .some, t .0 .within, t .1)
 
 loop-again-2 : tie.Need-loop-again-2 Inv-loop μ-loop
 loop-again-2 c =
-    let t = subst (Told _ _) (c .before .before .before .before .before .before .before .before .before .before .before .before .start .given .1) (here (c .before .before .before .before .before .before .before .before .before .before .before .before .before .before)) in
-    let g = c .before .before .before .before .before .before .before .before .before .before .before .before .before .before .before .loop .inv in (
-      goes-whole _ _ _ _ _ (g .0) _ _ _ (omega (arith, t .0 .from, t .0 .some)) (t .0 .rest) (t .0 .some) _ _ _ (c .before .before .before .before .before .before .before .meet .ensures) (c .before .before .one-more2 .ensures) _ (t .1),
-      (omega (arith, t .0 .within, t .1), (c .before .before .before .before .before .before .before .meet .kept .1 .1 .0 ∙ g .1 .1 .0, c .before .before .before .before .before .before .before .meet .kept .1 .1 .1 .0 ∙ g .1 .1 .1)),
+    let t = subst (Told _ _) (c .before .before .before .before .before .before .before .before .before .before .before .before .before .before .before .before .before .start .given .1) (here (c .before .before .before .before .before .before .before .before .before .before .before .before .before .before .before .before .before .before .before)) in
+    let g = c .before .before .before .before .before .before .before .before .before .before .before .before .before .before .before .before .before .before .before .before .loop .inv in
+    let w = c .before .before .before .before .before .before .before .before .before .meet in (
+      goes-whole _ _ _ _ _ (g .0) _ _ _ (omega (arith, t .0 .from, t .0 .some)) (t .0 .rest) (t .0 .some) _ _ (w .ensures) (c .before .one-more2 .ensures) _ (t .1),
+      (omega (arith, t .0 .within, t .1), (record { all-keys = w .kept .1 .0 ∙ g .1 .1 .0 .all-keys; all-held = w .kept .1 .1 .0 ∙ g .1 .1 .0 .all-held; all-ended = w .kept .1 .1 .1 .0 ∙ g .1 .1 .0 .all-ended }, (w .kept .1 .1 .1 .1 .0 ∙ g .1 .1 .1 .0, w .kept .1 .1 .1 .1 .1 .0 ∙ g .1 .1 .1 .1))),
     )
 
 pub take-capture-spec : {M : Type 1} → statement M
@@ -121,6 +169,9 @@ take-capture-spec =
     (tie.spec
     Inv-loop
     μ-loop
+    slice-aggregate-is-desk
+    slice-aggregate-is-desk-2
+    slice-aggregate-is-desk-3
     is-desk-requires
     same-length
     same-length-2
@@ -128,6 +179,10 @@ take-capture-spec =
     loop-holds
     next-requires
     enum-told
+    slice-aggregate-row-of
+    slice-aggregate-row-of-2
+    slice-aggregate-row-of-3
+    row-of-requires
     same-length-3
     same-length-4
     returns-2
@@ -136,12 +191,13 @@ take-capture-spec =
     loop-less
     loop-again
     enum-known-start
+    slice-aggregate-meet
+    slice-aggregate-meet-2
+    slice-aggregate-meet-3
     sub-meet
     part-meet-start
     part-meet-end
     meet-requires
     one-more-requires-2
-    mul-row
-    array-set-from-row
     loop-less-2
     loop-again-2)

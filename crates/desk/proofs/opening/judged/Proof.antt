@@ -1,7 +1,12 @@
 -- `desk::opening::judged` meets its contract. Assumes nothing.
-use Rattle.desk.specs.Calls.{requestTried}
+use Rattle.desk.specs.inside.Judging.{columnAsked}
 use Rattle.desk.proofs.OutcomeLaws.{given-on}
 use mathlib.Core.Path.{_∙_}
+use denote.Ref.{now}
+use mathlib.Core.Path.{sym}
+use Rattle.desk.specs.Key.{requestKey}
+use Rattle.desk.proofs.KeyLaws.{request-legal}
+use Rattle.desk.proofs.ColumnLaws.{legal-keyed}
 use borrow.Author.Needs.{needs}
 use Rattle.desk.proofs.opening.judged.Statement.{statement}
 use Rattle.desk.proofs.opening.judged.Tie as tie
@@ -13,20 +18,23 @@ enum-known-r : tie.Need-enum-known-r
 enum-known-r c = search needs
 
 request-judged-requires : tie.Need-request-judged-requires
-request-judged-requires c κs = search needs
+request-judged-requires c κs =
+    let a = c .before .before .before .before .before .before .args in
+    let r = c .before .r .given .0 .0 in
+    (c .before .before .before .before .before .before .pre, legal-keyed (requestKey r) (request-legal (now (a .frame)) r (sym (rw (c .before .r .given .1) at (c .before .before .before .read-request .ensures)))) .short)
 
 enum-known-refusal : tie.Need-enum-known-refusal
 enum-known-refusal c = search needs
 
 returns : tie.Need-returns
 returns c =
-    let a = c .before .before .before .before .before .before .args in
-    c .request-judged .ensures ∙ given-on (requestTried (a .row) (a .bits)) (rw (c .before .before .r .given .1) at (c .before .before .before .before .read-request .ensures))
+    let a = c .before .before .before .before .before .before .before .args in
+    c .request-judged .ensures ∙ given-on (columnAsked (now (a .keys)) (a .bits)) (rw (c .before .before .r .given .1) at (c .before .before .before .before .read-request .ensures))
 
 returns-2 : tie.Need-returns-2
 returns-2 c =
-    let a = c .before .before .before .before .before .args in
-    given-on (requestTried (a .row) (a .bits)) (rw (c .before .refusal .given .1) at (c .before .before .before .read-request .ensures))
+    let a = c .before .before .before .before .before .before .args in
+    given-on (columnAsked (now (a .keys)) (a .bits)) (rw (c .before .refusal .given .1) at (c .before .before .before .read-request .ensures))
 
 pub judged-spec : {M : Type 1} → statement M
 judged-spec =

@@ -40,15 +40,16 @@ use denote.Triple.Walked.{says, Stays, gave-slice, goes-gave-slice, stay-none, s
 use denote.Exit.{yes}
 use denote.Signature.{plain}
 use Rattle.desk.specs.Limits.{seatCount}
+use lib.ListN.{length-set, set}
 use Rattle.desk.specs.declared.state.Desk.{Desk}
 use Rattle.desk.proofs.state.Desk as DeskD
 use Rattle.desk.proofs.state.Desk.Laws as DeskL
 use Rattle.rei2.specs.declared.lent.DeskAnswer.{DeskAnswer}
 use Rattle.rei2.proofs.lent.DeskAnswer as DeskAnswerD
 use Rattle.rei2.proofs.lent.DeskAnswer.Laws as DeskAnswerL
-use Rattle.rei2.specs.declared.lent.Out.{Out}
-use Rattle.rei2.proofs.lent.Out as OutD
-use Rattle.rei2.proofs.lent.Out.Laws as OutL
+use Rattle.rei2.specs.declared.lent.One.{One}
+use Rattle.rei2.proofs.lent.One as OneD
+use Rattle.rei2.proofs.lent.One.Laws as OneL
 use Rattle.desk.specs.declared.state.Seat.{Seat}
 use Rattle.desk.proofs.state.Seat as SeatD
 use Rattle.desk.proofs.state.Seat.Laws as SeatL
@@ -56,23 +57,23 @@ use Rattle.rei2.specs.Lent.{OpenLent}
 use Rattle.rei2.specs.inside.Core.{CoreOpen}
 use Rattle.rei2.proofs.Rows.{guards, is-true, is-false}
 use Rattle.rei2.proofs.Views.{gives-up}
-use Rattle.rei2.proofs.Steps.{rowVal, Load, Store, loads, stores}
-use Rattle.rei2.proofs.Outs.{out-row-is, out-answer-is}
-use Rattle.rei2.proofs.LentLaws.{refusal-open, done-open, refused-open}
+use Rattle.rei2.proofs.Steps.{rowVal, Load, Put, loads, puts}
+use Rattle.rei2.proofs.Outs.{one-seat-is, one-answer-is}
+use Rattle.rei2.proofs.LentLaws.{refusal-open, below-open, done-open, refused-open}
 use Rattle.rei2.proofs.lent.no_desk as refuser
-use Rattle.rei2.proofs.lent.open_row as core
+use Rattle.rei2.proofs.lent.open_seat as core
 use Rattle.rei2.proofs.lent.no_desk.Symbol as refused-def
 use Rattle.rei2.proofs.lent.no_desk.Symbol.{name as #refused}
 use Rattle.rei2.proofs.lent.no_desk.Met as refused-thm
 use Rattle.rei2.proofs.lent.load.Symbol as load-def
 use Rattle.rei2.proofs.lent.load.Symbol.{name as #load}
 use Rattle.rei2.proofs.lent.load.Met as load-thm
-use Rattle.rei2.proofs.lent.open_row.Symbol as core-def
-use Rattle.rei2.proofs.lent.open_row.Symbol.{name as #core}
-use Rattle.rei2.proofs.lent.open_row.Met as core-thm
-use Rattle.rei2.proofs.lent.store.Symbol as store-def
-use Rattle.rei2.proofs.lent.store.Symbol.{name as #store}
-use Rattle.rei2.proofs.lent.store.Met as store-thm
+use Rattle.rei2.proofs.lent.open_seat.Symbol as core-def
+use Rattle.rei2.proofs.lent.open_seat.Symbol.{name as #core}
+use Rattle.rei2.proofs.lent.open_seat.Met as core-thm
+use Rattle.rei2.proofs.lent.put_seat.Symbol as put-def
+use Rattle.rei2.proofs.lent.put_seat.Symbol.{name as #put}
+use Rattle.rei2.proofs.lent.put_seat.Met as put-thm
 use Rattle.rei2.proofs.lent.rei2_open.Key.{name as #self}
 use Rattle.rei2.proofs.lent.rei2_open as outer
 use Rattle.rei2.proofs.lent.rei2_open.Statement as stated
@@ -190,7 +191,7 @@ module _ {M : Type 1} (𝓤 : URA M) (H : Heap 𝓤) (A : Atoms 𝓤) (W : Given
   abbrev to-core : Core 𝓤 H A at-mem run .Ghost
   to-core = ((κs′, (q-cells, (q-marks, (q-frame, tt))), tt, args, (rowVal v-seats ∷ [], (s-desk ∷ [], (s-cells ∷ [], (s-marks ∷ [], (s-frame ∷ [], tt)))))), tt)
 
-  module _ (C : Calls 𝓤 H) (Λ : Loops 𝓤 H) (fm : FmC 𝓤 H (W .laws) C) (known-refused : Triple 𝓤 (C #refused) (Refused 𝓤 H A at-mem run)) (known-load : Triple 𝓤 (C #load) (Load 𝓤 H A at-mem run)) (known-core : Triple 𝓤 (C #core) (Core 𝓤 H A at-mem run)) (known-store : Triple 𝓤 (C #store) (Store 𝓤 H A at-mem run)) where
+  module _ (C : Calls 𝓤 H) (Λ : Loops 𝓤 H) (fm : FmC 𝓤 H (W .laws) C) (known-refused : Triple 𝓤 (C #refused) (Refused 𝓤 H A at-mem run)) (known-load : Triple 𝓤 (C #load) (Load 𝓤 H A at-mem run)) (known-core : Triple 𝓤 (C #core) (Core 𝓤 H A at-mem run)) (known-put : Triple 𝓤 (C #put) (Put 𝓤 H A at-mem run)) where
     walk : ent 𝓤 (⋆ 𝓤 H A (tokens ∷ ‵ (owns rows a vals) ∷ [])) (WpFn 𝓤 H C Λ code.function (s-seats ∷ s-desk ∷ s-cells ∷ s-marks ∷ s-frame ∷ []) Post)
     walk =
         qed W (tokens ∷ ‵ (owns rows a vals) ∷ []) ∵ enter ! C Λ code.function (s-seats ∷ s-desk ∷ s-cells ∷ s-marks ∷ s-frame ∷ []) _ $
@@ -225,27 +226,27 @@ module _ {M : Type 1} (𝓤 : URA M) (H : Heap 𝓤) (A : Atoms 𝓤) (W : Given
         -- the call by value
         move ! (6 ∷ []) $ move ! (0 ∷ 12 ∷ []) $ fjoin ! $ move ! (8 ∷ []) $ fjoin ! $ move ! (9 ∷ []) $ fjoin ! $ owned ! DeskD.the-row (Is DeskD.the-row) (LL.makes DeskD.the-type DeskL.the-plain 𝓤 H A) v-desk _ is-desk $ fjoin ! $ owned ! (Array SeatD.the-row seatCount) (Is (Array SeatD.the-row seatCount)) (array-makes 𝓤 H A W SeatD.the-row (LL.makes SeatD.the-type SeatL.the-plain 𝓤 H A) seatCount) v-seats _ is-row $ fjoin ! $ move ! (4 ∷ 3 ∷ []) $ join ! $ move ! (4 ∷ 0 ∷ []) $ join ! $ move ! (4 ∷ 0 ∷ []) $ join ! $ join ! $ use1 W (raw (Core 𝓤 H A at-mem run .pre to-core)) (∗emp 𝓤 _) $
         calls-at ! fm (Core 𝓤 H A at-mem run) known-core to-core (and-then ! (load ! (from ! (stop !)) (look ! 22 refl)) (and-then ! (load ! (from ! (stop !)) (look ! 30 refl)) (and-then ! (load ! (from ! (stop !)) (look ! 28 refl)) (and-then ! (load ! (from ! (stop !)) (look ! 26 refl)) (and-then ! (load ! (from ! (stop !)) (look ! 24 refl)) (no-more !)))))) (λ w.
-        use1 W (later (some (λ (r : Out). ((‵ (flft κ-cells q-cells) ⊛ ‵ (flft κ-marks q-marks) ⊛ ‵ (flft κ-frame q-frame) ⊛ ‵ ftrue) ⊛ ‵ (OutD.the-row .own r (w ∷ []))) ⊛ raw (ensured 𝓤 H A core.ended (core.clauses 𝓤 H A at-mem run) κs′ args tt r)))) (id⊢ 𝓤 _) $ await ! tt $ pick ! (λ r. split ! $ move ! (1 ∷ []) $
+        use1 W (later (some (λ (r : One). ((‵ (flft κ-cells q-cells) ⊛ ‵ (flft κ-marks q-marks) ⊛ ‵ (flft κ-frame q-frame) ⊛ ‵ ftrue) ⊛ ‵ (OneD.the-row .own r (w ∷ []))) ⊛ raw (ensured 𝓤 H A core.ended (core.clauses 𝓤 H A at-mem run) κs′ args tt r)))) (id⊢ 𝓤 _) $ await ! tt $ pick ! (λ r. split ! $ move ! (1 ∷ []) $
         use1 W (some (λ (zs : Unit {0} × (Unit {0} × (Unit {0} × (Unit {0} × (Unit {0} × Unit {0}))))). ‵ (lasts core.ended κs′ args zs) ⊛ raw (fact 𝓤 (CoreOpen v-seats v-desk v-cells v-marks v-frame r)))) (id⊢ 𝓤 _) $ pick ! (λ zs. split ! $ move ! (1 ∷ []) $
         heard ! (CoreOpen v-seats v-desk v-cells v-marks v-frame r) (λ e. fsplit ! $ move ! (1 ∷ []) $ fsplit ! $ move ! (1 ∷ []) $ fsplit ! $ move ! (1 ∷ []) $ fsplit ! $ move ! (1 ∷ []) $ fsplit ! $ move ! (1 ∷ []) $ move ! (6 ∷ []) $ split ! $ move ! (1 ∷ []) $
-        facts ! OutD.the-row (Is OutD.the-row) (shows 𝓤 H A OutD.the-row) r (w ∷ []) (λ is.
-        land ! (from ! (stop !)) (init ! 26 refl (LL.lawful OutD.the-type OutL.the-laws 𝓤 H A W .typed r _ is .0)) $ rewrite ! 26 (λ (u : Val). ‵ (fat fullShare OutL.mir l₇ 0 u)) (ap only (OutL.lowers .val-is r (w ∷ []) is)) refl $
-        -- the row is stored
+        facts ! OneD.the-row (Is OneD.the-row) (shows 𝓤 H A OneD.the-row) r (w ∷ []) (λ is.
+        land ! (from ! (stop !)) (init ! 26 refl (LL.lawful OneD.the-type OneL.the-laws 𝓤 H A W .typed r _ is .0)) $ rewrite ! 26 (λ (u : Val). ‵ (fat fullShare OneL.mir l₇ 0 u)) (ap only (OneL.lowers .val-is r (w ∷ []) is)) refl $
+        -- the seat is stored
         assigns ! (addr ! (from ! (fld ! refl (hop ! (look-in ! 38 (sub ! 0 refl (whole !))) (stop !))))) (from ! (stop !)) (init ! 14 refl (tt, tt)) $
         assigns ! (agg ! (and-then ! (load ! (from ! (stop !)) (look ! 14 refl)) (and-then ! (load ! (from ! (fld ! refl (stop !))) (look-in ! 38 (sub ! 1 refl (whole !)))) (no-more !)))) (from ! (stop !)) (init ! 12 refl (tt, (tt, (record { fits = room-seats .0 }, tt)))) $
         move ! (7 ∷ 8 ∷ []) $
-        stores 𝓤 H A W at-mem run κ-seats q-seats b-seats o-seats γ-seats v-seats room-seats full (r .row) (out-row-is r (w ∷ []) is) ! fm known-store (λ i. (and-then ! (load ! (from ! (stop !)) (look ! 11 refl)) (and-then ! (load ! (from ! (fld ! refl (stop !))) (look-in ! 25 (sub ! 0 refl (whole !)))) (no-more !)))) $
+        puts 𝓤 H A W at-mem run κ-seats q-seats b-seats o-seats γ-seats v-seats room-seats full (r .at) (r .seat) (below-open v-seats v-desk v-cells v-marks v-frame r e) (one-seat-is r (w ∷ []) is) ! fm known-put (λ i. (and-then ! (load ! (from ! (stop !)) (look ! 11 refl)) (and-then ! (load ! (from ! (fld ! refl (stop !))) (look-in ! 25 (sub ! 0 refl (whole !)))) (and-then ! (load ! (from ! (fld ! refl (stop !))) (look-in ! 25 (sub ! 1 refl (whole !)))) (no-more !))))) $
         land ! (from ! (stop !)) (init ! 16 refl (tt, tt)) $
-        assigns ! (of-opd ! (load ! (from ! (fld ! refl (stop !))) (look-in ! 26 (sub ! 1 refl (whole !))))) (from ! (stop !)) (init ! 40 refl (LL.lawful DeskAnswerD.the-type DeskAnswerL.the-laws 𝓤 H A W .typed (r .answer) _ (out-answer-is r (w ∷ []) is) .0)) $
+        assigns ! (of-opd ! (load ! (from ! (fld ! refl (stop !))) (look-in ! 26 (sub ! 2 refl (whole !))))) (from ! (stop !)) (init ! 40 refl (LL.lawful DeskAnswerD.the-type DeskAnswerL.the-laws 𝓤 H A W .typed (r .answer) _ (one-answer-is r (w ∷ []) is) .0)) $
         returns ! (look ! 40 refl) $
         forget ! 40 refl $ forget ! 38 refl $ forget ! 36 refl $ forget ! 34 refl $ forget ! 32 refl $ forget ! 30 refl $ forget ! 28 refl $ forget ! 26 refl $ forget ! 24 refl $ forget ! 22 refl $ forget ! 20 refl $ forget ! 18 refl $ forget ! 16 refl $ forget ! 14 refl $ forget ! 12 refl $
         move ! (40 ∷ 41 ∷ []) $ free1 ! $ move ! (38 ∷ 39 ∷ []) $ free1 ! $ move ! (36 ∷ 37 ∷ []) $ free1 ! $ move ! (34 ∷ 35 ∷ []) $ free1 ! $ move ! (32 ∷ 33 ∷ []) $ free1 ! $ move ! (30 ∷ 31 ∷ []) $ free1 ! $ move ! (28 ∷ 29 ∷ []) $ free1 ! $ move ! (26 ∷ 27 ∷ []) $ free1 ! $ move ! (24 ∷ 25 ∷ []) $ free1 ! $ move ! (22 ∷ 23 ∷ []) $ free1 ! $ move ! (20 ∷ 21 ∷ []) $ free1 ! $ move ! (18 ∷ 19 ∷ []) $ free1 ! $ move ! (16 ∷ 17 ∷ []) $ free1 ! $ move ! (14 ∷ 15 ∷ []) $ free1 ! $ move ! (12 ∷ 13 ∷ []) $ free1 ! $ free0 ! $
         move ! (2 ∷ []) $ split ! $ move ! (1 ∷ []) $ split ! $ move ! (1 ∷ []) $ split ! $ move ! (1 ∷ []) $ move ! (1 ∷ 0 ∷ []) $ join ! $ move ! (1 ∷ 0 ∷ []) $ join ! $ move ! (1 ∷ 0 ∷ []) $ join ! $ move ! (2 ∷ 0 ∷ []) $ join ! $ keep ! (0 ∷ 1 ∷ 10 ∷ 9 ∷ 8 ∷ []) $
-        by ! (exits (r .answer) _ (r .row) ((out-row-is r (w ∷ []) is) .1 .0 .1 ∙ sym full) (out-answer-is r (w ∷ []) is) (done-open v-seats v-desk v-cells v-marks v-frame r e))))))))))))))))))))))))
+        by ! (exits (r .answer) _ (set v-seats (r .at) (r .seat)) (length-set v-seats (r .at) (r .seat)) (one-answer-is r (w ∷ []) is) (done-open v-seats v-desk v-cells v-marks v-frame r e))))))))))))))))))))))))
 
 module _ {M : Type 1} (𝓤 : URA M) (H : Heap 𝓤) (A : Atoms 𝓤) (W : Given 𝓤 H A) (at-mem : Memory → SProp 𝓤) (run : Routine → Fun 𝓤) where
-  walks : (C : Calls 𝓤 H) (Λ : Loops 𝓤 H) → FmC 𝓤 H (W .laws) C → Triple 𝓤 (C #refused) (Refused 𝓤 H A at-mem run) → Triple 𝓤 (C #load) (Load 𝓤 H A at-mem run) → Triple 𝓤 (C #core) (Core 𝓤 H A at-mem run) → Triple 𝓤 (C #store) (Store 𝓤 H A at-mem run) → Walks 𝓤 H A outer.ended stayed (WpFn 𝓤 H C Λ code.function) (outer.clauses 𝓤 H A at-mem run)
-  walks C Λ fm known-refused known-load known-core known-store = walked 𝓤 H A outer.ended stayed (outer.clauses 𝓤 H A at-mem run) (WpFn 𝓤 H C Λ code.function)
+  walks : (C : Calls 𝓤 H) (Λ : Loops 𝓤 H) → FmC 𝓤 H (W .laws) C → Triple 𝓤 (C #refused) (Refused 𝓤 H A at-mem run) → Triple 𝓤 (C #load) (Load 𝓤 H A at-mem run) → Triple 𝓤 (C #core) (Core 𝓤 H A at-mem run) → Triple 𝓤 (C #put) (Put 𝓤 H A at-mem run) → Walks 𝓤 H A outer.ended stayed (WpFn 𝓤 H C Λ code.function) (outer.clauses 𝓤 H A at-mem run)
+  walks C Λ fm known-refused known-load known-core known-put = walked 𝓤 H A outer.ended stayed (outer.clauses 𝓤 H A at-mem run) (WpFn 𝓤 H C Λ code.function)
       (λ κs. (slice-vals, (LL.vals DeskD.the-type DeskL.the-laws, (slice-vals, (slice-vals, (slice-vals, tt))))))
       (λ κs. (mut-slice-tells (named 0) (κs .0) SeatD.the-row, (LL.tells DeskD.the-type DeskL.the-laws, (shr-slice-tells (named 1) (κs .1 .0) u8, (shr-slice-tells (named 2) (κs .1 .1 .0) u32, (shr-slice-tells (named 3) (κs .1 .1 .1 .0) u8, tt))))))
       (λ κs qs bounds a g are. via 𝓤 _ (fst∗ 𝓤 _ (emp 𝓤)) (walk 𝓤 H A W at-mem run
@@ -255,13 +256,13 @@ module _ {M : Type 1} (𝓤 : URA M) (H : Heap 𝓤) (A : Atoms 𝓤) (W : Given
       (a .1 .1 .0 .ptr .0) (a .1 .1 .0 .ptr .1) (a .1 .1 .0 .name) (a .1 .1 .0 .now) (are .1 .1 .0 .0 .1)
       (a .1 .1 .1 .0 .ptr .0) (a .1 .1 .1 .0 .ptr .1) (a .1 .1 .1 .0 .name) (a .1 .1 .1 .0 .now) (are .1 .1 .1 .0 .0 .1)
       (a .1 .1 .1 .1 .0 .ptr .0) (a .1 .1 .1 .1 .0 .ptr .1) (a .1 .1 .1 .1 .0 .name) (a .1 .1 .1 .1 .0 .now) (are .1 .1 .1 .1 .0 .0 .1)
-      C Λ fm known-refused known-load known-core known-store))
+      C Λ fm known-refused known-load known-core known-put))
 
-meets : {M : Type 1} (𝓤 : URA M) (H : Heap 𝓤) (A : Atoms 𝓤) → Given 𝓤 H A → (at-mem : Memory → SProp 𝓤) (run : Routine → Fun 𝓤) (𝓣 : Tables 𝓤 H) → Triple 𝓤 (𝓣 .C #refused) (Refused 𝓤 H A at-mem run) → Triple 𝓤 (𝓣 .C #load) (Load 𝓤 H A at-mem run) → Triple 𝓤 (𝓣 .C #core) (Core 𝓤 H A at-mem run) → Triple 𝓤 (𝓣 .C #store) (Store 𝓤 H A at-mem run)
+meets : {M : Type 1} (𝓤 : URA M) (H : Heap 𝓤) (A : Atoms 𝓤) → Given 𝓤 H A → (at-mem : Memory → SProp 𝓤) (run : Routine → Fun 𝓤) (𝓣 : Tables 𝓤 H) → Triple 𝓤 (𝓣 .C #refused) (Refused 𝓤 H A at-mem run) → Triple 𝓤 (𝓣 .C #load) (Load 𝓤 H A at-mem run) → Triple 𝓤 (𝓣 .C #core) (Core 𝓤 H A at-mem run) → Triple 𝓤 (𝓣 .C #put) (Put 𝓤 H A at-mem run)
     → Meets 𝓤 H A outer.signature (WpFn 𝓤 H (𝓣 .C) (𝓣 .Λ) code.function) (outer.spec 𝓤 H A at-mem run)
-meets 𝓤 H A W at-mem run 𝓣 known-refused known-load known-core known-store =
+meets 𝓤 H A W at-mem run 𝓣 known-refused known-load known-core known-put =
     walk-meets 𝓤 H A outer.ended stayed W (goes-gave-slice 𝓤 H A W 4 0 tt (plain (λ _. SeatD.the-row)), (goes-none 𝓤 H A W 4 (λ _. DeskD.the-row) yes (λ κs x f. refl), (goes-none-slice 𝓤 H A W 4 (1 ∷ []) tt (plain (λ _. u8)) yes, (goes-none-slice 𝓤 H A W 4 (2 ∷ []) tt (plain (λ _. u32)) yes, (goes-none-slice 𝓤 H A W 4 (3 ∷ []) tt (plain (λ _. u8)) yes, tt))))) (outer.clauses 𝓤 H A at-mem run)
-    (WpFn 𝓤 H (𝓣 .C) (𝓣 .Λ) code.function) (WpFn-mono 𝓤 H (W .laws) 𝓣 code.function) (walks 𝓤 H A W at-mem run (𝓣 .C) (𝓣 .Λ) (fmOf 𝓤 H (W .laws) 𝓣) known-refused known-load known-core known-store)
+    (WpFn 𝓤 H (𝓣 .C) (𝓣 .Λ) code.function) (WpFn-mono 𝓤 H (W .laws) 𝓣 code.function) (walks 𝓤 H A W at-mem run (𝓣 .C) (𝓣 .Λ) (fmOf 𝓤 H (W .laws) 𝓣) known-refused known-load known-core known-put)
 
 pub rei2-open-spec : {M : Type 1} → stated.statement M
 unfolding code.routine tablesOf
@@ -271,5 +272,5 @@ rei2-open-spec 𝓤 H 𝓜 𝓖 𝓡 =
     (meets 𝓤 H (𝓖 .A) (givenOf 𝓤 H 𝓜 𝓖) (𝓜 .mem) (𝓡 .run) (tablesOf 𝓤 H 𝓜 (tables 𝓤 H 𝓜 𝓡 code.env))
     (cited 𝓤 H (Refused 𝓤 H (𝓖 .A) (𝓜 .mem) (𝓡 .run)) 𝓜 𝓡 code.env #refused refused-def.routine code.calls-rei2·lent·no-desk (refused-thm.met 𝓤 H 𝓜 𝓖 𝓡))
     (cited 𝓤 H (Load 𝓤 H (𝓖 .A) (𝓜 .mem) (𝓡 .run)) 𝓜 𝓡 code.env #load load-def.routine code.calls-rei2·lent·load (load-thm.met 𝓤 H 𝓜 𝓖 𝓡))
-    (cited 𝓤 H (Core 𝓤 H (𝓖 .A) (𝓜 .mem) (𝓡 .run)) 𝓜 𝓡 code.env #core core-def.routine code.calls-rei2·lent·open-row (core-thm.met 𝓤 H 𝓜 𝓖 𝓡))
-    (cited 𝓤 H (Store 𝓤 H (𝓖 .A) (𝓜 .mem) (𝓡 .run)) 𝓜 𝓡 code.env #store store-def.routine code.calls-rei2·lent·store (store-thm.met 𝓤 H 𝓜 𝓖 𝓡)))
+    (cited 𝓤 H (Core 𝓤 H (𝓖 .A) (𝓜 .mem) (𝓡 .run)) 𝓜 𝓡 code.env #core core-def.routine code.calls-rei2·lent·open-seat (core-thm.met 𝓤 H 𝓜 𝓖 𝓡))
+    (cited 𝓤 H (Put 𝓤 H (𝓖 .A) (𝓜 .mem) (𝓡 .run)) 𝓜 𝓡 code.env #put put-def.routine code.calls-rei2·lent·put-seat (put-thm.met 𝓤 H 𝓜 𝓖 𝓡)))

@@ -1,0 +1,45 @@
+-- `frames::check::net_good` meets its contract. Assumes nothing.
+use Rattle.frames.proofs.CheckLaws.{held, failed, net-good, net-bad}
+use mathlib.Core.Bool.{_&&_, and-eq-true-iff}
+use mathlib.Core.Path.{ap₂}
+use borrow.Author.Needs.{needs}
+use Rattle.frames.proofs.check.net_good.Statement.{statement}
+use Rattle.frames.proofs.check.net_good.Tie as tie
+
+digits-in-requires : tie.Need-digits-in-requires
+digits-in-requires c κs = search needs
+
+digits-in-requires-2 : tie.Need-digits-in-requires-2
+digits-in-requires-2 c κs = search needs
+
+returns : tie.Need-returns
+returns c = net-bad _ (failed (ap₂ _&&_ (c .before .before .digits-in .ensures) (c .before .digits-in2 .ensures)) (c .if1 .taken))
+
+raw-in-requires : tie.Need-raw-in-requires
+raw-in-requires c κs = search needs
+
+time-good-requires : tie.Need-time-good-requires
+time-good-requires c κs =
+    let l = c .before in
+    (l .before .before .before .before .pre, and-eq-true-iff _ _ .0 (held (ap₂ _&&_ (l .before .before .digits-in .ensures) (l .before .digits-in2 .ensures)) (l .if1 .left)) .0)
+
+sign-good-requires : tie.Need-sign-good-requires
+sign-good-requires c κs = search needs
+
+returns-2 : tie.Need-returns-2
+returns-2 c =
+    let l = c .before .before .before in
+    let d = and-eq-true-iff _ _ .0 (held (ap₂ _&&_ (l .before .before .digits-in .ensures) (l .before .digits-in2 .ensures)) (l .if1 .left)) in
+    rw (c .sign-good .ensures, c .before .time-good .ensures, c .before .before .raw-in .ensures) (net-good _ (d .0) (d .1))
+
+pub net-good-spec : {M : Type 1} → statement M
+net-good-spec =
+    tie.close
+    (tie.spec
+    digits-in-requires
+    digits-in-requires-2
+    returns
+    raw-in-requires
+    time-good-requires
+    sign-good-requires
+    returns-2)
