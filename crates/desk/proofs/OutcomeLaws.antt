@@ -2,7 +2,8 @@
 use Prim.Native.Nat.{ℕ}
 use mathlib.Core.List.{List}
 use mathlib.Core.Bool.{Bool, true, false}
-use mathlib.Core.Path.{_≡_, refl, sym, ap, _∙_}
+use mathlib.Core.Path.{_≡_, refl, sym, ap, subst, _∙_}
+use native.Mathlib.Omega.{arith}
 use lib.ListN.{set}
 use lib.Seq.{set-getD}
 use lib.Dec.{ltb}
@@ -12,17 +13,20 @@ use Rattle.digits.specs.Told.{Told, gives, refuses}
 use Rattle.frames.specs.Kind.{read}
 use Rattle.frames.specs.Request.{request}
 use Rattle.desk.specs.declared.state.Seat.{Seat}
+use Rattle.desk.specs.declared.state.Desk.{Desk}
 use Rattle.desk.specs.declared.step.Progress.{Progress}
 use Rattle.desk.specs.declared.step.Stepped.{Stepped}
 use Rattle.desk.specs.declared.opening.Opening.{Opening}
+use Rattle.desk.specs.declared.opening.OpenStep.{OpenStep}
 use Rattle.desk.specs.declared.reply.Taking.{Taking}
+use Rattle.desk.specs.declared.reply.ReplyStep.{ReplyStep}
 use Rattle.desk.specs.Hearing.{heard}
 use Rattle.desk.specs.Step.{step}
 use Rattle.desk.specs.Seats.{zeroSeat, seatAt}
 use Rattle.desk.specs.Memory.{Memory, capacity}
 use Rattle.desk.specs.Desk.{isDesk}
-use Rattle.desk.specs.Calls.{whatIsGiven, requestTried, openTried, labelTried, replyTried, opens, opened, replies, taken, Did}
-use Rattle.desk.specs.inside.Judging.{stepTold, stepTried}
+use Rattle.desk.specs.Calls.{whatIsGiven, requestTried, openTried, labelTried, replyTried, opens, opened, replies, taken, Did, OpenStepDid, ReplyStepDid}
+use Rattle.desk.specs.inside.Judging.{openNothing, replyNothing, stepTold, stepTried}
 
 -- ---- further tests of an answer that is known
 
@@ -64,6 +68,20 @@ sameFirst m = record { row = set (m .row) 0 (seatAt (m .row) 0); bits = m .bits;
 
 pub same-first : (m : Memory) → sameFirst m ≡ m
 same-first m = λ i. record { row = set-getD (m .row) 0 zeroSeat i; bits = m .bits; count = m .count; cells = m .cells; marks = m .marks }
+
+-- ---- a step that finds no desk
+
+pub nothing-opened : (m : Memory) (f : List ℕ) (d : Desk) (r : OpenStep) → isDesk m ≡ false → d ≡ record { bits = m .bits; count = m .count } → r ≡ openNothing d (seatAt (m .row) 0) → OpenStepDid m f r
+unfolding opens openTried
+nothing-opened m f d r e q is =
+    subst (λ (x : OpenStep). OpenStepDid m f x) (sym (is ∙ ap (λ (y : Desk). openNothing y (seatAt (m .row) 0)) q))
+    ((omega arith, refl), subst (λ (x : Memory). Did (refuses DESK) x (opens m f)) (sym (same-first m)) (rw e (record { answer = refl; memory = refl })))
+
+pub nothing-replied : (m : Memory) (f : List ℕ) (d : Desk) (r : ReplyStep) → isDesk m ≡ false → d ≡ record { bits = m .bits; count = m .count } → r ≡ replyNothing d (seatAt (m .row) 0) → ReplyStepDid m f r (m .cells) (m .marks)
+unfolding replies replyTried
+nothing-replied m f d r e q is =
+    subst (λ (x : ReplyStep). ReplyStepDid m f x (m .cells) (m .marks)) (sym (is ∙ ap (λ (y : Desk). replyNothing y (seatAt (m .row) 0)) q))
+    ((omega arith, refl), subst (λ (x : Memory). Did (refuses DESK) x (replies m f)) (sym (same-first m)) (rw e (record { answer = refl; memory = refl })))
 
 -- ---- the outcome of an opening
 

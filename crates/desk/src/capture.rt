@@ -1,5 +1,6 @@
 // A whole capture at once: the desk is tested once, and each frame goes to the call of its lead byte.
 use crate::clauses::is_desk;
+use crate::columns::columns;
 use crate::columns::key_number;
 use crate::columns::row_of;
 use crate::limits::SEATS;
@@ -32,7 +33,7 @@ ghost use Rattle.desk.specs.Desk.{isDesk};
 ghost use Rattle.desk.specs.Calls.{opens, replies};
 ghost use Rattle.desk.specs.Capture.{dynamicFate, meets, TookCapture};
 ghost use Rattle.desk.specs.inside.Columns.{Sized, rowOf};
-ghost use Rattle.desk.specs.inside.Counting.{oneMore, Meets, MeetsBy};
+ghost use Rattle.desk.specs.inside.Counting.{takesNothing, oneMore, Meets, MeetsBy};
 ghost use Rattle.desk.specs.declared.capture.Fate.the-variants.{Opened, Collected};
 
 // What becomes of a frame.
@@ -82,12 +83,11 @@ pub fn take_capture(
     let mut keys = [0u32; SEATS];
     let mut held = [0u32; SEATS];
     let mut ended = [0u32; SEATS];
-    if !is_desk(desk, row, cells, marks, &mut keys, &mut held, &mut ended) {
-        return CaptureDone {
-            answer: CaptureAnswer::NoDesk,
-            desk,
-            row,
-        };
+    if !columns(row, desk.bits, &mut keys, &mut held, &mut ended) {
+        return no_desk(desk, row);
+    }
+    if !is_desk(desk, &keys, &held, &ended, cells, marks) {
+        return no_desk(desk, row);
     }
     let mut desk = desk;
     let mut counts = Counts {
@@ -127,6 +127,16 @@ pub fn take_capture(
                 at = next.at;
             }
         }
+    }
+}
+
+fn no_desk(desk: Desk, row: [Seat; SEATS]) -> CaptureDone
+    ensures { λ r. ⌜ r ≡ takesNothing desk row ⌝ }
+{
+    CaptureDone {
+        answer: CaptureAnswer::NoDesk,
+        desk,
+        row,
     }
 }
 

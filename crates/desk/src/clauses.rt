@@ -1,6 +1,5 @@
 // The clauses of a desk, tested in one pass over the held cells.
 use crate::columns::all_apart;
-use crate::columns::columns;
 use crate::columns::key_number;
 use crate::columns::same_column;
 use crate::key::key_in;
@@ -8,7 +7,6 @@ use crate::key::used;
 use crate::limits::CELL_SIZE;
 use crate::limits::SEATS;
 use crate::state::Desk;
-use crate::state::Seat;
 use crate::state::capacity;
 use crate::step::Progress;
 use crate::step::Stepped;
@@ -41,28 +39,8 @@ pub struct Turn {
     pub progress: Progress,
 }
 
-// Whether state and memory are a desk. If they are, the columns show its seats.
+// Whether state and memory are a desk whose seats the columns show. That all seats are good was tested before.
 pub fn is_desk(
-    desk: Desk,
-    row: [Seat; SEATS],
-    cells: &[u8],
-    marks: &[u32],
-    keys: &mut [u32],
-    held: &mut [u32],
-    ended: &mut [u32],
-) -> bool
-    requires { ⌜ Sized (now keys) (now held) (now ended) ⌝ }
-    ensures { λ r. ⌜ (r ≡ isDesk (memory desk row (now (cells .entry)) (now (marks .entry)))) × (r ≡ true → rowOf (now (keys .exit)) (now (held .exit)) (now (ended .exit)) ≡ row) ⌝ }
-{
-    if columns(row, desk.bits, keys, held, ended) {
-        columns_hold(desk, keys, held, ended, cells, marks)
-    } else {
-        false
-    }
-}
-
-// The clauses that are left if all seats are good.
-fn columns_hold(
     desk: Desk,
     keys: &[u32],
     held: &[u32],

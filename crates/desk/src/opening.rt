@@ -1,5 +1,6 @@
 // An opening: a static request takes a seat.
 use crate::clauses::is_desk;
+use crate::columns::columns;
 use crate::columns::find;
 use crate::columns::key_number;
 use crate::key::Key;
@@ -28,7 +29,7 @@ ghost use Rattle.frames.specs.Kind.{read};
 ghost use Rattle.frames.specs.Request.{request};
 ghost use mathlib.Core.Bool.{false};
 ghost use Rattle.desk.specs.inside.Columns.{Short, keyNumber, keyIs};
-ghost use Rattle.desk.specs.inside.Judging.{openJudged, numberTried, columnAsked};
+ghost use Rattle.desk.specs.inside.Judging.{openNothing, openJudged, numberTried, columnAsked};
 
 // In the order in which they are tested.
 pub enum OpenRefusal {
@@ -109,13 +110,11 @@ pub fn open_step(
     let mut keys = [0u32; SEATS];
     let mut held = [0u32; SEATS];
     let mut ended = [0u32; SEATS];
-    if !is_desk(desk, row, cells, marks, &mut keys, &mut held, &mut ended) {
-        return OpenStep {
-            answer: OpenAnswer::Refused(OpenRefusal::Desk),
-            desk,
-            at: 0,
-            seat: row[0],
-        };
+    if !columns(row, desk.bits, &mut keys, &mut held, &mut ended) {
+        return no_desk(desk, row[0]);
+    }
+    if !is_desk(desk, &keys, &held, &ended, cells, marks) {
+        return no_desk(desk, row[0]);
     }
     match judged(&keys, desk.bits, frame) {
         OpenJudged::Opens(opening) => {
@@ -134,6 +133,17 @@ pub fn open_step(
             at: 0,
             seat: row[0],
         },
+    }
+}
+
+fn no_desk(desk: Desk, first: Seat) -> OpenStep
+    ensures { λ r. ⌜ r ≡ openNothing desk first ⌝ }
+{
+    OpenStep {
+        answer: OpenAnswer::Refused(OpenRefusal::Desk),
+        desk,
+        at: 0,
+        seat: first,
     }
 }
 

@@ -1,5 +1,6 @@
 // A reply: sorted to the seat with its key, and kept.
 use crate::clauses::is_desk;
+use crate::columns::columns;
 use crate::columns::find;
 use crate::columns::key_number;
 use crate::key::key_in;
@@ -33,7 +34,7 @@ ghost use Rattle.desk.specs.Calls.{whatIsGiven, grown, replyRefused, Rep
 ghost use Rattle.desk.specs.Key.{keyIn};
 ghost use Rattle.desk.specs.Hearing.{heard};
 ghost use Rattle.desk.specs.inside.Columns.{Short, Sized};
-ghost use Rattle.desk.specs.inside.Judging.{replyJudged, stepTried, columnTried, RoomFor, PutReply};
+ghost use Rattle.desk.specs.inside.Judging.{replyNothing, replyJudged, stepTried, columnTried, RoomFor, PutReply};
 
 // In the order in which they are tested.
 pub enum ReplyRefusal {
@@ -122,13 +123,11 @@ pub fn reply_step(
     let mut keys = [0u32; SEATS];
     let mut held = [0u32; SEATS];
     let mut ended = [0u32; SEATS];
-    if !is_desk(desk, row, cells, marks, &mut keys, &mut held, &mut ended) {
-        return ReplyStep {
-            answer: ReplyAnswer::Refused(ReplyRefusal::Desk),
-            desk,
-            at: 0,
-            seat: row[0],
-        };
+    if !columns(row, desk.bits, &mut keys, &mut held, &mut ended) {
+        return no_desk(desk, row[0]);
+    }
+    if !is_desk(desk, &keys, &held, &ended, cells, marks) {
+        return no_desk(desk, row[0]);
     }
     let free = (desk.count as usize) < capacity(cells.len(), marks.len());
     match judged(&keys, &held, &ended, free, frame) {
@@ -148,6 +147,17 @@ pub fn reply_step(
             at: 0,
             seat: row[0],
         },
+    }
+}
+
+fn no_desk(desk: Desk, first: Seat) -> ReplyStep
+    ensures { λ r. ⌜ r ≡ replyNothing desk first ⌝ }
+{
+    ReplyStep {
+        answer: ReplyAnswer::Refused(ReplyRefusal::Desk),
+        desk,
+        at: 0,
+        seat: first,
     }
 }
 

@@ -1,8 +1,8 @@
 -- The label by the bytes alone is the label that the reader gives. Assumes nothing.
 use Prim.Native.Nat.{ℕ, suc, _+_, _-_, _*_, _≤_}
 use mathlib.Core.List.{List}
-use mathlib.Core.Bool.{true}
-use mathlib.Core.Path.{_≡_, refl, sym, subst, _∙_}
+use mathlib.Core.Bool.{true, false≢true}
+use mathlib.Core.Path.{_≡_, refl, sym, ap, subst, _∙_}
 use native.Mathlib.Omega.{arith}
 use borrow.Author.Tests.{eqb-true}
 use lib.Dec.{eqb}
@@ -10,14 +10,14 @@ use lib.ListN.{getD}
 use Rattle.digits.specs.declared.Number.{Number}
 use Rattle.digits.specs.declared.Number.the-variants.{Is, Wrong}
 use Rattle.digits.specs.Digits.{isDigit, numberFrom, numberAt}
-use Rattle.digits.specs.Told.{gives}
+use Rattle.digits.specs.Told.{Told, gives, refuses}
 use Rattle.digits.proofs.Tests.{by-test}
 use Rattle.digits.proofs.Reading.{between}
 use Rattle.frames.specs.declared.reply.StaticReply.{StaticReply}
 use Rattle.frames.specs.declared.reply.ReplyLabel.{ReplyLabel}
 use Rattle.frames.specs.Rules.{isAddress, isRequester}
 use Rattle.frames.specs.Kind.{headTold, read}
-use Rattle.frames.specs.Reply.{reply, digitAt, labelOf, labelAt, LabelIsRead}
+use Rattle.frames.specs.Reply.{reply, isGood, GoodIsRead, digitAt, labelOf, labelAt, LabelIsRead}
 use Rattle.frames.specs.inside.Held.{orNone}
 use Rattle.frames.specs.inside.Reply.{headAt, replyAt, wrongAt}
 use Rattle.frames.proofs.HeadLaws.{tried-gives, then-gives}
@@ -97,3 +97,12 @@ label-is-read s r e =
     let l : Labelled (labelOf (replyAt s)) = subst (λ (x : StaticReply). Labelled (labelOf x)) (g .is) (label-legal s r e) in
     let n = number-by-bytes s _ (read-number (numberAt s 7 5) (l .number)) in
     rw (g .is) (λ i. record { status = getD s 5 0; address = getD s 2 0; requester = getD s 6 0; number = n i })
+
+-- ---- the check alone
+
+pub good-is-read : GoodIsRead
+good-is-read s = (yes-read (read reply s), λ q. ap isGood (q .1))
+  where
+    yes-read : (t : Told StaticReply) → isGood t ≡ true → (r : StaticReply) × (t ≡ gives r)
+    yes-read (gives r) e = (r, refl)
+    yes-read (refuses f) e = absurd (false≢true e)

@@ -1,6 +1,7 @@
 -- The static reply: 51 bytes, lead byte DC2.
 use Prim.Native.Nat.{ℕ, _+_, _*_, _%_}
 use mathlib.Core.List.{List}
+use mathlib.Core.Logic.{_↔_}
 use mathlib.Core.Path.{_≡_}
 use mathlib.Core.Bool.{Bool, true, false, cond, _||_}
 use lib.ListN.{length, getD, replicate}
@@ -145,6 +146,10 @@ CheckedAs s a = checkTold a ≡ labelled (read reply s)
 abbrev pub isGood : Told StaticReply → Bool
 isGood (gives r) = true
 isGood (refuses f) = false
+
+-- the check says yes exactly of the frames of which the reader gives a record
+abbrev pub GoodIsRead : Type 0
+GoodIsRead = (s : List ℕ) → (isGood (read reply s) ≡ true) ↔ ((r : StaticReply) × (read reply s ≡ gives r))
 
 -- the low half of the byte at a place; of a digit it is the value
 abbrev pub digitAt : List ℕ → ℕ → ℕ

@@ -1,46 +1,84 @@
 -- `desk::opening::open_step` meets its contract. Assumes nothing.
+use mathlib.Core.Bool.{Bool, true, false}
 use mathlib.Core.List.{List}
-use mathlib.Core.Path.{_≡_, refl, sym, subst, _∙_}
+use mathlib.Core.Path.{_≡_, refl, sym, ap, subst, _∙_}
 use native.Mathlib.Omega.{arith}
 use Prim.Native.Nat.{ℕ}
 use denote.Ref.{now}
 use lib.ListN.{set}
 use Rattle.digits.specs.Told.{gives, refuses}
-use Rattle.digits.specs.Refusals.{DESK}
+use Rattle.desk.specs.declared.state.Seat.{Seat}
+use Rattle.desk.specs.Limits.{seatCount}
+use Rattle.desk.specs.Below.{allBelow}
 use Rattle.desk.specs.Memory.{Memory, memory}
-use Rattle.desk.specs.inside.Columns.{Sized}
+use Rattle.desk.specs.Desk.{isDesk}
+use Rattle.desk.specs.inside.Columns.{Sized, rowOf}
+use Rattle.desk.specs.inside.Clauses.{seatGoodAt}
 use Rattle.desk.proofs.Below.{not-came, not-left}
+use Rattle.desk.proofs.ClauseLaws.{no-desk}
 use Rattle.desk.specs.Calls.{openTried, opens, openRefused, Did}
 use Rattle.desk.specs.inside.Judging.{openJudged}
 use Rattle.desk.proofs.StepLaws.{Opens, opens-taken}
-use Rattle.desk.proofs.OutcomeLaws.{same-first, open-off, opening-done, not-opened}
+use Rattle.desk.proofs.OutcomeLaws.{same-first, nothing-opened, opening-done, not-opened}
 use Rattle.desk.proofs.JudgeLaws.{open-row}
 use borrow.Author.Needs.{needs}
 use Rattle.desk.proofs.opening.open_step.Statement.{statement}
 use Rattle.desk.proofs.opening.open_step.Tie as tie
 
+-- the columns, if all seats are good: they show the row
+sized : (c : tie.After-columns) → Sized (c .columns .last .1 .1 .0) (c .columns .last .1 .1 .1 .0) (c .columns .last .1 .1 .1 .1 .0)
+sized c = record { all-keys = c .columns .kept .1 .1 .0; all-held = c .columns .kept .1 .1 .1 .0; all-ended = c .columns .kept .1 .1 .1 .1 .0 }
+
+shown : (c : tie.Else1) → rowOf (c .before .before .before .before .columns .last .1 .1 .0) (c .before .before .before .before .columns .last .1 .1 .1 .0) (c .before .before .before .before .columns .last .1 .1 .1 .1 .0) ≡ c .before .before .before .before .before .before .before .before .before .before .before .args .t2
+shown c = c .before .before .before .before .columns .ensures .1 (not-left refl (c .if1 .left))
+
+good : (c : tie.Else1) → allBelow seatCount (seatGoodAt (rowOf (c .before .before .before .before .columns .last .1 .1 .0) (c .before .before .before .before .columns .last .1 .1 .1 .0) (c .before .before .before .before .columns .last .1 .1 .1 .1 .0)) (c .before .before .before .before .before .before .before .before .before .before .before .args .desk .bits)) ≡ true
+good c = ap (λ (r : List Seat). allBelow seatCount (seatGoodAt r (c .before .before .before .before .before .before .before .before .before .before .before .args .desk .bits))) (shown c) ∙ not-left (c .before .before .before .before .columns .ensures .0) (c .if1 .left)
+
 abbrev M : tie.After-judged → Memory
-M c = memory (c .before .before .before .before .before .before .before .before .before .before .before .before .before .args .desk) (c .before .before .before .before .before .before .before .before .before .before .before .before .before .args .t2) (now (c .before .before .before .before .before .before .before .before .before .before .before .before .before .args .cells)) (now (c .before .before .before .before .before .before .before .before .before .before .before .before .before .args .marks))
+M c = memory (c .before .before .before .before .before .before .before .before .before .before .before .before .before .before .before .before .before .before .args .desk) (c .before .before .before .before .before .before .before .before .before .before .before .before .before .before .before .before .before .before .args .t2) (now (c .before .before .before .before .before .before .before .before .before .before .before .before .before .before .before .before .before .before .args .cells)) (now (c .before .before .before .before .before .before .before .before .before .before .before .before .before .before .before .before .before .before .args .marks))
 
 abbrev F : tie.After-judged → List ℕ
-F c = now (c .before .before .before .before .before .before .before .before .before .before .before .before .before .args .frame)
-
-sized : (c : tie.After-is-desk) → Sized (c .is-desk .last .1 .1 .1 .1 .0) (c .is-desk .last .1 .1 .1 .1 .1 .0) (c .is-desk .last .1 .1 .1 .1 .1 .1 .0)
-sized c = record { all-keys = c .is-desk .kept .1 .1 .1 .1 .0; all-held = c .is-desk .kept .1 .1 .1 .1 .1 .0; all-ended = c .is-desk .kept .1 .1 .1 .1 .1 .1 .0 }
+F c = now (c .before .before .before .before .before .before .before .before .before .before .before .before .before .before .before .before .before .before .args .frame)
 
 tried : (c : tie.After-judged) → openJudged (c .judged .result) ≡ openTried (M c) (F c)
 tried c =
-    let a = c .before .before .before .before .before .before .before .before .before .before .before .before .before .args in
-    let w = c .before .before .before .before .before .before .is-desk in
-    let left = c .before .before .if1 .left in
+    let a = c .before .before .before .before .before .before .before .before .before .before .before .before .before .before .before .before .before .before .args in
+    let is = c .before .before .before .is-desk .ensures in
+    let row = shown (c .before .before .before .before .before .before .before) in
     c .judged .ensures
-    ∙ open-row (a .desk) (a .t2) (c .before .before .before .before .before .before .is-desk .last .1 .1 .1 .1 .0) (c .before .before .before .before .before .before .is-desk .last .1 .1 .1 .1 .1 .0) (c .before .before .before .before .before .before .is-desk .last .1 .1 .1 .1 .1 .1 .0) (now (a .cells)) (now (a .marks)) (sized (c .before .before .before .before .before .before)) (w .ensures .1 (not-left refl left)) (not-left (w .ensures .0) left) (F c)
+    ∙ open-row (a .desk) (a .t2) (c .before .before .before .before .before .before .before .before .before .before .before .columns .last .1 .1 .0) (c .before .before .before .before .before .before .before .before .before .before .before .columns .last .1 .1 .1 .0) (c .before .before .before .before .before .before .before .before .before .before .before .columns .last .1 .1 .1 .1 .0) (now (a .cells)) (now (a .marks)) (sized (c .before .before .before .before .before .before .before .before .before .before .before)) row
+    (ap (λ (r : List Seat). isDesk (memory (a .desk) r (now (a .cells)) (now (a .marks)))) (sym row) ∙ not-left is (c .before .before .if2 .left)) (F c)
 
 judged-opens : (c : tie.After-opening) → gives (c .opening .given .0 .0) ≡ openTried (M (c .before .before)) (F (c .before .before))
 judged-opens c = rw (c .opening .given .1) at (tried (c .before .before))
 
 known : (c : tie.After-opening) → Opens (M (c .before .before)) (F (c .before .before)) (c .opening .given .0 .0)
 known c = opens-taken (M (c .before .before)) (F (c .before .before)) (c .opening .given .0 .0) (sym (judged-opens c))
+
+slice-aggregate-columns : tie.Need-slice-aggregate-columns
+slice-aggregate-columns c = search needs
+
+slice-aggregate-columns-2 : tie.Need-slice-aggregate-columns-2
+slice-aggregate-columns-2 c = search needs
+
+slice-aggregate-columns-3 : tie.Need-slice-aggregate-columns-3
+slice-aggregate-columns-3 c = search needs
+
+columns-requires : tie.Need-columns-requires
+columns-requires c κs = search needs
+
+array-copy-out-no-desk : tie.Need-array-copy-out-no-desk
+array-copy-out-no-desk c = search needs
+
+no-desk-requires : tie.Need-no-desk-requires
+no-desk-requires c κs = search needs
+
+returns : tie.Need-returns
+returns c =
+    let a = c .before .before .before .before .before .before .before .before .before .before .before .before .before .args in
+    let m = memory (a .desk) (a .t2) (now (a .cells)) (now (a .marks)) in
+    nothing-opened m (now (a .frame)) (a .desk) (c .no-desk .result) (sym (no-desk m (search needs) (not-came (c .before .before .before .before .before .before .columns .ensures .0) (c .before .before .if1 .taken)))) refl (c .no-desk .ensures)
 
 slice-aggregate-is-desk : tie.Need-slice-aggregate-is-desk
 slice-aggregate-is-desk c = search needs
@@ -52,17 +90,20 @@ slice-aggregate-is-desk-3 : tie.Need-slice-aggregate-is-desk-3
 slice-aggregate-is-desk-3 c = search needs
 
 is-desk-requires : tie.Need-is-desk-requires
-is-desk-requires c κs = search needs
+is-desk-requires c κs = (sized (c .before .before .before .before .before .before .before), good (c .before .before .before))
 
-array-copy-out-t27 : tie.Need-array-copy-out-t27
-array-copy-out-t27 c = search needs
+array-copy-out-no-desk-2 : tie.Need-array-copy-out-no-desk-2
+array-copy-out-no-desk-2 c = search needs
 
-returns : tie.Need-returns
-returns c =
-    let a = c .before .before .before .before .before .before .before .before .before .before .before .before .args in
+no-desk-requires-2 : tie.Need-no-desk-requires-2
+no-desk-requires-2 c κs = search needs
+
+returns-2 : tie.Need-returns-2
+returns-2 c =
+    let a = c .before .before .before .before .before .before .before .before .before .before .before .before .before .before .before .before .before .before .args in
     let m = memory (a .desk) (a .t2) (now (a .cells)) (now (a .marks)) in
-    let f = now (a .frame) in
-    ((omega arith, refl), subst (λ (x : Memory). Did (refuses DESK) x (opens m f)) (sym (same-first m)) (not-opened m f DESK (open-off m f (not-came (c .before .before .before .before .before .is-desk .ensures .0) (c .before .if1 .taken)))))
+    nothing-opened m (now (a .frame)) (a .desk) (c .no-desk2 .result)
+    (ap (λ (r : List Seat). isDesk (memory (a .desk) r (now (a .cells)) (now (a .marks)))) (sym (shown (c .before .before .before .before .before .before .before))) ∙ not-came (c .before .before .before .is-desk .ensures) (c .before .before .if2 .taken)) refl (c .no-desk2 .ensures)
 
 slice-aggregate-judged : tie.Need-slice-aggregate-judged
 slice-aggregate-judged c = search needs
@@ -73,8 +114,8 @@ judged-requires c κs = search needs
 enum-known-opening : tie.Need-enum-known-opening
 enum-known-opening c = search needs
 
-cast-t32 : tie.Need-cast-t32
-cast-t32 c = let l = known (c .before .before) .below in omega (arith, l)
+cast-t39 : tie.Need-cast-t39
+cast-t39 c = let l = known (c .before .before) .below in omega (arith, l)
 
 opened-state-requires : tie.Need-opened-state-requires
 opened-state-requires c κs = let k = known (c .before .before) in (k .below, (k .facts .bits, k .clear))
@@ -85,14 +126,14 @@ new-seat-requires c κs = search needs
 enum-known-refusal : tie.Need-enum-known-refusal
 enum-known-refusal c = search needs
 
-array-copy-out-t39 : tie.Need-array-copy-out-t39
-array-copy-out-t39 c = search needs
+array-copy-out-t46 : tie.Need-array-copy-out-t46
+array-copy-out-t46 c = search needs
 
-returns-2 : tie.Need-returns-2
-returns-2 c =
+returns-3 : tie.Need-returns-3
+returns-3 c =
     let t = c .before .before .before .before in
     let j = t .before .before in
-    let a = c .before .before .before .before .before .before .before .before .before .before .before .before .before .before .before .before .before .before .before .args in
+    let a = c .before .before .before .before .before .before .before .before .before .before .before .before .before .before .before .before .before .before .before .before .before .before .before .before .args in
     let opening = t .opening .given .0 .0 in
     let state = c .before .opened-state .ensures in (
       (known t .below, refl),
@@ -105,8 +146,8 @@ returns-2 c =
       }),
     )
 
-returns-3 : tie.Need-returns-3
-returns-3 c =
+returns-4 : tie.Need-returns-4
+returns-4 c =
     let j = c .before .before .before .before in
     let r = c .before .before .refusal .given .0 .0 in
     ((omega arith, refl), subst (λ (x : Memory). Did (refuses (openRefused r)) x (opens (M j) (F j))) (sym (same-first (M j))) (not-opened (M j) (F j) (openRefused r) (rw (c .before .before .refusal .given .1) at (tried j))))
@@ -115,19 +156,27 @@ pub open-step-spec : {M : Type 1} → statement M
 open-step-spec =
     tie.close
     (tie.spec
+    slice-aggregate-columns
+    slice-aggregate-columns-2
+    slice-aggregate-columns-3
+    columns-requires
+    array-copy-out-no-desk
+    no-desk-requires
+    returns
     slice-aggregate-is-desk
     slice-aggregate-is-desk-2
     slice-aggregate-is-desk-3
     is-desk-requires
-    array-copy-out-t27
-    returns
+    array-copy-out-no-desk-2
+    no-desk-requires-2
+    returns-2
     slice-aggregate-judged
     judged-requires
     enum-known-opening
-    cast-t32
+    cast-t39
     opened-state-requires
     new-seat-requires
     enum-known-refusal
-    array-copy-out-t39
-    returns-2
-    returns-3)
+    array-copy-out-t46
+    returns-3
+    returns-4)
