@@ -25,6 +25,7 @@ use Rattle.frames.specs.declared.timing.Timing.the-variants.{Clock, Net,
 use Rattle.frames.specs.declared.reply.ReplyHead.{ReplyHead}
 use Rattle.frames.specs.declared.reply.StaticReply.{StaticReply}
 use Rattle.frames.specs.declared.reply.ReplyRead.{ReplyRead}
+use Rattle.frames.specs.declared.reply.ReplyLabel.{ReplyLabel}
 use Rattle.frames.specs.Refusals.{readRefused, verdictTold}
 use Rattle.frames.specs.Rules.{between, upTo, isAddress, isRaw, isRequester}
 use Rattle.frames.specs.Status.{isStatus, isZ}
@@ -330,9 +331,9 @@ labelled-tried true f r = refl
 labelled-tried false f r = refl
 
 module _ (s : List ℕ) (w : ℕ) (is : w ≡ wrongAt s) where
-  pub checked-good : (h : ReplyHead) → h ≡ headAt s → w ≡ 0 → gives (record { status = h .status; address = h .address; requester = h .requester; number = h .number }) ≡ fieldsChecked s
+  pub checked-good : (l : ReplyLabel) → l ≡ labelOf (replyAt s) → w ≡ 0 → gives l ≡ fieldsChecked s
   unfolding fieldsChecked
-  checked-good h e z = rw (e, ← is, eq-eqb w 0 z)
+  checked-good l e z = rw (e, ← is, eq-eqb w 0 z)
 
   pub checked-bad : (w ≡ 0 → ⊥) → (p : Place) → p ≡ wrongPlace w (replyByte (kindAt s) s w) → refuses (readRefused (Field p)) ≡ fieldsChecked s
   unfolding fieldsChecked

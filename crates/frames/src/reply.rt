@@ -249,17 +249,17 @@ fn fields_checked(s: &[u8]) -> ReplyCheck
     requires { ⌜ length (now s) ≡ 51 ⌝ }
     ensures { λ r. ⌜ checkTold r ≡ I.fieldsChecked (now (s .entry)) ⌝ }
 {
-    let h = head_at(s);
-    let kind = kind_of(h.status, h.information);
-    let wrong = head_wrong(h, timing_wrong_at(s, kind));
+    let status = byte_at(s, field::STATUS);
+    let kind = kind_of(status, byte_at(s, field::INFORMATION));
+    let wrong = frame_wrong(s, timing_wrong_at(s, kind));
     if wrong == 0 {
-        let address = h.address as u32;
-        let requester = h.requester as u32;
+        let address = byte_at(s, field::ADDRESS) as u32;
+        let requester = byte_at(s, field::REQUESTER) as u32;
         return ReplyCheck::Good(ReplyLabel {
-            status: h.status,
+            status,
             address,
             requester,
-            number: h.number,
+            number: number_or_none(s, field::NUMBER, 5),
         });
     }
     ReplyCheck::Refused(ReadRefusal::Field(wrong_place(s, kind, wrong)))
@@ -375,6 +375,34 @@ fn head_wrong(h: ReplyHead, rest: u8) -> u8
     let wrong = wrong_unless(is_status(h.status), field::STATUS, wrong);
     let wrong = wrong_unless(is_raw(h.mode), field::MODE, wrong);
     wrong_unless(is_raw(h.program), field::PROGRAM, wrong)
+}
+
+// The same over the bytes of a frame. A record between them would be a call of head_at, which then read_reply would have to call as well instead of taking it in.
+fn frame_wrong(s: &[u8], rest: u8) -> u8
+    ensures { λ w. ⌜ w ≡ I.headWrong (I.headAt (now (s .entry))) rest ⌝ }
+{
+    let status = byte_at(s, field::STATUS);
+    let run = number_or_none(s, field::RUN, 3);
+    let letter = is_letter(byte_at(s, field::INFORMATION));
+    let wrong = wrong_unless(letter, field::INFORMATION, rest);
+    let channel = is_reply_channel(number_or_none(s, field::CHANNEL, 3));
+    let wrong = wrong_unless(channel, field::CHANNEL, wrong);
+    let physical = number_or_none(s, field::PHYSICAL, 3);
+    let wrong = wrong_unless(physical <= 999, field::PHYSICAL, wrong);
+    let wrong = wrong_unless(within(least_run(status), 250, run), field::RUN, wrong);
+    let group = number_or_none(s, field::GROUP, 3);
+    let wrong = wrong_unless(group <= 199, field::GROUP, wrong);
+    let bib = number_or_none(s, field::BIB, 5);
+    let wrong = wrong_unless(bib <= 59999, field::BIB, wrong);
+    let number = number_or_none(s, field::NUMBER, 5);
+    let wrong = wrong_unless(number <= 99999, field::NUMBER, wrong);
+    let requester = is_requester(byte_at(s, field::REQUESTER));
+    let wrong = wrong_unless(requester, field::REQUESTER, wrong);
+    let wrong = wrong_unless(is_status(status), field::STATUS, wrong);
+    let mode = is_raw(byte_at(s, field::MODE));
+    let wrong = wrong_unless(mode, field::MODE, wrong);
+    let program = is_raw(byte_at(s, field::PROGRAM));
+    wrong_unless(program, field::PROGRAM, wrong)
 }
 
 pub(crate) fn is_status(b: u8) -> bool

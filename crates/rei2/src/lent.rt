@@ -20,7 +20,7 @@ ghost use lib.ListN.{length, set};
 ghost use Rattle.digits.specs.Refusals.{DESK};
 ghost use Rattle.digits.specs.Told.{refuses};
 ghost use Rattle.desk.specs.Limits.{seatCount};
-ghost use Rattle.desk.specs.Calls.{openTold, replyTold};
+ghost use Rattle.desk.specs.Calls.{openTold, replyTold, placeIn};
 ghost use Rattle.desk.specs.Capture.{captureTold};
 ghost use Rattle.rei2.specs.Lent.{deskAnswer, captureAnswer, ResetLent, OpenLent, ReplyLent, CaptureLent};
 ghost use Rattle.rei2.specs.inside.Core.{CoreReset, CoreOpen, CoreReply, CoreCapture};
@@ -124,16 +124,18 @@ pub(crate) fn no_captured(desk: Desk) -> CapturedAnswer
     }
 }
 
-fn open_answer(desk: Desk, answer: OpenAnswer) -> DeskAnswer
+// The seat is the place of the step: the number within the answer would have to be copied out of memory that was just stored.
+fn open_answer(desk: Desk, answer: OpenAnswer, at: usize) -> DeskAnswer
+    requires { ⌜ (at < seatCount) × (at ≡ placeIn (openTold answer)) ⌝ }
     ensures { λ r. ⌜ r ≡ deskAnswer desk (openTold answer) ⌝ }
 {
     match answer {
-        OpenAnswer::Opened(seat) => DeskAnswer {
+        OpenAnswer::Opened(_) => DeskAnswer {
             desk,
             refusal: 0,
             offset: 0,
             spoiled: 0,
-            seat,
+            seat: at as u32,
         },
         OpenAnswer::Refused(refusal) => {
             let said = of_opening(refusal);
@@ -148,16 +150,17 @@ fn open_answer(desk: Desk, answer: OpenAnswer) -> DeskAnswer
     }
 }
 
-fn reply_answer(desk: Desk, answer: ReplyAnswer) -> DeskAnswer
+fn reply_answer(desk: Desk, answer: ReplyAnswer, at: usize) -> DeskAnswer
+    requires { ⌜ (at < seatCount) × (at ≡ placeIn (replyTold answer)) ⌝ }
     ensures { λ r. ⌜ r ≡ deskAnswer desk (replyTold answer) ⌝ }
 {
     match answer {
-        ReplyAnswer::Taken(seat) => DeskAnswer {
+        ReplyAnswer::Taken(_) => DeskAnswer {
             desk,
             refusal: 0,
             offset: 0,
             spoiled: 0,
-            seat,
+            seat: at as u32,
         },
         ReplyAnswer::Refused(refusal) => {
             let said = of_reply(refusal);
@@ -217,8 +220,8 @@ pub(crate) fn open_seat(
     let opened = open_step(desk, row, cells, marks, frame);
     let after = opened.desk;
     let answer = opened.answer;
-    let said = open_answer(after, answer);
     let at = opened.at;
+    let said = open_answer(after, answer, at);
     let seat = opened.seat;
     One {
         at,
@@ -239,8 +242,8 @@ pub(crate) fn reply_seat(
     let taken = reply_step(desk, row, cells, marks, frame);
     let after = taken.desk;
     let answer = taken.answer;
-    let said = reply_answer(after, answer);
     let at = taken.at;
+    let said = reply_answer(after, answer, at);
     let seat = taken.seat;
     One {
         at,

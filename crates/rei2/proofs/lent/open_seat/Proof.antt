@@ -8,7 +8,7 @@ open-step-requires : tie.Need-open-step-requires
 open-step-requires c κs = search needs
 
 open-answer-requires : tie.Need-open-answer-requires
-open-answer-requires c κs = search needs
+open-answer-requires c κs = c .before .open-step .ensures .0
 
 returns : tie.Need-returns
 returns c = let e = c .before .before .before .open-step .ensures in rw (c .before .open-answer .ensures) (one-seat-is _ _ _ _ _ _ _ _ (e .0 .0) (e .1))

@@ -8,7 +8,7 @@ reply-step-requires : tie.Need-reply-step-requires
 reply-step-requires c κs = search needs
 
 reply-answer-requires : tie.Need-reply-answer-requires
-reply-answer-requires c κs = search needs
+reply-answer-requires c κs = c .before .before .before .before .before .reply-step .ensures .0
 
 same-length : tie.Need-same-length
 same-length c = search needs
