@@ -134,8 +134,9 @@ pub fn reply_step(
         ReplyJudged::Takes(taking) => {
             let at = taking.seat;
             let after = put_reply(desk, at, cells, marks, frame);
+            let seat = at as u32;
             ReplyStep {
-                answer: ReplyAnswer::Taken(at as u32),
+                answer: ReplyAnswer::Taken(seat),
                 desk: after,
                 at,
                 seat: grown_seat(row[at], taking.status),

@@ -137,8 +137,8 @@ enum-known-taking c = search needs
 put-reply-requires : tie.Need-put-reply-requires
 put-reply-requires c κs = let r = room (c .before .before .before) in record { seat = r .seat; count = r .count; mark = r .marks; cell = r .cells; frame = r .frame }
 
-cast-t56 : tie.Need-cast-t56
-cast-t56 c = let r = room (c .before .before .before .before .before .before .before .before) in omega (arith, r .seat)
+cast-seat : tie.Need-cast-seat
+cast-seat c = let r = room (c .before .before .before .before .before .before .before .before) in omega (arith, r .seat)
 
 mul-grown-seat : tie.Need-mul-grown-seat
 mul-grown-seat c = let r = room (c .before .before .before .before .before .before .before .before) in omega (arith, r .seat)
@@ -218,7 +218,7 @@ reply-step-spec =
     judged-requires
     enum-known-taking
     put-reply-requires
-    cast-t56
+    cast-seat
     mul-grown-seat
     array-copy-out-grown-seat
     grown-seat-requires
