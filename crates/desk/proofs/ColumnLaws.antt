@@ -1,13 +1,13 @@
 -- The columns show a row: its seats, its keys, and which seat has a key. Assumes nothing.
 use Prim.Native.Nat.{ℕ, zero, suc, _+_, _*_, _/_, _%_, _≤_, _<_}
 use mathlib.Core.List.{List, [], _∷_}
-use mathlib.Core.Bool.{Bool, true, false, cond, not, _&&_, _||_}
-use mathlib.Core.Path.{_≡_, refl, sym, ap, ap₂, subst, _∙_}
+use mathlib.Core.Bool.{true, false, not, _&&_, _||_}
+use mathlib.Core.Path.{_≡_, refl, sym, ap, ap₂, _∙_}
 use native.Mathlib.Omega.{arith}
 use lib.Dec.{eqb, leb}
 use lib.ListN.{length, getD, set, length-set}
 use lib.Seq.{set-getD, getD-set-same, getD-set-other, ext-getD}
-use borrow.Author.Tests.{eqb-true, eq-eqb, ne-eqb, leb-true, not-false}
+use borrow.Author.Tests.{eqb-true, eq-eqb, ne-eqb, leb-true}
 use Rattle.digits.proofs.Tests.{by-test, by-less, and-true, and-l, and-r}
 use Rattle.digits.specs.Told.{gives}
 use Rattle.frames.specs.declared.reply.ReplyLabel.{ReplyLabel}

@@ -1,10 +1,12 @@
 -- On a desk, the tests of a call over columns are those over the row, and the columns that it leaves show the row that it leaves. Assumes nothing.
-use Prim.Native.Nat.{ℕ, _+_, _<_}
+use Prim.Native.Nat.{ℕ, _-_, _<_}
 use mathlib.Core.List.{List}
 use mathlib.Core.Bool.{Bool, true, false}
-use mathlib.Core.Path.{_≡_, refl, sym, ap, ap₂, _∙_}
+use mathlib.Core.Path.{_≡_, refl, sym, ap, _∙_}
+use native.Mathlib.Omega.{arith}
 use lib.Dec.{ltb}
-use lib.ListN.{getD, set}
+use lib.ListN.{length, getD, set, take}
+use lib.Seq.{take-all}
 use Rattle.digits.specs.Told.{Told, gives, refuses}
 use Rattle.digits.proofs.Tests.{by-test}
 use Rattle.frames.specs.Kind.{read}
@@ -24,7 +26,7 @@ use Rattle.desk.specs.Seats.{seatAt, usedBit, seatWith}
 use Rattle.desk.specs.Memory.{Memory, memory, capacity}
 use Rattle.desk.specs.Desk.{isDesk}
 use Rattle.desk.specs.Calls.{whatIsGiven, newSeat, grown, keyTried, requestTried, openTried, seatTried, labelTried, replyTried}
-use Rattle.desk.specs.inside.Columns.{Sized, keyNumber, seatOf, rowOf}
+use Rattle.desk.specs.inside.Columns.{Sized, keyNumber, rowOf}
 use Rattle.desk.specs.inside.Clauses.{seatGood, seatGoodAt}
 use Rattle.desk.specs.inside.Judging.{numberTried, columnAsked, stepTried, columnTried}
 use Rattle.desk.proofs.Below.{all-of}
@@ -102,3 +104,8 @@ pub reply-row : (d : Desk) (row : List Seat) (keys held ended cells marks : List
 reply-row d row keys held ended cells marks z e is f =
     reply-by-columns d keys held ended cells marks z (ap (λ (r : List Seat). isDesk (memory d r cells marks)) e ∙ is) f
     ∙ ap (λ (r : List Seat). replyTried (memory d r cells marks) f) e
+
+-- ---- a frame whose pointer and length were taken apart is the same frame
+
+pub same-frame : (f : List ℕ) → take (length f - 0) f ≡ f
+same-frame f = take-all (length f - 0) f (omega arith)

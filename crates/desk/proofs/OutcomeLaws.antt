@@ -1,11 +1,11 @@
 -- How the steps of a call make up its outcome. Assumes nothing.
-use Prim.Native.Nat.{ℕ}
+use Prim.Native.Nat.{ℕ, _<_, _≤_}
 use mathlib.Core.List.{List}
 use mathlib.Core.Bool.{Bool, true, false}
 use mathlib.Core.Path.{_≡_, refl, sym, ap, subst, _∙_}
 use native.Mathlib.Omega.{arith}
-use lib.ListN.{set}
-use lib.Seq.{set-getD}
+use lib.ListN.{length, set, List·getD-eq-default}
+use lib.Seq.{set-out, getD-set-same}
 use lib.Dec.{ltb}
 use Rattle.digits.specs.declared.refusal.Refusal.{Refusal}
 use Rattle.digits.specs.Refusals.{DESK}
@@ -17,16 +17,19 @@ use Rattle.desk.specs.declared.state.Desk.{Desk}
 use Rattle.desk.specs.declared.step.Progress.{Progress}
 use Rattle.desk.specs.declared.step.Stepped.{Stepped}
 use Rattle.desk.specs.declared.opening.Opening.{Opening}
+use Rattle.desk.specs.declared.opening.OpenRefusal.{OpenRefusal}
 use Rattle.desk.specs.declared.opening.OpenStep.{OpenStep}
 use Rattle.desk.specs.declared.reply.Taking.{Taking}
+use Rattle.desk.specs.declared.reply.ReplyRefusal.{ReplyRefusal}
 use Rattle.desk.specs.declared.reply.ReplyStep.{ReplyStep}
 use Rattle.desk.specs.Hearing.{heard}
 use Rattle.desk.specs.Step.{step}
+use Rattle.desk.specs.Limits.{seatCount}
 use Rattle.desk.specs.Seats.{zeroSeat, seatAt}
 use Rattle.desk.specs.Memory.{Memory, capacity}
 use Rattle.desk.specs.Desk.{isDesk}
-use Rattle.desk.specs.Calls.{whatIsGiven, requestTried, openTried, labelTried, replyTried, opens, opened, replies, taken, Did, OpenStepDid, ReplyStepDid}
-use Rattle.desk.specs.inside.Judging.{openNothing, replyNothing, stepTold, stepTried}
+use Rattle.desk.specs.Calls.{Outcome, whatIsGiven, requestTried, openTried, labelTried, replyTried, opens, opened, replies, taken, placeIn, openRefused, replyRefused, Did, Changed, OpenStepDid, ReplyStepDid}
+use Rattle.desk.specs.inside.Judging.{notOpened, notTaken, stepTold, stepTried}
 
 -- ---- further tests of an answer that is known
 
@@ -61,28 +64,6 @@ module _ (m : Memory) (f : List ℕ) where
   unfolding replyTried
   reply-off d = rw d
 
--- ---- a step of the code that changes no seat returns the first seat as it is
-
-abbrev sameFirst : Memory → Memory
-sameFirst m = record { row = set (m .row) 0 (seatAt (m .row) 0); bits = m .bits; count = m .count; cells = m .cells; marks = m .marks }
-
-pub same-first : (m : Memory) → sameFirst m ≡ m
-same-first m = λ i. record { row = set-getD (m .row) 0 zeroSeat i; bits = m .bits; count = m .count; cells = m .cells; marks = m .marks }
-
--- ---- a step that finds no desk
-
-pub nothing-opened : (m : Memory) (f : List ℕ) (d : Desk) (r : OpenStep) → isDesk m ≡ false → d ≡ record { bits = m .bits; count = m .count } → r ≡ openNothing d (seatAt (m .row) 0) → OpenStepDid m f r
-unfolding opens openTried
-nothing-opened m f d r e q is =
-    subst (λ (x : OpenStep). OpenStepDid m f x) (sym (is ∙ ap (λ (y : Desk). openNothing y (seatAt (m .row) 0)) q))
-    ((omega arith, refl), subst (λ (x : Memory). Did (refuses DESK) x (opens m f)) (sym (same-first m)) (rw e (record { answer = refl; memory = refl })))
-
-pub nothing-replied : (m : Memory) (f : List ℕ) (d : Desk) (r : ReplyStep) → isDesk m ≡ false → d ≡ record { bits = m .bits; count = m .count } → r ≡ replyNothing d (seatAt (m .row) 0) → ReplyStepDid m f r (m .cells) (m .marks)
-unfolding replies replyTried
-nothing-replied m f d r e q is =
-    subst (λ (x : ReplyStep). ReplyStepDid m f x (m .cells) (m .marks)) (sym (is ∙ ap (λ (y : Desk). replyNothing y (seatAt (m .row) 0)) q))
-    ((omega arith, refl), subst (λ (x : Memory). Did (refuses DESK) x (replies m f)) (sym (same-first m)) (rw e (record { answer = refl; memory = refl })))
-
 -- ---- the outcome of an opening
 
 module _ (m : Memory) (f : List ℕ) where
@@ -104,3 +85,36 @@ module _ (m : Memory) (f : List ℕ) where
   pub not-taken : (why : Refusal) → refuses why ≡ replyTried m f → Did (refuses why) m (replies m f)
   unfolding replies
   not-taken why e = rw (← e) (record { answer = refl; memory = refl })
+
+-- ---- the seat that a step returns, and its place
+
+-- m with one seat set
+abbrev put : Memory → ℕ → Seat → Memory
+put m i s = record { row = set (m .row) i s; bits = m .bits; count = m .count; cells = m .cells; marks = m .marks }
+
+module _ (m after : Memory) (o : Outcome) (full : length (m .row) ≡ seatCount) where
+  -- a step that changed a seat
+  pub one-changed : (i : ℕ) (s : Seat) → i < seatCount → after .row ≡ set (m .row) i s → Did (gives i) after o → Changed o i s
+  one-changed i s l e d =
+      let r : set (m .row) i s ≡ o .after .row = sym e ∙ (λ j. d .memory j .row) in
+      record { place = ap placeIn (d .answer); is = sym (getD-set-same (m .row) i s zeroSeat (subst (λ (n : ℕ). i < n) (sym full) l)) ∙ ap (λ (x : List Seat). seatAt x i) r }
+
+module _ (m : Memory) (o : Outcome) (why : Refusal) (full : length (m .row) ≡ seatCount) (d : Did (refuses why) m o) where
+  -- a step that changed none
+  pub none-changed : Changed o seatCount zeroSeat × Did (refuses why) (put m seatCount zeroSeat) o
+  none-changed =
+      let past : length (m .row) ≤ seatCount = omega (arith, full) in (
+        record { place = ap placeIn (d .answer); is = sym (List·getD-eq-default (m .row) zeroSeat past) ∙ ap (λ (x : List Seat). seatAt x seatCount) (λ j. d .memory j .row) },
+        record { answer = d .answer; memory = (λ j. record { row = set-out (m .row) seatCount zeroSeat past j; bits = m .bits; count = m .count; cells = m .cells; marks = m .marks }) ∙ d .memory },
+      )
+
+-- ---- a step that is refused
+
+module _ (m : Memory) (f : List ℕ) (full : length (m .row) ≡ seatCount) (d : Desk) (q : d ≡ record { bits = m .bits; count = m .count }) where
+  pub step-not-opened : (r : OpenStep) (why : OpenRefusal) → r ≡ notOpened d why → refuses (openRefused why) ≡ openTried m f → OpenStepDid m f r
+  step-not-opened r why is e =
+      subst (λ (x : OpenStep). OpenStepDid m f x) (sym (is ∙ ap (λ (y : Desk). notOpened y why) q)) (none-changed m (opens m f) (openRefused why) full (not-opened m f (openRefused why) e))
+
+  pub step-not-taken : (r : ReplyStep) (why : ReplyRefusal) → r ≡ notTaken d why → refuses (replyRefused why) ≡ replyTried m f → ReplyStepDid m f r (m .cells) (m .marks)
+  step-not-taken r why is e =
+      subst (λ (x : ReplyStep). ReplyStepDid m f x (m .cells) (m .marks)) (sym (is ∙ ap (λ (y : Desk). notTaken y why) q)) (none-changed m (replies m f) (replyRefused why) full (not-taken m f (replyRefused why) e))

@@ -1,10 +1,8 @@
 -- Only one outcome meets the promise of an opening, of a reply or of a capture. Assumes nothing.
-use Prim.Native.Nat.{ℕ, _<_}
+use Prim.Native.Nat.{ℕ}
 use mathlib.Core.List.{List}
 use mathlib.Core.Bool.{Bool, cond}
-use mathlib.Core.Path.{_≡_, refl, sym, ap, subst, _∙_}
-use lib.ListN.{length, set}
-use lib.Seq.{getD-set-same}
+use mathlib.Core.Path.{_≡_, refl, sym, ap, _∙_}
 use lib.Dec.{eqb}
 use Rattle.digits.specs.declared.refusal.Refusal.{Refusal}
 use Rattle.digits.specs.Refusals.{DESK, NO-ANSWER-DUE, IN-USE, NO-SEAT, STRAY, ENDED, OUT-OF-PLACE, FULL}
@@ -26,11 +24,10 @@ use Rattle.desk.specs.declared.capture.Counts.{Counts}
 use Rattle.desk.specs.declared.capture.CaptureAnswer.{CaptureAnswer}
 use Rattle.desk.specs.declared.capture.CaptureAnswer.the-variants.{Taken as All, NoDesk}
 use Rattle.desk.specs.declared.capture.CaptureDone.{CaptureDone}
-use Rattle.desk.specs.Limits.{seatCount}
-use Rattle.desk.specs.Seats.{zeroSeat, seatAt}
+use Rattle.desk.specs.Seats.{seatAt}
 use Rattle.desk.specs.Memory.{Memory, memory}
 use Rattle.desk.specs.Capture.{captureTold, TookCapture}
-use Rattle.desk.specs.Calls.{openTold, replyTold, placeIn, OpenDid, ReplyDid, OpenStepDid, ReplyStepDid}
+use Rattle.desk.specs.Calls.{Outcome, opens, replies, openTold, replyTold, Changed, OpenDid, ReplyDid, OpenStepDid, ReplyStepDid}
 use Rattle.desk.specs.Unique.{OneOutcome}
 
 -- ---- an answer can be recovered from what it means: no two refusals have the same number and offset
@@ -105,28 +102,29 @@ module _ (m : Memory) (f : List ℕ) where
       let n = d .memory ∙ sym (e .memory) in
       λ i. (record { answer = a i; desk = record { bits = n i .bits; count = n i .count }; row = n i .row }, (n i .cells, n i .marks))
 
--- a seat that was set at a place of a row is there
-same-seat : (row : List Seat) (i j : ℕ) (s t : Seat) → i < length row → j < length row → i ≡ j → set row i s ≡ set row j t → s ≡ t
-same-seat row i j s t l h e q = sym (getD-set-same row i s zeroSeat l) ∙ ap (λ (x : List Seat). seatAt x i) q ∙ ap (seatAt (set row j t)) e ∙ getD-set-same row j t zeroSeat h
+-- place and seat of a step are those of the outcome
+module _ (o : Outcome) (i j : ℕ) (s t : Seat) (d : Changed o i s) (e : Changed o j t) where
+  same-place : i ≡ j
+  same-place = d .place ∙ sym (e .place)
 
-module _ (m : Memory) (f : List ℕ) (full : length (m .row) ≡ seatCount) where
-  inside : (i : ℕ) → i < seatCount → i < length (m .row)
-  inside i l = subst (λ (n : ℕ). i < n) (sym full) l
+  same-seat : s ≡ t
+  same-seat = d .is ∙ ap (seatAt (o .after .row)) same-place ∙ sym (e .is)
 
+module _ (m : Memory) (f : List ℕ) where
   one-open-step : (r q : OpenStep) → OpenStepDid m f r → OpenStepDid m f q → r ≡ q
   one-open-step r q d e =
       let a = sym (open-back (r .answer)) ∙ ap openBack (d .1 .answer ∙ sym (e .1 .answer)) ∙ open-back (q .answer) in
       let n = d .1 .memory ∙ sym (e .1 .memory) in
-      let p = d .0 .1 ∙ ap (λ (x : OpenAnswer). placeIn (openTold x)) a ∙ sym (e .0 .1) in
-      let s = same-seat (m .row) (r .at) (q .at) (r .seat) (q .seat) (inside (r .at) (d .0 .0)) (inside (q .at) (e .0 .0)) p (λ i. n i .row) in
+      let p = same-place (opens m f) (r .at) (q .at) (r .seat) (q .seat) (d .0) (e .0) in
+      let s = same-seat (opens m f) (r .at) (q .at) (r .seat) (q .seat) (d .0) (e .0) in
       λ i. record { answer = a i; desk = record { bits = n i .bits; count = n i .count }; at = p i; seat = s i }
 
   one-reply-step : (o p : ReplyStep × (List ℕ × List ℕ)) → ReplyStepDid m f (o .0) (o .1 .0) (o .1 .1) → ReplyStepDid m f (p .0) (p .1 .0) (p .1 .1) → o ≡ p
   one-reply-step o p d e =
       let a = sym (reply-back (o .0 .answer)) ∙ ap replyBack (d .1 .answer ∙ sym (e .1 .answer)) ∙ reply-back (p .0 .answer) in
       let n = d .1 .memory ∙ sym (e .1 .memory) in
-      let k = d .0 .1 ∙ ap (λ (x : ReplyAnswer). placeIn (replyTold x)) a ∙ sym (e .0 .1) in
-      let s = same-seat (m .row) (o .0 .at) (p .0 .at) (o .0 .seat) (p .0 .seat) (inside (o .0 .at) (d .0 .0)) (inside (p .0 .at) (e .0 .0)) k (λ i. n i .row) in
+      let k = same-place (replies m f) (o .0 .at) (p .0 .at) (o .0 .seat) (p .0 .seat) (d .0) (e .0) in
+      let s = same-seat (replies m f) (o .0 .at) (p .0 .at) (o .0 .seat) (p .0 .seat) (d .0) (e .0) in
       λ i. (record { answer = a i; desk = record { bits = n i .bits; count = n i .count }; at = k i; seat = s i }, (n i .cells, n i .marks))
 
 pub one-outcome : OneOutcome

@@ -1,5 +1,5 @@
 -- The calls of the desk: what each one answers, and the state and memory that it leaves.
-use Prim.Native.Nat.{ℕ, _+_, _*_, _^_, _<_, min}
+use Prim.Native.Nat.{ℕ, _+_, _*_, _^_, min}
 use mathlib.Core.List.{List, _++_}
 use mathlib.Core.Bool.{Bool, cond, not, _&&_}
 use mathlib.Core.Path.{_≡_}
@@ -215,16 +215,21 @@ OpenDid m f r = Did (openTold (r .answer)) (memory (r .desk) (r .row) (m .cells)
 abbrev pub ReplyDid : Memory → List ℕ → ReplyDone → List ℕ → List ℕ → Type 0
 ReplyDid m f r cells′ marks′ = Did (replyTold (r .answer)) (memory (r .desk) (r .row) cells′ marks′) (replies m f)
 
--- the place of the seat that a call changed, 0 if it changed none
+-- the place of the seat that a call changed; if it changed none, 16, which is no place
 abbrev pub placeIn : Told ℕ → ℕ
 placeIn (gives s) = s
-placeIn (refuses f) = 0
+placeIn (refuses f) = seatCount
 
--- of a step, which returns that seat and its place instead of the row: the row with the seat set is the row after the call
+-- a step returns that seat and its place instead of the row: the seat is the one at that place after the call, and all zero if it is no place
+pub record Changed (o : Outcome) (at : ℕ) (seat : Seat) : Type 0 where
+  pub place : at ≡ placeIn (o .answer)
+  pub is : seat ≡ seatAt (o .after .row) at
+
+-- of a step: the row with the seat set is the row after the call
 abbrev pub OpenStepDid : Memory → List ℕ → OpenStep → Type 0
 OpenStepDid m f r =
-    ((r .at < seatCount) × (r .at ≡ placeIn (openTold (r .answer)))) × Did (openTold (r .answer)) (memory (r .desk) (set (m .row) (r .at) (r .seat)) (m .cells) (m .marks)) (opens m f)
+    Changed (opens m f) (r .at) (r .seat) × Did (openTold (r .answer)) (memory (r .desk) (set (m .row) (r .at) (r .seat)) (m .cells) (m .marks)) (opens m f)
 
 abbrev pub ReplyStepDid : Memory → List ℕ → ReplyStep → List ℕ → List ℕ → Type 0
 ReplyStepDid m f r cells′ marks′ =
-    ((r .at < seatCount) × (r .at ≡ placeIn (replyTold (r .answer)))) × Did (replyTold (r .answer)) (memory (r .desk) (set (m .row) (r .at) (r .seat)) cells′ marks′) (replies m f)
+    Changed (replies m f) (r .at) (r .seat) × Did (replyTold (r .answer)) (memory (r .desk) (set (m .row) (r .at) (r .seat)) cells′ marks′) (replies m f)

@@ -7,6 +7,7 @@ use crate::key::Key;
 use crate::limits::SEATS;
 use crate::state::Desk;
 use crate::state::Seat;
+use crate::state::no_seat;
 use crate::state::with_seat;
 use digits::refusal as table;
 use digits::refusal::Refusal;
@@ -29,7 +30,7 @@ ghost use Rattle.frames.specs.Kind.{read};
 ghost use Rattle.frames.specs.Request.{request};
 ghost use mathlib.Core.Bool.{false};
 ghost use Rattle.desk.specs.inside.Columns.{Short, keyNumber, keyIs};
-ghost use Rattle.desk.specs.inside.Judging.{openNothing, openJudged, numberTried, columnAsked};
+ghost use Rattle.desk.specs.inside.Judging.{notOpened, openJudged, numberTried, columnAsked};
 
 // In the order in which they are tested.
 pub enum OpenRefusal {
@@ -111,39 +112,35 @@ pub fn open_step(
     let mut held = [0u32; SEATS];
     let mut ended = [0u32; SEATS];
     if !columns(row, desk.bits, &mut keys, &mut held, &mut ended) {
-        return no_desk(desk, row[0]);
+        return not_opened(desk, OpenRefusal::Desk);
     }
     if !is_desk(desk, &keys, &held, &ended, cells, marks) {
-        return no_desk(desk, row[0]);
+        return not_opened(desk, OpenRefusal::Desk);
     }
     match judged(&keys, desk.bits, frame) {
         OpenJudged::Opens(opening) => {
             let at = opening.seat;
             let key = opening.key;
+            let seat = at as u32;
             OpenStep {
-                answer: OpenAnswer::Opened(at as u32),
+                answer: OpenAnswer::Opened(seat),
                 desk: opened_state(desk, at),
                 at,
                 seat: new_seat(key),
             }
         }
-        OpenJudged::Refuses(refusal) => OpenStep {
-            answer: OpenAnswer::Refused(refusal),
-            desk,
-            at: 0,
-            seat: row[0],
-        },
+        OpenJudged::Refuses(refusal) => not_opened(desk, refusal),
     }
 }
 
-fn no_desk(desk: Desk, first: Seat) -> OpenStep
-    ensures { λ r. ⌜ r ≡ openNothing desk first ⌝ }
+fn not_opened(desk: Desk, refusal: OpenRefusal) -> OpenStep
+    ensures { λ r. ⌜ r ≡ notOpened desk refusal ⌝ }
 {
     OpenStep {
-        answer: OpenAnswer::Refused(OpenRefusal::Desk),
+        answer: OpenAnswer::Refused(refusal),
         desk,
-        at: 0,
-        seat: first,
+        at: SEATS,
+        seat: no_seat(),
     }
 }
 
@@ -151,7 +148,9 @@ pub(crate) fn judged(keys: &[u32], bits: u64, frame: &[u8]) -> OpenJudged
     requires { ⌜ length (now keys) ≡ seatCount ⌝ }
     ensures { λ r. ⌜ openJudged r ≡ whatIsGiven (read request (now (frame .entry))) (columnAsked (now (keys .entry)) bits) ⌝ }
 {
-    match read_request(frame) {
+    // As in a reply.
+    let whole = &frame[0..frame.len()];
+    match read_request(whole) {
         RequestRead::Request(r) => request_judged(keys, bits, r),
         RequestRead::Refused(refusal) => OpenJudged::Refuses(OpenRefusal::Frame(refusal)),
     }

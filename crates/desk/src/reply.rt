@@ -9,6 +9,7 @@ use crate::limits::SEATS;
 use crate::state::Desk;
 use crate::state::Seat;
 use crate::state::capacity;
+use crate::state::no_seat;
 use crate::state::with_seat;
 use crate::step::Progress;
 use crate::step::Stepped;
@@ -34,7 +35,7 @@ ghost use Rattle.desk.specs.Calls.{whatIsGiven, grown, replyRefused, Rep
 ghost use Rattle.desk.specs.Key.{keyIn};
 ghost use Rattle.desk.specs.Hearing.{heard};
 ghost use Rattle.desk.specs.inside.Columns.{Short, Sized};
-ghost use Rattle.desk.specs.inside.Judging.{replyNothing, replyJudged, stepTried, columnTried, RoomFor, PutReply};
+ghost use Rattle.desk.specs.inside.Judging.{notTaken, replyJudged, stepTried, columnTried, RoomFor, PutReply};
 
 // In the order in which they are tested.
 pub enum ReplyRefusal {
@@ -71,7 +72,7 @@ pub struct ReplyDone {
     pub row: [Seat; SEATS],
 }
 
-// What a reply leaves: the state, and the one seat that changed, with its place. If none changed, that is the first seat as it was.
+// What a reply leaves: the state, and the one seat that changed, with its place. If none changed, the place is SEATS, and the seat is all zero.
 pub struct ReplyStep {
     pub answer: ReplyAnswer,
     pub desk: Desk,
@@ -124,10 +125,10 @@ pub fn reply_step(
     let mut held = [0u32; SEATS];
     let mut ended = [0u32; SEATS];
     if !columns(row, desk.bits, &mut keys, &mut held, &mut ended) {
-        return no_desk(desk, row[0]);
+        return not_taken(desk, ReplyRefusal::Desk);
     }
     if !is_desk(desk, &keys, &held, &ended, cells, marks) {
-        return no_desk(desk, row[0]);
+        return not_taken(desk, ReplyRefusal::Desk);
     }
     let free = (desk.count as usize) < capacity(cells.len(), marks.len());
     match judged(&keys, &held, &ended, free, frame) {
@@ -142,23 +143,18 @@ pub fn reply_step(
                 seat: grown_seat(row[at], taking.status),
             }
         }
-        ReplyJudged::Refuses(refusal) => ReplyStep {
-            answer: ReplyAnswer::Refused(refusal),
-            desk,
-            at: 0,
-            seat: row[0],
-        },
+        ReplyJudged::Refuses(refusal) => not_taken(desk, refusal),
     }
 }
 
-fn no_desk(desk: Desk, first: Seat) -> ReplyStep
-    ensures { λ r. ⌜ r ≡ replyNothing desk first ⌝ }
+fn not_taken(desk: Desk, refusal: ReplyRefusal) -> ReplyStep
+    ensures { λ r. ⌜ r ≡ notTaken desk refusal ⌝ }
 {
     ReplyStep {
-        answer: ReplyAnswer::Refused(ReplyRefusal::Desk),
+        answer: ReplyAnswer::Refused(refusal),
         desk,
-        at: 0,
-        seat: first,
+        at: SEATS,
+        seat: no_seat(),
     }
 }
 
@@ -194,10 +190,12 @@ pub(crate) fn judged(
     requires { ⌜ Sized (now keys) (now held) (now ended) ⌝ }
     ensures { λ r. ⌜ replyJudged r ≡ whatIsGiven (heard (now (frame .entry))) (columnTried (now (keys .entry)) (now (held .entry)) (now (ended .entry)) free) ⌝ }
 {
-    if is_reply(frame) {
-        return label_judged(keys, held, ended, free, label_at(frame));
+    // Pointer and length are taken apart here: copied together, they would have to wait until the caller has stored both.
+    let whole = &frame[0..frame.len()];
+    if is_reply(whole) {
+        return label_judged(keys, held, ended, free, label_at(whole));
     }
-    match check_reply(frame) {
+    match check_reply(whole) {
         // A frame that is no reply is refused, so this case never occurs.
         ReplyCheck::Good(_) => ReplyJudged::Refuses(ReplyRefusal::Stray),
         ReplyCheck::Refused(refusal) => ReplyJudged::Refuses(ReplyRefusal::Frame(refusal)),

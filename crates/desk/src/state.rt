@@ -4,9 +4,8 @@ use crate::limits::CELLS;
 use crate::limits::SEATS;
 use digits::least;
 ghost use mathlib.Core.Path.{_≡_};
-ghost use Prim.Native.Nat.{_<_};
 ghost use lib.ListN.{set};
-ghost use Rattle.desk.specs.Limits.{seatCount};
+ghost use Rattle.desk.specs.Seats.{zeroSeat};
 ghost use Rattle.desk.specs.Memory.{capacityOf};
 ghost use Rattle.desk.specs.Calls.{seatsInUse, emptyDesk};
 
@@ -32,13 +31,27 @@ pub struct Emptied {
     pub row: [Seat; SEATS],
 }
 
-// The row with another seat at a place.
+// A seat that is not in use.
+pub(crate) fn no_seat() -> Seat
+    ensures { λ r. ⌜ r ≡ zeroSeat ⌝ }
+{
+    Seat {
+        address: 0,
+        requester: 0,
+        number: 0,
+        held: 0,
+        ended: 0,
+    }
+}
+
+// The row with another seat at a place. SEATS is no place; then the row is as it was.
 pub(crate) fn with_seat(row: [Seat; SEATS], at: usize, seat: Seat) -> [Seat; SEATS]
-    requires { ⌜ at < seatCount ⌝ }
     ensures { λ r. ⌜ r ≡ set row at seat ⌝ }
 {
     let mut after = row;
-    after[at] = seat;
+    if at < SEATS {
+        after[at] = seat;
+    }
     after
 }
 
@@ -46,16 +59,9 @@ pub(crate) fn with_seat(row: [Seat; SEATS], at: usize, seat: Seat) -> [Seat; SEA
 pub fn reset() -> Emptied
     ensures { λ r. ⌜ r ≡ emptyDesk ⌝ }
 {
-    let zero = Seat {
-        address: 0,
-        requester: 0,
-        number: 0,
-        held: 0,
-        ended: 0,
-    };
     Emptied {
         desk: Desk { bits: 0, count: 0 },
-        row: [zero; SEATS],
+        row: [no_seat(); SEATS],
     }
 }
 

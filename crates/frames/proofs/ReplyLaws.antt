@@ -39,7 +39,7 @@ use Rattle.frames.specs.Timing.{timingKind, timed}
 use Rattle.frames.specs.Reply.{isLetter, isReplyChannel, leastRun, Tail, fromBib, tailOf, withTail, replyFields, reply, Whole, toldBy, orZero, ReadAs, labelOf, labelled}
 use Rattle.frames.specs.inside.Held.{orNone}
 use Rattle.frames.specs.inside.Timing.{timingWrong, timingText}
-use Rattle.frames.specs.inside.Reply.{refusedBy, wrongPlace, judgedAs, headAt, headWrong, kindAt, seenIn, replyAt, wrongAt, spoiledByte, fieldsRead, fieldsChecked, headText, replyText}
+use Rattle.frames.specs.inside.Reply.{refusedBy, wrongPlace, judgedAs, headWrong, kindAt, seenIn, replyAt, wrongAt, spoiledByte, fieldsRead, fieldsChecked, headText, replyText}
 use Rattle.frames.specs.inside.Spoiled.{inClass, lookedIn, headByte, replyByte}
 use Rattle.frames.proofs.RuleLaws.{up-to, in-range, none-in-range, or-one, to-240}
 use Rattle.frames.proofs.ShapeLaws.{all-bytes}

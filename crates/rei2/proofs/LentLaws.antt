@@ -3,7 +3,7 @@
 use mathlib.Core.Path.{_≡_, refl, sym, subst, _∙_}
 use mathlib.Core.Bool.{false}
 use mathlib.Core.List.{List, []}
-use Prim.Native.Nat.{ℕ, _<_}
+use Prim.Native.Nat.{ℕ}
 use lib.ListN.{length, set}
 use lib.Dec.{eqb}
 use Rattle.digits.specs.Refusals.{DESK}
@@ -80,9 +80,6 @@ module _ (v-seats : List Seat) (v-desk : Desk) where
   refused-reset e cells marks = rw e (record { answer = refl; seats = refl; cells = refl; marks = refl })
 
   module _ (v-cells v-marks v-frame : List ℕ) where
-    pub below-open : (r : One) → CoreOpen v-seats v-desk v-cells v-marks v-frame r → r .at < seatCount
-    below-open r e = e .below
-
     pub done-open : (r : One) → CoreOpen v-seats v-desk v-cells v-marks v-frame r → OpenLent v-seats v-desk v-cells v-marks v-frame (r .answer) (set v-seats (r .at) (r .seat))
     done-open r e = record { answer = e .answer; seats = e .seats; cells = sym (keeps-memory .opening-cells _ v-frame); marks = sym (keeps-memory .opening-marks _ v-frame) }
 
@@ -91,9 +88,6 @@ module _ (v-seats : List Seat) (v-desk : Desk) where
         let m : Memory = memory v-desk v-seats v-cells v-marks in
         subst (λ (o : Outcome). LentCall o (refusal-open v-desk) v-seats v-cells v-marks) (sym (not-opened m v-frame (no-desk m e)))
         (record { answer = refl; seats = refl; cells = refl; marks = refl })
-
-    pub below-reply : (r : One) (cells′ marks′ : List ℕ) → CoreReply v-seats v-desk v-cells v-marks v-frame r cells′ marks′ → r .at < seatCount
-    below-reply r cells′ marks′ e = e .0 .below
 
     pub done-reply : (r : One) (cells′ marks′ : List ℕ) → CoreReply v-seats v-desk v-cells v-marks v-frame r cells′ marks′ → ReplyLent v-seats v-desk v-cells v-marks v-frame (r .answer) (set v-seats (r .at) (r .seat)) cells′ marks′
     done-reply r cells′ marks′ e = record { answer = e .0 .answer; seats = e .0 .seats; cells = e .1 .0; marks = e .1 .1 }

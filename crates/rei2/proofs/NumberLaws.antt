@@ -1,7 +1,8 @@
 -- From the answers of the other crates' calls to the numbers of the host's answers. Assumes nothing.
-use mathlib.Core.Path.{_≡_, ap}
+use mathlib.Core.Path.{_≡_, sym, ap, subst, _∙_}
 use mathlib.Core.List.{List, []}
-use Prim.Native.Nat.{ℕ, _<_}
+use Prim.Native.Nat.{ℕ, _≤_}
+use native.Mathlib.Omega.{arith}
 use lib.ListN.{length, set}
 use borrow.Author.Tests.{eq-eqb}
 use Rattle.digits.specs.Told.{Told, gives}
@@ -16,10 +17,10 @@ use Rattle.desk.specs.declared.state.Desk.{Desk}
 use Rattle.desk.specs.declared.capture.CaptureAnswer.{CaptureAnswer}
 use Rattle.desk.specs.Limits.{seatCount}
 use Rattle.desk.specs.Memory.{Memory, memory}
-use Rattle.desk.specs.Calls.{Outcome, Did, resets, emptyRow, emptyState}
+use Rattle.desk.specs.Calls.{Outcome, placeIn, Did, Changed, opens, replies, resets, emptyRow, emptyState}
 use Rattle.desk.specs.Capture.{captureTold, captures, TookCapture}
+use Rattle.desk.proofs.StepLaws.{by-opening, by-reply}
 use Rattle.rei2.specs.declared.lent.Out.{Out}
-use Rattle.rei2.specs.declared.lent.One.{One}
 use Rattle.rei2.specs.declared.lent.Captured.{Captured}
 use Rattle.rei2.specs.declared.reply.ReplyAnswer.{ReplyAnswer}
 use Rattle.rei2.specs.Lent.{stateIn, deskAnswer, captureAnswer}
@@ -38,9 +39,20 @@ module _ (s : List ℕ) (a : ReplyRead) (h : ReadAs s a) where
 
 -- ---- the calls by value
 
-pub one-seat-is : (row : List Seat) (d : Desk) (cells marks : List ℕ) (at : ℕ) (s : Seat) (t : Told ℕ) (o : Outcome) → at < seatCount → Did t (memory d (set row at s) cells marks) o
+-- the place that a step returns is that of a seat, or 16
+module _ (m : Memory) (f : List ℕ) where
+  pub opening-place : placeIn (opens m f .answer) ≤ seatCount
+  opening-place = by-opening m f (λ (o : Outcome). placeIn (o .answer) ≤ seatCount) (λ o k. omega (arith, k .below)) (λ why. omega arith)
+
+  pub reply-place : placeIn (replies m f .answer) ≤ seatCount
+  reply-place = by-reply m f (λ (o : Outcome). placeIn (o .answer) ≤ seatCount) (λ t k. omega (arith, k .below)) (λ why. omega arith)
+
+pub step-place : (o : Outcome) (at : ℕ) (s : Seat) (t : Told ℕ) (after : Memory) → placeIn (o .answer) ≤ seatCount → Changed o at s × Did t after o → (at ≤ seatCount) × (at ≡ placeIn t)
+step-place o at s t after l h = (subst (λ (n : ℕ). n ≤ seatCount) (sym (h .0 .place)) l, h .0 .place ∙ ap placeIn (sym (h .1 .answer)))
+
+pub one-seat-is : (row : List Seat) (d : Desk) (cells marks : List ℕ) (at : ℕ) (s : Seat) (t : Told ℕ) (o : Outcome) → Did t (memory d (set row at s) cells marks) o
     → OneSeat row o (record { at = at; seat = s; answer = deskAnswer d t })
-one-seat-is row d cells marks at s t o l h = record { answer = λ i. deskAnswer (stateIn (h .memory i)) (h .answer i); below = l; seats = λ i. h .memory i .row }
+one-seat-is row d cells marks at s t o h = record { answer = λ i. deskAnswer (stateIn (h .memory i)) (h .answer i); seats = λ i. h .memory i .row }
 
 pub captured-is : (m m′ : Memory) (s : List ℕ) (a : CaptureAnswer) → TookCapture m s a m′
     → _≡_ {A = Captured} (record { row = m′ .row; answer = captureAnswer (stateIn m′) (captureTold a) })

@@ -1,7 +1,7 @@
 -- What a call by value returns, taken apart: its row is an array of seats, its seat a seat, and its answer an answer, with the machine values that they have. Assumes nothing.
 use mathlib.Core.Path.{sym, subst, _∙_}
 use mathlib.Core.List.{[], _∷_, List, map}
-use Prim.Native.Nat.{ℕ}
+use Prim.Native.Nat.{ℕ, _<_, _^_}
 use lib.ListN.{length-map}
 use mir.Val.{Val}
 use denote.Array.{Array, each, array-vals, array-tells}
@@ -49,6 +49,9 @@ module _ (r : Out) (vs : List Val) (is : Is OutD.the-row r vs) where
       subst (Is DeskAnswerD.the-row (r .answer)) (DeskAnswerL.lowers .val-is (r .answer) _ p) p
 
 module _ (r : One) (vs : List Val) (is : Is OneD.the-row r vs) where
+  pub one-at-fits : r .at < 2 ^ 64
+  one-at-fits = LL.owed OneD.the-type OneL.the-laws r vs is .0 .1
+
   pub one-seat-is : Is SeatD.the-row (r .seat) (spell (r .seat))
   one-seat-is =
       let p : Is SeatD.the-row (r .seat) _ = LL.owed OneD.the-type OneL.the-laws r vs is .1 .0 in

@@ -15,7 +15,7 @@ use desk::state::Seat;
 use desk::state::reset;
 use digits::refusal as table;
 ghost use mathlib.Core.Path.{_≡_};
-ghost use Prim.Native.Nat.{_<_};
+ghost use Prim.Native.Nat.{_≤_};
 ghost use lib.ListN.{length, set};
 ghost use Rattle.digits.specs.Refusals.{DESK};
 ghost use Rattle.digits.specs.Told.{refuses};
@@ -54,7 +54,7 @@ pub(crate) struct Captured {
     pub answer: CapturedAnswer,
 }
 
-// The same for a call that changes at most one seat: the seat to store, and its place.
+// The same for a call that changes at most one seat: the seat to store, and its place. If none changed, SEATS is the place, and nothing is stored.
 pub(crate) struct One {
     pub at: usize,
     pub seat: Seat,
@@ -87,10 +87,13 @@ pub(crate) fn store(s: &mut [Seat], row: [Seat; SEATS])
     }
 }
 
+// Stores nothing if the place is past the end.
 pub(crate) fn put_seat(s: &mut [Seat], at: usize, seat: Seat)
-    requires { ⌜ at < length (now s) ⌝ }
     ensures { λ _. ⌜ now (s .exit) ≡ set (now (s .entry)) at seat ⌝ }
 {
+    if s.len() <= at {
+        return;
+    }
     s[at] = seat;
 }
 
@@ -126,7 +129,7 @@ pub(crate) fn no_captured(desk: Desk) -> CapturedAnswer
 
 // The seat is the place of the step: the number within the answer would have to be copied out of memory that was just stored.
 fn open_answer(desk: Desk, answer: OpenAnswer, at: usize) -> DeskAnswer
-    requires { ⌜ (at < seatCount) × (at ≡ placeIn (openTold answer)) ⌝ }
+    requires { ⌜ (at ≤ seatCount) × (at ≡ placeIn (openTold answer)) ⌝ }
     ensures { λ r. ⌜ r ≡ deskAnswer desk (openTold answer) ⌝ }
 {
     match answer {
@@ -151,7 +154,7 @@ fn open_answer(desk: Desk, answer: OpenAnswer, at: usize) -> DeskAnswer
 }
 
 fn reply_answer(desk: Desk, answer: ReplyAnswer, at: usize) -> DeskAnswer
-    requires { ⌜ (at < seatCount) × (at ≡ placeIn (replyTold answer)) ⌝ }
+    requires { ⌜ (at ≤ seatCount) × (at ≡ placeIn (replyTold answer)) ⌝ }
     ensures { λ r. ⌜ r ≡ deskAnswer desk (replyTold answer) ⌝ }
 {
     match answer {

@@ -41,12 +41,11 @@
 //! at, seat and answer, in this order.
 //!
 //! The crate's proofs/LentLaws has `refusal-x`, `early-refusal-x` and these laws, where x is X in lower case. Those about an
-//! early test are only needed if there is one, and only then do the others take TestX:
+//! early test are only needed if there is one, and only then do the first two take TestX:
 //!
 //! ```text
 //! done-x     (each parameter) → TestX .. 0 → (r : what CORE returns) (each other `&mut` at exit) → CoreX ..
 //!            → XLent .. (r .answer) (each `&mut` at exit; for seats (r .row), or set seats (r .at) (r .seat))
-//! below-x    only for `put_seat`; with the premises of done-x: r .at < seatCount
 //! refused-x  (each parameter) → TestX .. 0 → eqb (length seats) seatCount ≡ false
 //!            → XLent .. (refusal-x desk) (each `&mut` parameter as it was)
 //! early-x    (each parameter) (n : ℕ) → TestX .. n → eqb n 0 ≡ false

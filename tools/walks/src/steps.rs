@@ -455,8 +455,8 @@ impl Steps<'_> {
         w.line(&match c.stored {
             Stored::Row => format!("stores {lent} (r .row) {is} ! fm known-store (λ i. {handed}) $"),
             Stored::Seat => {
-                let below = of_core(c, "below");
-                format!("puts {lent} (r .at) (r .seat) {below} {is} ! fm known-put (λ i. {handed}) $")
+                let fits = format!("({}-at-fits r (w ∷ []) is)", c.out());
+                format!("puts {lent} (r .at) (r .seat) {fits} {is} ! fm known-put (λ i. {handed}) $")
             }
         });
         w.rename(&format!("final {}", s.name));
@@ -480,7 +480,9 @@ impl Steps<'_> {
         };
         let finals = spaced(&c.muts(), |p| if p.is_seats { row.clone() } else { last(p) });
         let lengths = spaced(&c.mut_slices(), |p| if p.is_seats { &row_length } else { &p.len }.clone());
-        let said = of_core(c, "done");
+        let (values, lasts) = (spaced(&c.params, |p| p.v.clone()), spaced(&c.core_muts(), |p| last(p)));
+        let passed = if c.early.is_some() { "passed" } else { "" };
+        let said = format!("(done-{} {values} {passed} r {lasts} e)", c.law());
         w.ends(&format!("by ! (exits (r .answer) _ {finals} {lengths} {answer_is} {said})"), 0);
     }
 }
@@ -538,13 +540,6 @@ fn tokens(refs: &[&Param]) -> String {
 /// The proof that a field of the struct that the core returned is in its row.
 fn is_part(c: &Call, field: &str) -> String {
     format!("({}-{field}-is r (w ∷ []) is)", c.out())
-}
-
-/// What a law of the crate says of what the core ensures.
-fn of_core(c: &Call, law: &str) -> String {
-    let (values, lasts) = (spaced(&c.params, |p| p.v.clone()), spaced(&c.core_muts(), |p| last(p)));
-    let passed = if c.early.is_some() { "passed" } else { "" };
-    format!("({law}-{} {values} {passed} r {lasts} e)", c.law())
 }
 
 /// The arguments about the seats for the load and the store.

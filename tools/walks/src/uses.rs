@@ -148,9 +148,9 @@ fn of_crate(c: &Call) -> String {
     let Call { crate_name, module, kind, refuser, core, .. } = c;
     let (specs, proofs) = (format!("Rattle.{crate_name}.specs"), format!("Rattle.{crate_name}.proofs"));
     let (law, out) = (c.law(), c.out());
-    let (steps, part, below) = match c.stored {
-        Stored::Row => ("Store, loads, stores", "row", String::new()),
-        Stored::Seat => ("Put, loads, puts", "seat", format!("below-{law}, ")),
+    let (steps, parts) = match c.stored {
+        Stored::Row => ("Store, loads, stores", format!("{out}-row-is")),
+        Stored::Seat => ("Put, loads, puts", format!("{out}-at-fits, {out}-seat-is")),
     };
     let early = |text: String| if c.early.is_some() { text } else { String::new() };
     let (test, laws) = (early(format!(", Test{kind}")), early(format!(", early-refusal-{law}, early-{law}")));
@@ -161,8 +161,8 @@ fn of_crate(c: &Call) -> String {
         format!("use {specs}.Lent.{{{kind}Lent}}\nuse {specs}.inside.Core.{{Core{kind}{test}}}\n"),
         format!("use {proofs}.Rows.{{guards, is-true, is-false}}\nuse {proofs}.Views.{{gives-up}}\n"),
         format!("use {proofs}.Steps.{{rowVal, Load, {steps}}}\n"),
-        format!("use {proofs}.Outs.{{{out}-{part}-is, {out}-answer-is}}\n"),
-        format!("use {proofs}.LentLaws.{{refusal-{law}, {below}done-{law}, refused-{law}{laws}}}\n"),
+        format!("use {proofs}.Outs.{{{parts}, {out}-answer-is}}\n"),
+        format!("use {proofs}.LentLaws.{{refusal-{law}, done-{law}, refused-{law}{laws}}}\n"),
         aliases.collect(),
         format!("use {proofs}.{module}.{refuser} as refuser\nuse {proofs}.{module}.{core} as core\n"),
     ]

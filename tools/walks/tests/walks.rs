@@ -541,8 +541,8 @@ fn one_seat_is_stored() {
             "use lib.ListN.{length-set, set}\n",
             "use Rattle.rei2.specs.declared.lent.One.{One}\n",
             "use Rattle.rei2.proofs.Steps.{rowVal, Load, Put, loads, puts}\n",
-            "use Rattle.rei2.proofs.Outs.{one-seat-is, one-answer-is}\n",
-            "use Rattle.rei2.proofs.LentLaws.{refusal-take, below-take, done-take, refused-take}\n",
+            "use Rattle.rei2.proofs.Outs.{one-at-fits, one-seat-is, one-answer-is}\n",
+            "use Rattle.rei2.proofs.LentLaws.{refusal-take, done-take, refused-take}\n",
             "use Rattle.rei2.proofs.lent.put_seat.Met as put-thm\n",
             "-- the seat is stored\n",
             "code.env #put put-def.routine code.calls-rei2·lent·put-seat (put-thm.met 𝓤 H 𝓜 𝓖 𝓡)",
@@ -560,7 +560,7 @@ fn one_seat_is_stored() {
         &proof,
         &[
             "puts 𝓤 H A W at-mem run κ-seats q-seats b-seats o-seats γ-seats v-seats room-seats full (r .at) (r .seat) ",
-            "(below-take v-seats v-desk v-cells v-frame r (zs .1 .1 .0) e) (one-seat-is r (w ∷ []) is) ! fm known-put ",
+            "(one-at-fits r (w ∷ []) is) (one-seat-is r (w ∷ []) is) ! fm known-put ",
             &format!("(and-then ! {} (and-then ! {} (no-more !)))", out(0), out(1)),
             "(sub ! 2 refl (whole !))",
             "by ! (exits (r .answer) _ (set v-seats (r .at) (r .seat)) (zs .1 .1 .0) (length-set v-seats (r .at) (r .seat)) ",
@@ -575,11 +575,14 @@ fn one_seat_is_stored() {
 fn one_seat_is_stored_after_an_early_test() {
     let proof = written(&edited_page(STORE, PUT), "rei2_page");
     let values = "v-seats v-desk v-tally v-cells v-line v-counts v-text v-seat v-whole passed r ";
-    stand(&proof, 1, &[&format!("(below-page {values}"), &format!("(done-page {values}")]);
     stand(
         &proof,
         1,
-        &[".LentLaws.{refusal-page, below-page, done-page, refused-page, early-refusal-page, early-page}\n"],
+        &[
+            "(out-at-fits r (w ∷ []) is)",
+            &format!("(done-page {values}"),
+            ".LentLaws.{refusal-page, done-page, refused-page, early-refusal-page, early-page}\n",
+        ],
     );
 }
 

@@ -9,13 +9,12 @@ use Rattle.digits.specs.Refusals.{NO-ANSWER-DUE, IN-USE, NO-SEAT, STRAY, ENDED,
 use Rattle.digits.specs.Told.{Told, gives, refuses, tried}
 use Rattle.frames.specs.declared.request.StaticRequest.{StaticRequest}
 use Rattle.frames.specs.declared.reply.ReplyLabel.{ReplyLabel}
-use Rattle.desk.specs.declared.state.Seat.{Seat}
 use Rattle.desk.specs.declared.state.Desk.{Desk}
 use Rattle.desk.specs.declared.opening.OpenStep.{OpenStep}
-use Rattle.desk.specs.declared.opening.OpenRefusal.the-variants.{Desk as open-no-desk}
+use Rattle.desk.specs.declared.opening.OpenRefusal.{OpenRefusal}
 use Rattle.desk.specs.declared.opening.OpenAnswer.the-variants.{Refused as not-opened}
 use Rattle.desk.specs.declared.reply.ReplyStep.{ReplyStep}
-use Rattle.desk.specs.declared.reply.ReplyRefusal.the-variants.{Desk as no-desk}
+use Rattle.desk.specs.declared.reply.ReplyRefusal.{ReplyRefusal}
 use Rattle.desk.specs.declared.reply.ReplyAnswer.the-variants.{Refused as not-taken}
 use Rattle.desk.specs.declared.key.Key.{Key}
 use Rattle.desk.specs.declared.opening.Opening.{Opening}
@@ -31,16 +30,16 @@ use Rattle.desk.specs.Limits.{seatCount, mostCells, cellSize}
 use Rattle.desk.specs.Below.{first}
 use Rattle.desk.specs.Key.{requestKey, keyIn}
 use Rattle.desk.specs.Step.{advanced, step}
-use Rattle.desk.specs.Seats.{lowestClear}
+use Rattle.desk.specs.Seats.{zeroSeat, lowestClear}
 use Rattle.desk.specs.Calls.{whatIsGiven, letterQ, withCell, openRefused, replyRefused}
 use Rattle.desk.specs.inside.Columns.{keyNumber, keyIs}
 
--- what a step returns if there is no desk: the first seat as it was
-abbrev pub openNothing : Desk → Seat → OpenStep
-openNothing d first = record { answer = not-opened open-no-desk; desk = d; at = 0; seat = first }
+-- what a step returns if it is refused
+abbrev pub notOpened : Desk → OpenRefusal → OpenStep
+notOpened d f = record { answer = not-opened f; desk = d; at = seatCount; seat = zeroSeat }
 
-abbrev pub replyNothing : Desk → Seat → ReplyStep
-replyNothing d first = record { answer = not-taken no-desk; desk = d; at = 0; seat = first }
+abbrev pub notTaken : Desk → ReplyRefusal → ReplyStep
+notTaken d f = record { answer = not-taken f; desk = d; at = seatCount; seat = zeroSeat }
 
 abbrev pub openJudged : OpenJudged → Told Opening
 openJudged (Opens o) = gives o

@@ -1,11 +1,10 @@
 -- What the calls by value return, from which the lent calls are made.
 use mathlib.Core.List.{List, []}
 use mathlib.Core.Path.{_≡_}
-use Prim.Native.Nat.{ℕ, _<_}
+use Prim.Native.Nat.{ℕ}
 use lib.ListN.{set}
 use Rattle.desk.specs.declared.state.Seat.{Seat}
 use Rattle.desk.specs.declared.state.Desk.{Desk}
-use Rattle.desk.specs.Limits.{seatCount}
 use Rattle.desk.specs.Memory.{memory}
 use Rattle.desk.specs.Calls.{Outcome, resets, opens, replies}
 use Rattle.desk.specs.Capture.{captures}
@@ -20,7 +19,6 @@ outOf o = record { row = o .after .row; answer = answerOf o }
 -- a call that changes at most one seat of the row: with that seat set at its place, the row is as after the call
 pub record OneSeat (row : List Seat) (o : Outcome) (r : One) : Type 0 where
   pub answer : r .answer ≡ answerOf o
-  pub below : r .at < seatCount
   pub seats : set row (r .at) (r .seat) ≡ o .after .row
 
 module _ (row : List Seat) (desk : Desk) where

@@ -1,5 +1,5 @@
 -- `desk::clauses::one_more` meets its contract. Assumes nothing.
-use mathlib.Core.Path.{_≡_, sym, ap, _∙_}
+use mathlib.Core.Path.{sym, ap, _∙_}
 use denote.Ref.{now}
 use Rattle.desk.proofs.ClauseLaws.{turn-refused, turn-taken}
 use Rattle.desk.proofs.HearingLaws.{good-heard}

@@ -1,7 +1,7 @@
 -- `desk::columns::same_column` meets its contract. Assumes nothing.
-use Prim.Native.Nat.{ℕ, _-_, _≤_}
+use Prim.Native.Nat.{_-_, _≤_}
 use denote.Ref.{now}
-use mathlib.Core.Path.{_≡_, refl, sym, ap, _∙_}
+use mathlib.Core.Path.{_≡_, refl}
 use Rattle.desk.specs.Below.{allBelow}
 use Rattle.desk.specs.Limits.{seatCount}
 use Rattle.desk.specs.inside.Columns.{sameAt}

@@ -7,7 +7,7 @@ open-step-requires : tie.Need-open-step-requires
 open-step-requires c κs = search needs
 
 with-seat-requires : tie.Need-with-seat-requires
-with-seat-requires c κs = c .before .before .open-step .ensures .0 .0
+with-seat-requires c κs = search needs
 
 returns : tie.Need-returns
 returns c = rw (c .with-seat .ensures) (c .before .before .before .open-step .ensures .1)

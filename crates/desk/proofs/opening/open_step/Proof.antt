@@ -1,13 +1,14 @@
 -- `desk::opening::open_step` meets its contract. Assumes nothing.
-use mathlib.Core.Bool.{Bool, true, false}
+use mathlib.Core.Bool.{true}
 use mathlib.Core.List.{List}
-use mathlib.Core.Path.{_≡_, refl, sym, ap, subst, _∙_}
+use mathlib.Core.Path.{_≡_, refl, sym, ap, _∙_}
 use native.Mathlib.Omega.{arith}
 use Prim.Native.Nat.{ℕ}
 use denote.Ref.{now}
-use lib.ListN.{set}
-use Rattle.digits.specs.Told.{gives, refuses}
+use lib.ListN.{length, set}
+use Rattle.digits.specs.Told.{gives}
 use Rattle.desk.specs.declared.state.Seat.{Seat}
+use Rattle.desk.specs.declared.opening.OpenRefusal.the-variants.{Desk as open-no-desk}
 use Rattle.desk.specs.Limits.{seatCount}
 use Rattle.desk.specs.Below.{allBelow}
 use Rattle.desk.specs.Memory.{Memory, memory}
@@ -16,10 +17,10 @@ use Rattle.desk.specs.inside.Columns.{Sized, rowOf}
 use Rattle.desk.specs.inside.Clauses.{seatGoodAt}
 use Rattle.desk.proofs.Below.{not-came, not-left}
 use Rattle.desk.proofs.ClauseLaws.{no-desk}
-use Rattle.desk.specs.Calls.{openTried, opens, openRefused, Did}
+use Rattle.desk.specs.Calls.{openTried, opens}
 use Rattle.desk.specs.inside.Judging.{openJudged}
 use Rattle.desk.proofs.StepLaws.{Opens, opens-taken}
-use Rattle.desk.proofs.OutcomeLaws.{same-first, nothing-opened, opening-done, not-opened}
+use Rattle.desk.proofs.OutcomeLaws.{one-changed, open-off, step-not-opened, opening-done}
 use Rattle.desk.proofs.JudgeLaws.{open-row}
 use borrow.Author.Needs.{needs}
 use Rattle.desk.proofs.opening.open_step.Statement.{statement}
@@ -29,14 +30,17 @@ use Rattle.desk.proofs.opening.open_step.Tie as tie
 sized : (c : tie.After-columns) → Sized (c .columns .last .1 .1 .0) (c .columns .last .1 .1 .1 .0) (c .columns .last .1 .1 .1 .1 .0)
 sized c = record { all-keys = c .columns .kept .1 .1 .0; all-held = c .columns .kept .1 .1 .1 .0; all-ended = c .columns .kept .1 .1 .1 .1 .0 }
 
-shown : (c : tie.Else1) → rowOf (c .before .before .before .before .columns .last .1 .1 .0) (c .before .before .before .before .columns .last .1 .1 .1 .0) (c .before .before .before .before .columns .last .1 .1 .1 .1 .0) ≡ c .before .before .before .before .before .before .before .before .before .before .before .args .t2
+shown : (c : tie.Else1) → rowOf (c .before .before .before .before .columns .last .1 .1 .0) (c .before .before .before .before .columns .last .1 .1 .1 .0) (c .before .before .before .before .columns .last .1 .1 .1 .1 .0) ≡ c .before .before .before .before .before .before .before .before .before .before .before .args .row
 shown c = c .before .before .before .before .columns .ensures .1 (not-left refl (c .if1 .left))
+
+full : (c : tie.Else1) → length (c .before .before .before .before .before .before .before .before .before .before .before .args .row) ≡ seatCount
+full c = search needs
 
 good : (c : tie.Else1) → allBelow seatCount (seatGoodAt (rowOf (c .before .before .before .before .columns .last .1 .1 .0) (c .before .before .before .before .columns .last .1 .1 .1 .0) (c .before .before .before .before .columns .last .1 .1 .1 .1 .0)) (c .before .before .before .before .before .before .before .before .before .before .before .args .desk .bits)) ≡ true
 good c = ap (λ (r : List Seat). allBelow seatCount (seatGoodAt r (c .before .before .before .before .before .before .before .before .before .before .before .args .desk .bits))) (shown c) ∙ not-left (c .before .before .before .before .columns .ensures .0) (c .if1 .left)
 
 abbrev M : tie.After-judged → Memory
-M c = memory (c .before .before .before .before .before .before .before .before .before .before .before .before .before .before .before .before .before .before .args .desk) (c .before .before .before .before .before .before .before .before .before .before .before .before .before .before .before .before .before .before .args .t2) (now (c .before .before .before .before .before .before .before .before .before .before .before .before .before .before .before .before .before .before .args .cells)) (now (c .before .before .before .before .before .before .before .before .before .before .before .before .before .before .before .before .before .before .args .marks))
+M c = memory (c .before .before .before .before .before .before .before .before .before .before .before .before .before .before .before .before .before .before .args .desk) (c .before .before .before .before .before .before .before .before .before .before .before .before .before .before .before .before .before .before .args .row) (now (c .before .before .before .before .before .before .before .before .before .before .before .before .before .before .before .before .before .before .args .cells)) (now (c .before .before .before .before .before .before .before .before .before .before .before .before .before .before .before .before .before .before .args .marks))
 
 abbrev F : tie.After-judged → List ℕ
 F c = now (c .before .before .before .before .before .before .before .before .before .before .before .before .before .before .before .before .before .before .args .frame)
@@ -47,7 +51,7 @@ tried c =
     let is = c .before .before .before .is-desk .ensures in
     let row = shown (c .before .before .before .before .before .before .before) in
     c .judged .ensures
-    ∙ open-row (a .desk) (a .t2) (c .before .before .before .before .before .before .before .before .before .before .before .columns .last .1 .1 .0) (c .before .before .before .before .before .before .before .before .before .before .before .columns .last .1 .1 .1 .0) (c .before .before .before .before .before .before .before .before .before .before .before .columns .last .1 .1 .1 .1 .0) (now (a .cells)) (now (a .marks)) (sized (c .before .before .before .before .before .before .before .before .before .before .before)) row
+    ∙ open-row (a .desk) (a .row) (c .before .before .before .before .before .before .before .before .before .before .before .columns .last .1 .1 .0) (c .before .before .before .before .before .before .before .before .before .before .before .columns .last .1 .1 .1 .0) (c .before .before .before .before .before .before .before .before .before .before .before .columns .last .1 .1 .1 .1 .0) (now (a .cells)) (now (a .marks)) (sized (c .before .before .before .before .before .before .before .before .before .before .before)) row
     (ap (λ (r : List Seat). isDesk (memory (a .desk) r (now (a .cells)) (now (a .marks)))) (sym row) ∙ not-left is (c .before .before .if2 .left)) (F c)
 
 judged-opens : (c : tie.After-opening) → gives (c .opening .given .0 .0) ≡ openTried (M (c .before .before)) (F (c .before .before))
@@ -68,17 +72,16 @@ slice-aggregate-columns-3 c = search needs
 columns-requires : tie.Need-columns-requires
 columns-requires c κs = search needs
 
-array-copy-out-no-desk : tie.Need-array-copy-out-no-desk
-array-copy-out-no-desk c = search needs
-
-no-desk-requires : tie.Need-no-desk-requires
-no-desk-requires c κs = search needs
+not-opened-requires : tie.Need-not-opened-requires
+not-opened-requires c κs = search needs
 
 returns : tie.Need-returns
 returns c =
-    let a = c .before .before .before .before .before .before .before .before .before .before .before .before .before .args in
-    let m = memory (a .desk) (a .t2) (now (a .cells)) (now (a .marks)) in
-    nothing-opened m (now (a .frame)) (a .desk) (c .no-desk .result) (sym (no-desk m (search needs) (not-came (c .before .before .before .before .before .before .columns .ensures .0) (c .before .before .if1 .taken)))) refl (c .no-desk .ensures)
+    let a = c .before .before .before .before .before .before .before .before .before .before .before .before .args in
+    let m = memory (a .desk) (a .row) (now (a .cells)) (now (a .marks)) in
+    let full : length (a .row) ≡ seatCount = search needs in
+    step-not-opened m (now (a .frame)) full (a .desk) refl (c .not-opened .result) open-no-desk (c .not-opened .ensures)
+    (open-off m (now (a .frame)) (sym (no-desk m full (not-came (c .before .before .before .before .before .columns .ensures .0) (c .before .if1 .taken)))))
 
 slice-aggregate-is-desk : tie.Need-slice-aggregate-is-desk
 slice-aggregate-is-desk c = search needs
@@ -92,18 +95,15 @@ slice-aggregate-is-desk-3 c = search needs
 is-desk-requires : tie.Need-is-desk-requires
 is-desk-requires c κs = (sized (c .before .before .before .before .before .before .before), good (c .before .before .before))
 
-array-copy-out-no-desk-2 : tie.Need-array-copy-out-no-desk-2
-array-copy-out-no-desk-2 c = search needs
-
-no-desk-requires-2 : tie.Need-no-desk-requires-2
-no-desk-requires-2 c κs = search needs
+not-opened-requires-2 : tie.Need-not-opened-requires-2
+not-opened-requires-2 c κs = search needs
 
 returns-2 : tie.Need-returns-2
 returns-2 c =
-    let a = c .before .before .before .before .before .before .before .before .before .before .before .before .before .before .before .before .before .before .args in
-    let m = memory (a .desk) (a .t2) (now (a .cells)) (now (a .marks)) in
-    nothing-opened m (now (a .frame)) (a .desk) (c .no-desk2 .result)
-    (ap (λ (r : List Seat). isDesk (memory (a .desk) r (now (a .cells)) (now (a .marks)))) (sym (shown (c .before .before .before .before .before .before .before))) ∙ not-came (c .before .before .before .is-desk .ensures) (c .before .before .if2 .taken)) refl (c .no-desk2 .ensures)
+    let a = c .before .before .before .before .before .before .before .before .before .before .before .before .before .before .before .before .before .args in
+    let m = memory (a .desk) (a .row) (now (a .cells)) (now (a .marks)) in
+    step-not-opened m (now (a .frame)) (full (c .before .before .before .before .before .before)) (a .desk) refl (c .not-opened2 .result) open-no-desk (c .not-opened2 .ensures)
+    (open-off m (now (a .frame)) (ap (λ (r : List Seat). isDesk (memory (a .desk) r (now (a .cells)) (now (a .marks)))) (sym (shown (c .before .before .before .before .before .before))) ∙ not-came (c .before .before .is-desk .ensures) (c .before .if2 .taken)))
 
 slice-aggregate-judged : tie.Need-slice-aggregate-judged
 slice-aggregate-judged c = search needs
@@ -114,8 +114,8 @@ judged-requires c κs = search needs
 enum-known-opening : tie.Need-enum-known-opening
 enum-known-opening c = search needs
 
-cast-t39 : tie.Need-cast-t39
-cast-t39 c = let l = known (c .before .before) .below in omega (arith, l)
+cast-seat : tie.Need-cast-seat
+cast-seat c = let l = known (c .before .before) .below in omega (arith, l)
 
 opened-state-requires : tie.Need-opened-state-requires
 opened-state-requires c κs = let k = known (c .before .before) in (k .below, (k .facts .bits, k .clear))
@@ -126,8 +126,8 @@ new-seat-requires c κs = search needs
 enum-known-refusal : tie.Need-enum-known-refusal
 enum-known-refusal c = search needs
 
-array-copy-out-t46 : tie.Need-array-copy-out-t46
-array-copy-out-t46 c = search needs
+not-opened-requires-3 : tie.Need-not-opened-requires-3
+not-opened-requires-3 c κs = search needs
 
 returns-3 : tie.Need-returns-3
 returns-3 c =
@@ -135,22 +135,20 @@ returns-3 c =
     let j = t .before .before in
     let a = c .before .before .before .before .before .before .before .before .before .before .before .before .before .before .before .before .before .before .before .before .before .before .before .before .args in
     let opening = t .opening .given .0 .0 in
-    let state = c .before .opened-state .ensures in (
-      (known t .below, refl),
-      opening-done (M j) (F j) opening _ (judged-opens t) (λ i. record {
-        row = set (a .t2) (opening .seat) (c .new-seat .ensures i);
-        bits = state .0 i;
-        count = state .1 i;
-        cells = now (a .cells);
-        marks = now (a .marks);
-      }),
-    )
+    let state = c .before .opened-state .ensures in
+    let did = opening-done (M j) (F j) opening _ (judged-opens t) (λ i. record {
+      row = set (a .row) (opening .seat) (c .new-seat .ensures i);
+      bits = state .0 i;
+      count = state .1 i;
+      cells = now (a .cells);
+      marks = now (a .marks);
+    }) in
+    (one-changed (M j) _ (opens (M j) (F j)) (full (j .before .before .before .before .before .before .before)) (opening .seat) (c .new-seat .result) (known t .below) refl did, did)
 
 returns-4 : tie.Need-returns-4
 returns-4 c =
     let j = c .before .before .before .before in
-    let r = c .before .before .refusal .given .0 .0 in
-    ((omega arith, refl), subst (λ (x : Memory). Did (refuses (openRefused r)) x (opens (M j) (F j))) (sym (same-first (M j))) (not-opened (M j) (F j) (openRefused r) (rw (c .before .before .refusal .given .1) at (tried j))))
+    step-not-opened (M j) (F j) (full (j .before .before .before .before .before .before .before)) (j .before .before .before .before .before .before .before .before .before .before .before .before .before .before .before .before .before .before .args .desk) refl (c .not-opened3 .result) _ (c .not-opened3 .ensures) (rw (c .before .before .refusal .given .1) at (tried j))
 
 pub open-step-spec : {M : Type 1} → statement M
 open-step-spec =
@@ -160,23 +158,21 @@ open-step-spec =
     slice-aggregate-columns-2
     slice-aggregate-columns-3
     columns-requires
-    array-copy-out-no-desk
-    no-desk-requires
+    not-opened-requires
     returns
     slice-aggregate-is-desk
     slice-aggregate-is-desk-2
     slice-aggregate-is-desk-3
     is-desk-requires
-    array-copy-out-no-desk-2
-    no-desk-requires-2
+    not-opened-requires-2
     returns-2
     slice-aggregate-judged
     judged-requires
     enum-known-opening
-    cast-t39
+    cast-seat
     opened-state-requires
     new-seat-requires
     enum-known-refusal
-    array-copy-out-t46
+    not-opened-requires-3
     returns-3
     returns-4)

@@ -7,7 +7,7 @@ reply-step-requires : tie.Need-reply-step-requires
 reply-step-requires c κs = search needs
 
 with-seat-requires : tie.Need-with-seat-requires
-with-seat-requires c κs = c .before .before .before .before .before .before .reply-step .ensures .0 .0
+with-seat-requires c κs = search needs
 
 same-length : tie.Need-same-length
 same-length c = search needs

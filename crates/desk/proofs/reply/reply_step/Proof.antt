@@ -1,13 +1,14 @@
 -- `desk::reply::reply_step` meets its contract. Assumes nothing.
-use mathlib.Core.Bool.{Bool, true, false}
+use mathlib.Core.Bool.{true}
 use mathlib.Core.List.{List}
-use mathlib.Core.Path.{_≡_, refl, sym, ap, subst, _∙_}
+use mathlib.Core.Path.{_≡_, refl, sym, ap, _∙_}
 use native.Mathlib.Omega.{arith}
 use Prim.Native.Nat.{ℕ}
 use denote.Ref.{now}
-use lib.ListN.{set}
-use Rattle.digits.specs.Told.{gives, refuses}
+use lib.ListN.{length, set}
+use Rattle.digits.specs.Told.{gives}
 use Rattle.desk.specs.declared.state.Seat.{Seat}
+use Rattle.desk.specs.declared.reply.ReplyRefusal.the-variants.{Desk as reply-no-desk}
 use Rattle.desk.specs.Limits.{seatCount}
 use Rattle.desk.specs.Below.{allBelow}
 use Rattle.desk.specs.Memory.{Memory, memory}
@@ -16,10 +17,10 @@ use Rattle.desk.specs.inside.Columns.{Sized, rowOf}
 use Rattle.desk.specs.inside.Clauses.{seatGoodAt}
 use Rattle.desk.proofs.Below.{not-came, not-left}
 use Rattle.desk.proofs.ClauseLaws.{no-desk}
-use Rattle.desk.specs.Calls.{replyTried, replies, replyRefused, Did}
+use Rattle.desk.specs.Calls.{replyTried, replies}
 use Rattle.desk.specs.inside.Judging.{replyJudged}
 use Rattle.desk.proofs.StepLaws.{took, Room, took-room}
-use Rattle.desk.proofs.OutcomeLaws.{same-first, nothing-replied, reply-done, not-taken}
+use Rattle.desk.proofs.OutcomeLaws.{one-changed, reply-off, step-not-taken, reply-done}
 use Rattle.desk.proofs.JudgeLaws.{reply-row}
 use borrow.Author.Needs.{needs}
 use Rattle.desk.proofs.reply.reply_step.Statement.{statement}
@@ -31,6 +32,9 @@ sized c = record { all-keys = c .columns .kept .1 .1 .0; all-held = c .columns .
 
 shown : (c : tie.Else1) → rowOf (c .before .before .before .before .columns .last .1 .1 .0) (c .before .before .before .before .columns .last .1 .1 .1 .0) (c .before .before .before .before .columns .last .1 .1 .1 .1 .0) ≡ c .before .before .before .before .before .before .before .before .before .before .before .args .t2
 shown c = c .before .before .before .before .columns .ensures .1 (not-left refl (c .if1 .left))
+
+full : (c : tie.Else1) → length (c .before .before .before .before .before .before .before .before .before .before .before .args .t2) ≡ seatCount
+full c = search needs
 
 good : (c : tie.Else1) → allBelow seatCount (seatGoodAt (rowOf (c .before .before .before .before .columns .last .1 .1 .0) (c .before .before .before .before .columns .last .1 .1 .1 .0) (c .before .before .before .before .columns .last .1 .1 .1 .1 .0)) (c .before .before .before .before .before .before .before .before .before .before .before .args .desk .bits)) ≡ true
 good c = ap (λ (r : List Seat). allBelow seatCount (seatGoodAt r (c .before .before .before .before .before .before .before .before .before .before .before .args .desk .bits))) (shown c) ∙ not-left (c .before .before .before .before .columns .ensures .0) (c .if1 .left)
@@ -70,17 +74,16 @@ slice-aggregate-columns-3 c = search needs
 columns-requires : tie.Need-columns-requires
 columns-requires c κs = search needs
 
-array-copy-out-no-desk : tie.Need-array-copy-out-no-desk
-array-copy-out-no-desk c = search needs
-
-no-desk-requires : tie.Need-no-desk-requires
-no-desk-requires c κs = search needs
+not-taken-requires : tie.Need-not-taken-requires
+not-taken-requires c κs = search needs
 
 returns : tie.Need-returns
 returns c =
-    let a = c .before .before .before .before .before .before .before .before .before .before .before .before .before .args in
+    let a = c .before .before .before .before .before .before .before .before .before .before .before .before .args in
     let m = memory (a .desk) (a .t2) (now (a .cells)) (now (a .marks)) in
-    nothing-replied m (now (a .frame)) (a .desk) (c .no-desk .result) (sym (no-desk m (search needs) (not-came (c .before .before .before .before .before .before .columns .ensures .0) (c .before .before .if1 .taken)))) refl (c .no-desk .ensures)
+    let full : length (a .t2) ≡ seatCount = search needs in
+    step-not-taken m (now (a .frame)) full (a .desk) refl (c .not-taken .result) reply-no-desk (c .not-taken .ensures)
+    (reply-off m (now (a .frame)) (sym (no-desk m full (not-came (c .before .before .before .before .before .columns .ensures .0) (c .before .if1 .taken)))))
 
 slice-aggregate-is-desk : tie.Need-slice-aggregate-is-desk
 slice-aggregate-is-desk c = search needs
@@ -94,11 +97,8 @@ slice-aggregate-is-desk-3 c = search needs
 is-desk-requires : tie.Need-is-desk-requires
 is-desk-requires c κs = (sized (c .before .before .before .before .before .before .before .before .before), good (c .before .before .before .before .before))
 
-array-copy-out-no-desk-2 : tie.Need-array-copy-out-no-desk-2
-array-copy-out-no-desk-2 c = search needs
-
-no-desk-requires-2 : tie.Need-no-desk-requires-2
-no-desk-requires-2 c κs = search needs
+not-taken-requires-2 : tie.Need-not-taken-requires-2
+not-taken-requires-2 c κs = search needs
 
 same-length : tie.Need-same-length
 same-length c = search needs
@@ -108,10 +108,10 @@ same-length-2 c = search needs
 
 returns-2 : tie.Need-returns-2
 returns-2 c =
-    let a = c .before .before .before .before .before .before .before .before .before .before .before .before .before .before .before .before .before .before .before .before .args in
+    let a = c .before .before .before .before .before .before .before .before .before .before .before .before .before .before .before .before .before .before .before .args in
     let m = memory (a .desk) (a .t2) (now (a .cells)) (now (a .marks)) in
-    nothing-replied m (now (a .frame)) (a .desk) (c .no-desk2 .result)
-    (ap (λ (r : List Seat). isDesk (memory (a .desk) r (now (a .cells)) (now (a .marks)))) (sym (shown (c .before .before .before .before .before .before .before .before .before))) ∙ not-came (c .before .before .before .is-desk .ensures) (c .before .before .if2 .taken)) refl (c .no-desk2 .ensures)
+    step-not-taken m (now (a .frame)) (full (c .before .before .before .before .before .before .before .before)) (a .desk) refl (c .not-taken2 .result) reply-no-desk (c .not-taken2 .ensures)
+    (reply-off m (now (a .frame)) (ap (λ (r : List Seat). isDesk (memory (a .desk) r (now (a .cells)) (now (a .marks)))) (sym (shown (c .before .before .before .before .before .before .before .before))) ∙ not-came (c .before .before .is-desk .ensures) (c .before .if2 .taken)))
 
 cast-free : tie.Need-cast-free
 cast-free c = search needs
@@ -152,8 +152,8 @@ grown-seat-requires c κs = let r = room (c .before .before .before .before .bef
 enum-known-refusal : tie.Need-enum-known-refusal
 enum-known-refusal c = search needs
 
-array-copy-out-t66 : tie.Need-array-copy-out-t66
-array-copy-out-t66 c = search needs
+not-taken-requires-3 : tie.Need-not-taken-requires-3
+not-taken-requires-3 c κs = search needs
 
 same-length-3 : tie.Need-same-length-3
 same-length-3 c = search needs
@@ -167,16 +167,15 @@ returns-3 c =
     let j = t .before .before in
     let a = c .before .before .before .before .before .before .before .before .before .before .before .before .before .before .before .before .before .before .before .before .before .before .before .before .before .before .before .before .before .before .before .before .before .before .before .before .args in
     let taking = t .taking .given .0 .0 in
-    let w = c .before .before .before .before .before .before .put-reply .ensures in (
-      (room t .seat, refl),
-      reply-done (M j) (F j) taking _ (judged-takes t) (λ i. record {
-        row = set (a .t2) (taking .seat) (c .grown-seat .ensures i);
-        bits = w .bits i;
-        count = w .count i;
-        cells = w .cells i;
-        marks = w .marks i;
-      }),
-    )
+    let w = c .before .before .before .before .before .before .put-reply .ensures in
+    let did = reply-done (M j) (F j) taking _ (judged-takes t) (λ i. record {
+      row = set (a .t2) (taking .seat) (c .grown-seat .ensures i);
+      bits = w .bits i;
+      count = w .count i;
+      cells = w .cells i;
+      marks = w .marks i;
+    }) in
+    (one-changed (M j) _ (replies (M j) (F j)) (full (j .before .before .before .before .before .before .before .before .before .before .before .before .before)) (taking .seat) (c .grown-seat .result) (room t .seat) refl did, did)
 
 same-length-5 : tie.Need-same-length-5
 same-length-5 c = search needs
@@ -187,8 +186,7 @@ same-length-6 c = search needs
 returns-4 : tie.Need-returns-4
 returns-4 c =
     let j = c .before .before .before .before in
-    let r = c .before .before .refusal .given .0 .0 in
-    ((omega arith, refl), subst (λ (x : Memory). Did (refuses (replyRefused r)) x (replies (M j) (F j))) (sym (same-first (M j))) (not-taken (M j) (F j) (replyRefused r) (rw (c .before .before .refusal .given .1) at (tried j))))
+    step-not-taken (M j) (F j) (full (j .before .before .before .before .before .before .before .before .before .before .before .before .before)) (j .before .before .before .before .before .before .before .before .before .before .before .before .before .before .before .before .before .before .before .before .before .before .before .before .args .desk) refl (c .not-taken3 .result) _ (c .not-taken3 .ensures) (rw (c .before .before .refusal .given .1) at (tried j))
 
 pub reply-step-spec : {M : Type 1} → statement M
 reply-step-spec =
@@ -198,15 +196,13 @@ reply-step-spec =
     slice-aggregate-columns-2
     slice-aggregate-columns-3
     columns-requires
-    array-copy-out-no-desk
-    no-desk-requires
+    not-taken-requires
     returns
     slice-aggregate-is-desk
     slice-aggregate-is-desk-2
     slice-aggregate-is-desk-3
     is-desk-requires
-    array-copy-out-no-desk-2
-    no-desk-requires-2
+    not-taken-requires-2
     same-length
     same-length-2
     returns-2
@@ -223,7 +219,7 @@ reply-step-spec =
     array-copy-out-grown-seat
     grown-seat-requires
     enum-known-refusal
-    array-copy-out-t66
+    not-taken-requires-3
     same-length-3
     same-length-4
     returns-3

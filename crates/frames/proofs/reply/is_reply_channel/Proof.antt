@@ -1,5 +1,4 @@
 -- `frames::reply::is_reply_channel` meets its contract. Assumes nothing.
-use borrow.Author.Needs.{needs}
 use borrow.Author.Tests.{le-leb, lt-leb}
 use Rattle.frames.proofs.reply.is_reply_channel.Statement.{statement}
 use Rattle.frames.proofs.reply.is_reply_channel.Tie as tie

@@ -58,8 +58,8 @@ use Rattle.rei2.specs.inside.Core.{CoreOpen}
 use Rattle.rei2.proofs.Rows.{guards, is-true, is-false}
 use Rattle.rei2.proofs.Views.{gives-up}
 use Rattle.rei2.proofs.Steps.{rowVal, Load, Put, loads, puts}
-use Rattle.rei2.proofs.Outs.{one-seat-is, one-answer-is}
-use Rattle.rei2.proofs.LentLaws.{refusal-open, below-open, done-open, refused-open}
+use Rattle.rei2.proofs.Outs.{one-at-fits, one-seat-is, one-answer-is}
+use Rattle.rei2.proofs.LentLaws.{refusal-open, done-open, refused-open}
 use Rattle.rei2.proofs.lent.no_desk as refuser
 use Rattle.rei2.proofs.lent.open_seat as core
 use Rattle.rei2.proofs.lent.no_desk.Symbol as refused-def
@@ -235,7 +235,7 @@ module _ {M : Type 1} (𝓤 : URA M) (H : Heap 𝓤) (A : Atoms 𝓤) (W : Given
         assigns ! (addr ! (from ! (fld ! refl (hop ! (look-in ! 38 (sub ! 0 refl (whole !))) (stop !))))) (from ! (stop !)) (init ! 14 refl (tt, tt)) $
         assigns ! (agg ! (and-then ! (load ! (from ! (stop !)) (look ! 14 refl)) (and-then ! (load ! (from ! (fld ! refl (stop !))) (look-in ! 38 (sub ! 1 refl (whole !)))) (no-more !)))) (from ! (stop !)) (init ! 12 refl (tt, (tt, (record { fits = room-seats .0 }, tt)))) $
         move ! (7 ∷ 8 ∷ []) $
-        puts 𝓤 H A W at-mem run κ-seats q-seats b-seats o-seats γ-seats v-seats room-seats full (r .at) (r .seat) (below-open v-seats v-desk v-cells v-marks v-frame r e) (one-seat-is r (w ∷ []) is) ! fm known-put (λ i. (and-then ! (load ! (from ! (stop !)) (look ! 11 refl)) (and-then ! (load ! (from ! (fld ! refl (stop !))) (look-in ! 25 (sub ! 0 refl (whole !)))) (and-then ! (load ! (from ! (fld ! refl (stop !))) (look-in ! 25 (sub ! 1 refl (whole !)))) (no-more !))))) $
+        puts 𝓤 H A W at-mem run κ-seats q-seats b-seats o-seats γ-seats v-seats room-seats full (r .at) (r .seat) (one-at-fits r (w ∷ []) is) (one-seat-is r (w ∷ []) is) ! fm known-put (λ i. (and-then ! (load ! (from ! (stop !)) (look ! 11 refl)) (and-then ! (load ! (from ! (fld ! refl (stop !))) (look-in ! 25 (sub ! 0 refl (whole !)))) (and-then ! (load ! (from ! (fld ! refl (stop !))) (look-in ! 25 (sub ! 1 refl (whole !)))) (no-more !))))) $
         land ! (from ! (stop !)) (init ! 16 refl (tt, tt)) $
         assigns ! (of-opd ! (load ! (from ! (fld ! refl (stop !))) (look-in ! 26 (sub ! 2 refl (whole !))))) (from ! (stop !)) (init ! 40 refl (LL.lawful DeskAnswerD.the-type DeskAnswerL.the-laws 𝓤 H A W .typed (r .answer) _ (one-answer-is r (w ∷ []) is) .0)) $
         returns ! (look ! 40 refl) $

@@ -1,5 +1,5 @@
 -- `rei2::lent::reply_seat` meets its contract. Assumes nothing.
-use Rattle.rei2.proofs.NumberLaws.{one-seat-is}
+use Rattle.rei2.proofs.NumberLaws.{reply-place, step-place, one-seat-is}
 use borrow.Author.Needs.{needs}
 use Rattle.rei2.proofs.lent.reply_seat.Statement.{statement}
 use Rattle.rei2.proofs.lent.reply_seat.Tie as tie
@@ -8,7 +8,7 @@ reply-step-requires : tie.Need-reply-step-requires
 reply-step-requires c κs = search needs
 
 reply-answer-requires : tie.Need-reply-answer-requires
-reply-answer-requires c κs = c .before .before .before .before .before .reply-step .ensures .0
+reply-answer-requires c κs = step-place _ _ _ _ _ (reply-place _ _) (c .before .before .before .before .before .reply-step .ensures)
 
 same-length : tie.Need-same-length
 same-length c = search needs
@@ -19,7 +19,7 @@ same-length-2 c = search needs
 returns : tie.Need-returns
 returns c =
     let e = c .before .before .before .before .before .before .before .reply-step .ensures in
-    (rw (c .before .reply-answer .ensures) (one-seat-is _ _ _ _ _ _ _ _ (e .0 .0) (e .1)), (λ i. e .1 .memory i .cells, λ i. e .1 .memory i .marks))
+    (rw (c .before .reply-answer .ensures) (one-seat-is _ _ _ _ _ _ _ _ (e .1)), (λ i. e .1 .memory i .cells, λ i. e .1 .memory i .marks))
 
 pub reply-seat-spec : {M : Type 1} → statement M
 reply-seat-spec =
