@@ -1,12 +1,12 @@
 -- The quick check of a reply tests what the reader tests. Assumes nothing.
-use Prim.Native.Nat.{ℕ, zero, suc, _+_, _*_, _≤_}
+use Prim.Native.Nat.{ℕ, zero, suc, _+_, _*_, _<_, _≤_}
 use mathlib.Core.List.{List}
 use mathlib.Core.Bool.{Bool, true, false, true≢false, false≢true, cond, not, _&&_, _||_, and-eq-true-iff, and-comm}
 use mathlib.Core.Path.{_≡_, refl, sym, ap, _∙_}
 use native.Mathlib.Omega.{arith}
 use lib.Dec.{eqb, leb}
 use lib.ListN.{length, getD}
-use borrow.Author.Tests.{not-true, not-false, leb-true, le-leb, eqb-true, eq-eqb, ne-eqb}
+use borrow.Author.Tests.{not-true, not-false, leb-true, le-leb, lt-leb, eqb-true, eq-eqb, ne-eqb}
 use Rattle.digits.specs.declared.Number.{Number}
 use Rattle.digits.specs.declared.Number.the-variants.{Is, Wrong}
 use Rattle.digits.specs.Text.{oneOf}
@@ -136,7 +136,7 @@ module _ (s : List ℕ) where
   time-zero : allFrom isDigit s 30 10 ≡ true → eqb (orNone (clock .got s 30)) 0 ≡ allFrom isZero s 30 10
   time-zero e = ap (λ (n : Number). eqb (orNone (named ticksOf n)) 0) (D.is-number s 30 10 refl e) ∙ ticks-zero (D.valueFrom s 30 10 0) ∙ D.value-zero s 30 10 0 e
 
-  pub time-tests : allFrom isDigit s 30 10 ≡ true → leb (orNone (numberAt s 30 2)) 23 && leb (getD s 32 0) 53 && leb (getD s 34 0) 53 ≡ time
+  time-tests : allFrom isDigit s 30 10 ≡ true → leb (orNone (numberAt s 30 2)) 23 && leb (getD s 32 0) 53 && leb (getD s 34 0) 53 ≡ time
   unfolding upTo
   time-tests e =
       let a = D.parted s isDigit 30 2 8 e in
@@ -152,6 +152,13 @@ module _ (s : List ℕ) where
       let x : leb (orNone (numberAt s 32 2)) 59 ≡ leb (getD s 32 0) 53 = D.by-first s 32 1 5 59 refl refl (b .0) in
       let y : leb (orNone (numberAt s 34 2)) 59 ≡ leb (getD s 34 0) 53 = D.by-first s 34 1 5 59 refl refl (c .0) in
       rw (← x, ← y, ← u, h, m, n) (sym (ticks-time (D.valueFrom s 30 2 0) (D.valueFrom s 32 2 0) (D.valueFrom s 34 2 0) (D.valueFrom s 36 4 0) small))
+
+  -- the check stops at the hour, or goes on to minutes and seconds
+  pub time-stops : allFrom isDigit s 30 10 ≡ true → 23 < orNone (numberAt s 30 2) → false ≡ time
+  time-stops e l = ap (λ (t : Bool). t && leb (getD s 32 0) 53 && leb (getD s 34 0) 53) (sym (lt-leb _ 23 l)) ∙ time-tests e
+
+  pub time-goes-on : allFrom isDigit s 30 10 ≡ true → orNone (numberAt s 30 2) ≤ 23 → leb (getD s 32 0) 53 && leb (getD s 34 0) 53 ≡ time
+  time-goes-on e l = ap (λ (t : Bool). t && leb (getD s 32 0) 53 && leb (getD s 34 0) 53) (sym (le-leb _ 23 l)) ∙ time-tests e
 
   time-digits : time ≡ true → allFrom isDigit s 30 10 ≡ true
   time-digits = D.digits-by s (λ n. isTime (orNone (named ticksOf n))) refl 30 10 refl
@@ -169,8 +176,15 @@ module _ (s : List ℕ) where
   unfolding seenClock clockWrong allFrom
   clock-tests = three-tests time date spare
 
-  pub clock-good : spare && time && date ≡ eqb (seenClock s .wrong) 0
+  clock-good : spare && time && date ≡ eqb (seenClock s .wrong) 0
   clock-good = turned time date spare ∙ sym clock-tests
+
+  -- the check stops at spare and time, or goes on to the date
+  pub clock-stops : spare && time ≡ false → false ≡ eqb (seenClock s .wrong) 0
+  clock-stops e = ap (λ (t : Bool). t && date) (sym e) ∙ clock-good
+
+  pub clock-goes-on : spare && time ≡ true → date ≡ eqb (seenClock s .wrong) 0
+  clock-goes-on e = ap (λ (t : Bool). t && date) (sym e) ∙ clock-good
 
   -- the numbers of a clock's time and date
   pub record ClockDigits : Type 0 where
@@ -209,7 +223,7 @@ module _ (s : List ℕ) where
   unfolding isSign oneOf isNet signGood upTo
   sign-tests e f g = rw (D.by-width s 41 6 9999999 refl refl f, g, D.number-zero s 41 7 refl f, time-zero e) (by-sign (getD s 40 0) (allFrom isZero s 30 10) (allFrom isZero s 41 7))
 
-  pub net-good : allFrom isDigit s 30 10 ≡ true → allFrom isDigit s 41 7 ≡ true → spare && time && signGood s ≡ eqb (seenNet s .wrong) 0
+  net-good : allFrom isDigit s 30 10 ≡ true → allFrom isDigit s 41 7 ≡ true → spare && time && signGood s ≡ eqb (seenNet s .wrong) 0
   net-good e f =
       turned time (signGood s) spare
       ∙ by-time time (λ g. ap (λ (t : Bool). t && spare) (sym (sign-tests e f g)))
@@ -218,6 +232,14 @@ module _ (s : List ℕ) where
       by-time : {x y : Bool} (t : Bool) → (t ≡ true → x ≡ y) → t && x ≡ t && y
       by-time true h = h refl
       by-time false h = refl
+
+  module _ (digits : (allFrom isDigit s 30 10 ≡ true) × (allFrom isDigit s 41 7 ≡ true)) where
+    -- the check stops at spare and time, or goes on to the days
+    pub net-stops : spare && time ≡ false → false ≡ eqb (seenNet s .wrong) 0
+    net-stops e = ap (λ (t : Bool). t && signGood s) (sym e) ∙ net-good (digits .0) (digits .1)
+
+    pub net-goes-on : spare && time ≡ true → signGood s ≡ eqb (seenNet s .wrong) 0
+    net-goes-on e = ap (λ (t : Bool). t && signGood s) (sym e) ∙ net-good (digits .0) (digits .1)
 
   pub net-bad : allFrom isDigit s 30 10 && allFrom isDigit s 41 7 ≡ false → false ≡ eqb (seenNet s .wrong) 0
   net-bad e =
@@ -371,5 +393,9 @@ module _ (s : List ℕ) where
         pub no-codes : codesGood s ≡ false → false ≡ isGood (read reply s)
         no-codes e = rw (digits, bounds, e) at reply-is
 
-        pub all-good : codesGood s ≡ true → valuesGood s && eqb (seenIn s .wrong) 0 ≡ isGood (read reply s)
-        all-good e = rw (digits, bounds, e) at reply-is
+        module _ (codes : codesGood s ≡ true) where
+          pub no-values : valuesGood s ≡ false → false ≡ isGood (read reply s)
+          no-values e = rw (digits, bounds, codes, e) at reply-is
+
+          pub all-good : valuesGood s ≡ true → eqb (seenIn s .wrong) 0 ≡ isGood (read reply s)
+          all-good e = rw (digits, bounds, codes, e) at reply-is

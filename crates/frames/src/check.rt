@@ -1,4 +1,5 @@
 // A quick check of a reply: only whether it is good, and where it belongs. Digits are tested first, in runs, so that a number is a plain sum of its bytes.
+// A run has no way out, so that many bytes are tested at once. Between the runs and rules there are ways out, so that no rule waits for the one before.
 use crate::fields::is_address;
 use crate::fields::is_requester;
 use crate::fields::within;
@@ -54,7 +55,10 @@ pub fn is_reply(s: &[u8]) -> bool
     if !codes_good(s) {
         return false;
     }
-    values_good(s) & timing_good(s, kind_of(s[field::STATUS], s[field::INFORMATION]))
+    if !values_good(s) {
+        return false;
+    }
+    timing_good(s, kind_of(s[field::STATUS], s[field::INFORMATION]))
 }
 
 // The label by the bytes alone, whether the frame is good or not.
@@ -94,9 +98,13 @@ fn codes_good(s: &[u8]) -> bool
     requires { ⌜ length (now s) ≡ 51 ⌝ }
     ensures { λ r. ⌜ r ≡ I.codesGood (now (s .entry)) ⌝ }
 {
-    is_address(s[field::ADDRESS])
-        & is_requester(s[field::REQUESTER])
-        & raw_in(s, field::PROGRAM, field::STATUS)
+    if !is_address(s[field::ADDRESS]) {
+        return false;
+    }
+    if !is_requester(s[field::REQUESTER]) {
+        return false;
+    }
+    raw_in(s, field::PROGRAM, field::STATUS)
 }
 
 // Status, information, run and channel.
@@ -130,12 +138,14 @@ fn clock_good(s: &[u8]) -> bool
     if !digits_in(s, field::TIME, field::SPARE) {
         return false;
     }
-    let day = is_day(
+    if !(raw_in(s, field::SPARE, field::END) & time_good(s)) {
+        return false;
+    }
+    is_day(
         two(s, field::DATE),
         two(s, field::MONTH),
         four(s, field::YEAR),
-    );
-    raw_in(s, field::SPARE, field::END) & time_good(s) & day
+    )
 }
 
 fn net_good(s: &[u8]) -> bool
@@ -145,7 +155,10 @@ fn net_good(s: &[u8]) -> bool
     if !(digits_in(s, field::TIME, field::DATE) & digits_in(s, field::DAYS, field::SPARE)) {
         return false;
     }
-    raw_in(s, field::SPARE, field::END) & time_good(s) & sign_good(s)
+    if !(raw_in(s, field::SPARE, field::END) & time_good(s)) {
+        return false;
+    }
+    sign_good(s)
 }
 
 // Minutes and seconds up to 59: their first digit is at most 5.
@@ -153,7 +166,10 @@ fn time_good(s: &[u8]) -> bool
     requires { ⌜ (length (now s) ≡ 51) × (allFrom isDigit (now s) 30 10 ≡ true) ⌝ }
     ensures { λ r. ⌜ r ≡ isTime (orNone (clock .got (now (s .entry)) 30)) ⌝ }
 {
-    (two(s, field::TIME) <= 23) & (s[MINUTES] <= b'5') & (s[SECONDS] <= b'5')
+    if 23 < two(s, field::TIME) {
+        return false;
+    }
+    (s[MINUTES] <= b'5') & (s[SECONDS] <= b'5')
 }
 
 // A plus, or a minus that is not in front of zero.
@@ -168,7 +184,7 @@ fn sign_good(s: &[u8]) -> bool
     (s[field::DATE] == b'-') & !zero
 }
 
-// ---- runs of bytes: no early exit, so that many bytes can be tested at once
+// ---- runs of bytes
 
 fn digits_in(s: &[u8], from: usize, to: usize) -> bool
     requires { ⌜ to ≤ length (now s) ⌝ }

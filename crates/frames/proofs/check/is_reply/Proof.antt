@@ -1,5 +1,5 @@
 -- `frames::check::is_reply` meets its contract. Assumes nothing.
-use Rattle.frames.proofs.CheckLaws.{held, failed, other-length, no-digits, no-bounds, no-codes, all-good}
+use Rattle.frames.proofs.CheckLaws.{held, failed, other-length, no-digits, no-bounds, no-codes, no-values, all-good}
 use borrow.Author.Needs.{needs}
 use Rattle.frames.proofs.check.is_reply.Statement.{statement}
 use Rattle.frames.proofs.check.is_reply.Tie as tie
@@ -50,12 +50,21 @@ timing-good-requires c κs = search needs
 
 returns-5 : tie.Need-returns-5
 returns-5 c =
-    let codes = c .before .before .before .before .before in
+    let codes = c .before .before in
     let bounds = codes .before .before in
     let digits = bounds .before .before in
-    rw (c .timing-good .ensures, c .before .kind-of .ensures, c .before .before .before .before .values-good .ensures)
+    no-values _ (digits .before .before .if1 .left) (held (digits .before .digits-in .ensures) (digits .if2 .left)) (held (bounds .before .bounds-good .ensures) (bounds .if3 .left))
+    (held (codes .before .codes-good .ensures) (codes .if4 .left)) (failed (c .before .values-good .ensures) (c .if5 .taken))
+
+returns-6 : tie.Need-returns-6
+returns-6 c =
+    let values = c .before .before .before .before in
+    let codes = values .before .before in
+    let bounds = codes .before .before in
+    let digits = bounds .before .before in
+    rw (c .timing-good .ensures, c .before .kind-of .ensures)
     (all-good _ (digits .before .before .if1 .left) (held (digits .before .digits-in .ensures) (digits .if2 .left)) (held (bounds .before .bounds-good .ensures) (bounds .if3 .left))
-    (held (codes .before .codes-good .ensures) (codes .if4 .left)))
+    (held (codes .before .codes-good .ensures) (codes .if4 .left)) (held (values .before .values-good .ensures) (values .if5 .left)))
 
 pub is-reply-spec : {M : Type 1} → statement M
 is-reply-spec =
@@ -69,8 +78,9 @@ is-reply-spec =
     codes-good-requires
     returns-4
     values-good-requires
+    returns-5
     shared-slice-read-kind-of
     shared-slice-read-kind-of-2
     kind-of-requires
     timing-good-requires
-    returns-5)
+    returns-6)
