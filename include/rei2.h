@@ -2,15 +2,24 @@
 
    MEMORY. The host owns all memory and lends it for the length of one call. The library keeps no pointer after a call.
    It has no variables of its own, allocates nothing, and does no input or output. Between two calls the host keeps
-   everything that a desk knows: the state, which is passed and returned by value, and the seats, cells and marks.
+   everything that a desk knows: the state, which is passed and returned by value, and the seats, cells, marks and
+   tally.
 
    SLICES. A slice is two arguments: a pointer, and how many elements it points to. The second is named like the first,
    with _len after it. The elements of cells, frames, captures and outputs are bytes. A pointer is aligned for its
    elements. It may be null only if the count is 0. If it is not const, the call may change the elements.
 
-   OVERLAP. A slice that a call may change overlaps no other slice of that call. The likely mistake is a frame that lies
-   in the cells: copy it out first. The library cannot notice an overlap, a wrong count or a bad pointer, and promises
-   nothing then.
+   TALLY. The tally says how many records are held, for each of the 33 letters of a static reply and each of the three
+   statuses. It belongs to the host and is lent beside cells and marks: a pointer to REI2_LETTERS rows of REI2_STATUSES
+   numbers, without a count, aligned and never null. Row i is for letter i of REI2_LETTER_ORDER, and column j is for
+   status j of REI2_STATUS_ORDER, both counted from 0. rei2_reset makes the tally right, whatever it held, and the other
+   calls keep it right. A tally that does not agree with the held cells makes no desk (DESK), so the host never writes
+   to it. rei2_open and rei2_look only read it. They have no const there, because C11 has no conversion from an array of
+   arrays to one of const elements.
+
+   OVERLAP. A slice that a call may change overlaps nothing else that the call is lent, and neither does the tally. The
+   likely mistake is a frame that lies in the cells: copy it out first. The library cannot notice an overlap, a wrong
+   count or a bad pointer, and promises nothing then.
 
    THREADS. Two calls that are lent the same memory must not run at once, unless both only read it. Calls on different
    memory may run at once, because the library has no state.
@@ -45,7 +54,9 @@
    static rei2_seat seats[REI2_SEATS];                    // what the host lends to it
    static uint8_t cells[REI2_CELLS * REI2_CELL_SIZE];
    static uint32_t marks[REI2_CELLS];
+   static uint32_t tally[REI2_LETTERS][REI2_STATUSES];
    static rei2_desk_answer a;                             // the answer of the last call on the desk
+   static rei2_captured_answer c;                         // the answer for a capture
    static const uint8_t *frame, *in;                      // a frame; a capture
    static size_t size, at;                                // its size in bytes; the index where a search begins
    static uint8_t out[REI2_LONGEST_LIST];                 // for a frame or a list that is written
@@ -72,6 +83,8 @@ enum rei2_limit {
     REI2_SEATS = 16,           /* seats of a desk; seats_len must be this number */
     REI2_CELLS = 256,          /* the most cells that a desk uses; cells_len counts bytes, not cells */
     REI2_CELL_SIZE = 51,       /* bytes of a cell */
+    REI2_LETTERS = 33,         /* rows of the tally, one for each letter of a static reply */
+    REI2_STATUSES = 3,         /* numbers in a row of the tally, one for each status */
     REI2_REQUEST_SIZE = 24,    /* bytes of a static request */
     REI2_REPLY_SIZE = 51,      /* bytes of a static reply */
     REI2_DYNAMIC_SIZE = 46,    /* bytes of a dynamic request */
@@ -82,6 +95,10 @@ enum rei2_limit {
     REI2_LONGEST_LIST = 14687, /* bytes that every list fits in */
     REI2_NAME_SIZE = 14        /* bytes that the name of every refusal fits in, with its zero byte */
 };
+
+/* The letters of the tally's rows and the statuses of its columns, in their order. */
+#define REI2_LETTER_ORDER "0123456789AQPaSsTKRGHhIiJjpkugWwX"
+#define REI2_STATUS_ORDER "REZ"
 
 /* Why a call was refused. */
 enum rei2_refusal {
@@ -94,14 +111,15 @@ enum rei2_refusal {
     REI2_RECORD = 6,         /* a part of the record is wrong; offset: where the first wrong part would be written */
     REI2_ROOM = 7,           /* the output is too short */
     REI2_TIME = 8,           /* a number of the running time is out of range */
-    REI2_DESK = 9,           /* state, seats, cells and marks do not make a desk */
+    REI2_DESK = 9,           /* state, seats, cells, marks and tally do not make a desk */
     REI2_NO_ANSWER_DUE = 10, /* a request with the information q, which asks for no answer */
     REI2_IN_USE = 11,        /* a seat has this address, requester and number already, ended or not */
     REI2_NO_SEAT = 12,       /* all seats are in use */
     REI2_STRAY = 13,         /* no seat has the reply's address, requester and number */
     REI2_ENDED = 14,         /* that seat has had its E or Z */
     REI2_OUT_OF_PLACE = 15,  /* a Z for a seat that holds records */
-    REI2_FULL = 16           /* no cell is free */
+    REI2_FULL = 16,          /* no cell is free */
+    REI2_NO_SUCH = 17        /* no static reply has this letter, or none has this status */
 };
 
 /* What the time and the date of a reply are. */
@@ -285,6 +303,12 @@ typedef struct rei2_cell_answer {
     size_t cell;
 } rei2_cell_answer;
 
+/* A look at the tally: held is how many records are held. */
+typedef struct rei2_looked_answer {
+    uint32_t refusal;
+    uint32_t held;
+} rei2_looked_answer;
+
 /* What a running time is computed from. tnow and tev are times of day in ticks. sign (0 plus, 1 minus), days and time
    (in ticks) are the parts of Taux. */
 typedef struct rei2_running_of {
@@ -309,13 +333,16 @@ typedef struct rei2_listed_answer {
 } rei2_listed_answer;
 
 /* What a host must lend. seats: how many seats a desk has. cells: the bytes of all cells of the largest desk. marks:
-   how many marks it has. With less memory a desk is smaller. cell_size: the bytes of a cell. most_input: the most bytes
-   of a capture that is listed. longest_list: the bytes that every list fits in. */
+   how many marks it has. With less memory a desk is smaller. cell_size: the bytes of a cell. letters: the rows of the
+   tally. statuses: the numbers in a row. most_input: the most bytes of a capture that is listed. longest_list: the
+   bytes that every list fits in. */
 typedef struct rei2_limits_answer {
     size_t seats;
     size_t cells;
     size_t marks;
     size_t cell_size;
+    size_t letters;
+    size_t statuses;
     size_t most_input;
     size_t longest_list;
 } rei2_limits_answer;
@@ -448,6 +475,10 @@ REI2_SIZE(rei2_cell_answer, 16);
 REI2_OFFSET(rei2_cell_answer, found, 0);
 REI2_OFFSET(rei2_cell_answer, cell, 8);
 
+REI2_SIZE(rei2_looked_answer, 8);
+REI2_OFFSET(rei2_looked_answer, refusal, 0);
+REI2_OFFSET(rei2_looked_answer, held, 4);
+
 REI2_SIZE(rei2_running_of, 24);
 REI2_OFFSET(rei2_running_of, bib, 0);
 REI2_OFFSET(rei2_running_of, tnow, 4);
@@ -464,13 +495,15 @@ REI2_SIZE(rei2_listed_answer, 16);
 REI2_OFFSET(rei2_listed_answer, refusal, 0);
 REI2_OFFSET(rei2_listed_answer, size, 8);
 
-REI2_SIZE(rei2_limits_answer, 48);
+REI2_SIZE(rei2_limits_answer, 64);
 REI2_OFFSET(rei2_limits_answer, seats, 0);
 REI2_OFFSET(rei2_limits_answer, cells, 8);
 REI2_OFFSET(rei2_limits_answer, marks, 16);
 REI2_OFFSET(rei2_limits_answer, cell_size, 24);
-REI2_OFFSET(rei2_limits_answer, most_input, 32);
-REI2_OFFSET(rei2_limits_answer, longest_list, 40);
+REI2_OFFSET(rei2_limits_answer, letters, 32);
+REI2_OFFSET(rei2_limits_answer, statuses, 40);
+REI2_OFFSET(rei2_limits_answer, most_input, 48);
+REI2_OFFSET(rei2_limits_answer, longest_list, 56);
 
 #undef REI2_IS
 #undef REI2_SIZE
@@ -483,16 +516,17 @@ extern "C" {
 /* ---- limits and names */
 
 /* Returns what a host must lend. The same numbers are in the constants REI2_SEATS, REI2_CELLS * REI2_CELL_SIZE,
-   REI2_CELLS, REI2_CELL_SIZE, REI2_MOST_INPUT and REI2_LONGEST_LIST, for arrays. Call this to learn how much memory to
-   allocate, or to check that the library is the one that the header was made for. Never refused.
+   REI2_CELLS, REI2_CELL_SIZE, REI2_LETTERS, REI2_STATUSES, REI2_MOST_INPUT and REI2_LONGEST_LIST, for arrays. Call this
+   to learn how much memory to allocate, or to check that the library is the one that the header was made for. Never
+   refused.
    Cost: a few steps.
    Example:
    rei2_limits_answer limits = rei2_limits(); */
 rei2_limits_answer rei2_limits(void);
 
 /* Writes the name of a refusal to out, in ASCII capitals with a zero byte after it, so that it can be printed with %s.
-   The name of 0 is DONE. The names of 1 to 16 are KIND to FULL, with spaces as in NO ANSWER DUE. Any other number has
-   the name UNKNOWN. An output of REI2_NAME_SIZE bytes is always long enough.
+   The name of 0 is DONE. The names of 1 to 17 are KIND to NO SUCH, with spaces as in NO ANSWER DUE. Any other number
+   has the name UNKNOWN. An output of REI2_NAME_SIZE bytes is always long enough.
    Refused with: ROOM.
    Done: the name and its zero byte are the first bytes of out, and no other byte of out changes. size does not count
    the zero byte.
@@ -503,57 +537,78 @@ rei2_written_answer rei2_refusal_name(uint32_t refusal, uint8_t *out, size_t out
 
 /* ---- the desk. seats is a row of REI2_SEATS seats; another length is refused. cells are REI2_CELL_SIZE bytes each,
    one after the other. marks has a number for each cell: the seat that the cell belongs to. The first desk.count cells
-   and marks are held. The others are free and may have anything in them.
+   and marks are held. The others are free and may have anything in them. tally has a number for each letter and each
+   status: how many of the held cells are replies with them.
 
    Seats and cells are freed only by rei2_reset. There is no call yet that closes a single request. A request that has
    ended keeps its seat and its cells until the next reset. So between two resets a desk takes at most sixteen requests
    and at most 256 replies, or fewer replies if fewer cells or marks are lent.
 
-   rei2_open, rei2_reply and rei2_capture first test whether state, seats, cells and marks make a desk. For that they
-   compare the keys of the seats and read each held cell once. So the more cells are held, the more a call costs.
+   rei2_open, rei2_reply and rei2_capture first test whether state, seats, cells, marks and tally make a desk. For that
+   they compare the keys of the seats, read each held cell once, and compare what they counted with the tally. So the
+   more cells are held, the more a call costs.
 
    After each call go on with the state in its answer. The three calls refuse an older state with DESK. */
 
-/* Empties a desk, whatever its state and seats were. This also makes the first desk.
+/* Empties a desk, whatever its state, seats and tally were. This also makes the first desk.
    Refused with: DESK, only if the row does not have REI2_SEATS seats.
-   Done: the seats are all 0, and so is the state in the answer. All seats and cells are free. Cells and marks need no
-   clearing.
-   Cost: one pass over the seats.
+   Done: the seats and the tally are all 0, and so is the state in the answer. All seats and cells are free. Cells and
+   marks need no clearing.
+   Cost: one pass over the seats and the tally.
    Example:
-   desk = rei2_reset(seats, REI2_SEATS, desk).desk; */
-rei2_desk_answer rei2_reset(rei2_seat *seats, size_t seats_len, rei2_desk desk);
+   desk = rei2_reset(seats, REI2_SEATS, desk, tally).desk; */
+rei2_desk_answer rei2_reset(rei2_seat *seats, size_t seats_len, rei2_desk desk,
+                            uint32_t tally[REI2_LETTERS][REI2_STATUSES]);
 
 /* Opens the static request in frame. It gets the lowest seat that is not in use.
    Refused with, in this order: DESK; KIND, LENGTH, END, ADDRESS, FIELD; NO_ANSWER_DUE, IN_USE, NO_SEAT.
    Done: the seat in the answer has the request's key, holds no record and is not ended, and its bit is set. No other
-   seat changes.
+   seat changes. The tally never changes.
    Cost: a test of the desk.
    Example:
-   a = rei2_open(seats, REI2_SEATS, desk, cells, sizeof cells, marks, REI2_CELLS, frame, size); desk = a.desk; */
+   a = rei2_open(seats, REI2_SEATS, desk, cells, sizeof cells, marks, REI2_CELLS, tally, frame, size); desk = a.desk;
+*/
 rei2_desk_answer rei2_open(rei2_seat *seats, size_t seats_len, rei2_desk desk, const uint8_t *cells, size_t cells_len,
-                           const uint32_t *marks, size_t marks_len, const uint8_t *frame, size_t frame_len);
+                           const uint32_t *marks, size_t marks_len, uint32_t tally[REI2_LETTERS][REI2_STATUSES],
+                           const uint8_t *frame, size_t frame_len);
 
 /* Gives the static reply in frame to the seat that has its key.
    Refused with, in this order: DESK; KIND, LENGTH, END, ADDRESS, FIELD; STRAY, ENDED, OUT_OF_PLACE, FULL.
    Done: the frame is in the first free cell, and that cell's mark is the seat. The seat holds one record more, and it
-   is ended if the status is E or Z. The count of the state is one more. No other seat, byte or mark changes.
+   is ended if the status is E or Z. The count of the state is one more, and so is the tally's number for the reply's
+   letter and status. No other seat, byte, mark or number changes.
    Cost: a test of the desk.
    Example:
-   a = rei2_reply(seats, REI2_SEATS, desk, cells, sizeof cells, marks, REI2_CELLS, frame, size); desk = a.desk; */
+   a = rei2_reply(seats, REI2_SEATS, desk, cells, sizeof cells, marks, REI2_CELLS, tally, frame, size); desk = a.desk;
+*/
 rei2_desk_answer rei2_reply(rei2_seat *seats, size_t seats_len, rei2_desk desk, uint8_t *cells, size_t cells_len,
-                            uint32_t *marks, size_t marks_len, const uint8_t *frame, size_t frame_len);
+                            uint32_t *marks, size_t marks_len, uint32_t tally[REI2_LETTERS][REI2_STATUSES],
+                            const uint8_t *frame, size_t frame_len);
 
 /* Takes all frames of a capture one after the other, as rei2_next_frame finds them. A static request is opened, a
    static reply goes to its seat, and a well formed dynamic request is counted. A frame that its call would refuse is
    counted as refused, and so is a cut frame. So a capture that comes in pieces must be cut after whole frames: a frame
    that is torn between two pieces is lost. rei2_next_frame says how to notice one.
    Refused with: DESK.
-   Done: seats, cells and marks are as they would be after a call for each frame.
+   Done: seats, cells, marks and tally are as they would be after a call for each frame.
    Cost: one test of the desk and one reading of each frame. A call for each frame would cost a test each.
    Example:
-   rei2_captured_answer c = rei2_capture(seats, REI2_SEATS, desk, cells, sizeof cells, marks, REI2_CELLS, in, size); */
+   c = rei2_capture(seats, REI2_SEATS, desk, cells, sizeof cells, marks, REI2_CELLS, tally, in, size); desk = c.desk; */
 rei2_captured_answer rei2_capture(rei2_seat *seats, size_t seats_len, rei2_desk desk, uint8_t *cells, size_t cells_len,
-                                  uint32_t *marks, size_t marks_len, const uint8_t *capture, size_t capture_len);
+                                  uint32_t *marks, size_t marks_len, uint32_t tally[REI2_LETTERS][REI2_STATUSES],
+                                  const uint8_t *capture, size_t capture_len);
+
+/* Looks up in the tally how many records are held with a letter and a status. The letter is one of REI2_LETTER_ORDER,
+   the status one of REI2_STATUS_ORDER, both by their ASCII codes. It does not test the desk and does not look at cells:
+   it returns what the tally holds. On a desk that is how many of the held cells are replies with this letter and this
+   status. The tally never changes.
+   Refused with: NO_SUCH, only if the letter is not one of the 33 or the status is not R, E or Z. A letter that only a
+   static request can have, such as L, is not one of the 33.
+   Done: held is the number.
+   Cost: a few steps.
+   Example:
+   uint32_t not_started = rei2_look(tally, 'P', 'R').held + rei2_look(tally, 'P', 'E').held; */
+rei2_looked_answer rei2_look(uint32_t tally[REI2_LETTERS][REI2_STATUSES], uint8_t letter, uint8_t status);
 
 /* Returns how many seats are in use, ended ones too: how many bits of desk.bits are set. Never refused.
    Cost: a few steps.
@@ -668,7 +723,7 @@ rei2_frame_answer rei2_next_frame(const uint8_t *capture, size_t capture_len, si
    empty desk: they are overwritten from the first one on, one for each reply collected. Do not lend those of a desk. If
    the capture was too long they do not change.
    Cost: one reading of each frame, 32 readings of each held mark, and one pass over the list. It keeps a copy of 256
-   cells and marks on the stack, 14,080 bytes.
+   cells and marks on the stack, 14,080 bytes, and a tally of its own, 396 bytes.
    Example:
    rei2_listed_answer l = rei2_list(in, size, own_cells, sizeof own_cells, own_marks, REI2_CELLS, out, sizeof out); */
 rei2_listed_answer rei2_list(const uint8_t *capture, size_t capture_len, uint8_t *cells, size_t cells_len,

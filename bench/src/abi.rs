@@ -6,6 +6,11 @@ pub const SEATS: usize = 16;
 pub const CELLS: usize = 256;
 pub const CELL_SIZE: usize = 51;
 pub const NAME_SIZE: usize = 14;
+pub const LETTERS: usize = 33;
+pub const STATUSES: usize = 3;
+
+/// A row for each letter of a reply, and in it a number for each status.
+pub type Tally = [[u32; STATUSES]; LETTERS];
 
 pub const RAW: u32 = 0;
 pub const CLOCK: u32 = 1;
@@ -48,6 +53,7 @@ structs! {
     WrittenAnswer { refusal: u32, offset: u32, size: usize }
     FrameAnswer { kind: u32, start: usize, end: usize, next: usize }
     CellAnswer { found: u32, cell: usize }
+    LookedAnswer { refusal: u32, held: u32 }
     RunningOf { bib: u32, tnow: u32, tev: u32, sign: u32, days: u32, time: u32 }
     RunningAnswer { refusal: u32, ticks: i64 }
     ListedAnswer { refusal: u32, size: usize }
@@ -89,20 +95,21 @@ macro_rules! calls {
 // C does the same if a function returns such a struct.
 calls! {
     reset rei2_reset as_plain(
-        answer: *mut DeskAnswer, seats: *mut Seat, seats_len: usize, desk: Desk,
+        answer: *mut DeskAnswer, seats: *mut Seat, seats_len: usize, desk: Desk, tally: *mut Tally,
     ) -> *mut DeskAnswer;
     open rei2_open tuned(
         answer: *mut DeskAnswer, seats: *mut Seat, seats_len: usize, desk: Desk, cells: *const u8, cells_len: usize,
-        marks: *const u32, marks_len: usize, frame: *const u8, frame_len: usize,
+        marks: *const u32, marks_len: usize, tally: *const Tally, frame: *const u8, frame_len: usize,
     ) -> *mut DeskAnswer;
     reply rei2_reply tuned(
         answer: *mut DeskAnswer, seats: *mut Seat, seats_len: usize, desk: Desk, cells: *mut u8, cells_len: usize,
-        marks: *mut u32, marks_len: usize, frame: *const u8, frame_len: usize,
+        marks: *mut u32, marks_len: usize, tally: *mut Tally, frame: *const u8, frame_len: usize,
     ) -> *mut DeskAnswer;
     capture rei2_capture tuned(
         answer: *mut CapturedAnswer, seats: *mut Seat, seats_len: usize, desk: Desk, cells: *mut u8, cells_len: usize,
-        marks: *mut u32, marks_len: usize, capture: *const u8, capture_len: usize,
+        marks: *mut u32, marks_len: usize, tally: *mut Tally, capture: *const u8, capture_len: usize,
     ) -> *mut CapturedAnswer;
+    look rei2_look as_plain(tally: *const Tally, letter: u8, status: u8) -> LookedAnswer;
     seats_in_use rei2_seats_in_use as_plain(desk: Desk) -> u32;
     capacity rei2_capacity as_plain(cells: usize, marks: usize) -> usize;
     next_held rei2_next_held as_plain(

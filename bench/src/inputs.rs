@@ -2,6 +2,7 @@
 
 use crate::abi::*;
 use crate::plain;
+use crate::plain::tally::{column_of, row_of};
 use crate::random::Random;
 
 pub const REQUEST_SIZE: usize = 24;
@@ -153,6 +154,12 @@ pub struct Lent {
     pub seats: [Seat; SEATS],
     pub cells: Vec<u8>,
     pub marks: Vec<u32>,
+    pub tally: Tally,
+}
+
+/// The row and the column of a reply in the tally. A reply that is not good may have none.
+pub fn place_in_tally(frame: &[u8]) -> (usize, usize) {
+    (row_of(frame[29]), column_of(frame[5]))
 }
 
 impl Lent {
@@ -170,7 +177,19 @@ impl Lent {
             lent.marks[cell] = seat as u32;
             lent.seats[seat].held += 1;
         }
+        lent.count_again();
         lent
+    }
+
+    /// Makes the tally the count over the held cells.
+    pub fn count_again(&mut self) {
+        self.tally = [[0; STATUSES]; LETTERS];
+        for cell in self.cells.chunks_exact(CELL_SIZE).take(self.desk.count as usize) {
+            let (row, column) = place_in_tally(cell);
+            if let Some(number) = self.tally.get_mut(row).and_then(|row| row.get_mut(column)) {
+                *number += 1;
+            }
+        }
     }
 
     pub fn empty() -> Self {
@@ -179,6 +198,7 @@ impl Lent {
             seats: Default::default(),
             cells: vec![0xee; CELLS * CELL_SIZE],
             marks: vec![0xeeee_eeee; CELLS],
+            tally: [[0; STATUSES]; LETTERS],
         }
     }
 }

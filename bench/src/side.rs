@@ -1,13 +1,15 @@
 //! The calls of a side with slices for pointers. An answer of more than 16 bytes is stored where the caller wants it and is
 //! not copied.
 
+#![allow(clippy::too_many_arguments)]
+
 use crate::abi::*;
 
 // SAFETY of each call below: pointers and counts are those of slices, and what may change is borrowed exclusively.
 impl Side {
     #[inline(always)]
-    pub fn reset(&self, answer: &mut DeskAnswer, seats: &mut [Seat], desk: Desk) {
-        unsafe { (self.reset)(answer, seats.as_mut_ptr(), seats.len(), desk) };
+    pub fn reset(&self, answer: &mut DeskAnswer, seats: &mut [Seat], desk: Desk, tally: &mut Tally) {
+        unsafe { (self.reset)(answer, seats.as_mut_ptr(), seats.len(), desk, tally) };
     }
 
     #[inline(always)]
@@ -18,12 +20,13 @@ impl Side {
         desk: Desk,
         cells: &[u8],
         marks: &[u32],
+        tally: &Tally,
         frame: &[u8],
     ) {
         let (row, n) = (seats.as_mut_ptr(), seats.len());
         let (c, c_len) = (cells.as_ptr(), cells.len());
         let (m, m_len) = (marks.as_ptr(), marks.len());
-        unsafe { (self.open)(answer, row, n, desk, c, c_len, m, m_len, frame.as_ptr(), frame.len()) };
+        unsafe { (self.open)(answer, row, n, desk, c, c_len, m, m_len, tally, frame.as_ptr(), frame.len()) };
     }
 
     #[inline(always)]
@@ -34,12 +37,13 @@ impl Side {
         desk: Desk,
         cells: &mut [u8],
         marks: &mut [u32],
+        tally: &mut Tally,
         frame: &[u8],
     ) {
         let (row, n) = (seats.as_mut_ptr(), seats.len());
         let (c, c_len) = (cells.as_mut_ptr(), cells.len());
         let (m, m_len) = (marks.as_mut_ptr(), marks.len());
-        unsafe { (self.reply)(answer, row, n, desk, c, c_len, m, m_len, frame.as_ptr(), frame.len()) };
+        unsafe { (self.reply)(answer, row, n, desk, c, c_len, m, m_len, tally, frame.as_ptr(), frame.len()) };
     }
 
     #[inline(always)]
@@ -50,12 +54,18 @@ impl Side {
         desk: Desk,
         cells: &mut [u8],
         marks: &mut [u32],
+        tally: &mut Tally,
         capture: &[u8],
     ) {
         let (row, n) = (seats.as_mut_ptr(), seats.len());
         let (c, c_len) = (cells.as_mut_ptr(), cells.len());
         let (m, m_len) = (marks.as_mut_ptr(), marks.len());
-        unsafe { (self.capture)(answer, row, n, desk, c, c_len, m, m_len, capture.as_ptr(), capture.len()) };
+        unsafe { (self.capture)(answer, row, n, desk, c, c_len, m, m_len, tally, capture.as_ptr(), capture.len()) };
+    }
+
+    #[inline(always)]
+    pub fn look(&self, tally: &Tally, letter: u8, status: u8) -> LookedAnswer {
+        unsafe { (self.look)(tally, letter, status) }
     }
 
     #[inline(always)]

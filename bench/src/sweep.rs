@@ -187,7 +187,8 @@ fn spoil_dynamic(record: &mut DynamicRequest, part: usize, value: u32, byte: u8)
     }
 }
 
-/// Desks in which each byte of a held cell is changed to each of its values. Each desk is given a reply.
+/// Desks in which each byte of a held cell is changed to each of its values. Each desk is given a reply, with the tally as it
+/// was and with one that was counted again.
 fn damaged_cells(random: &mut Random) -> usize {
     for kind in [CLOCK, NET, RAW] {
         let mut lent = Lent::with(random, 2, 3);
@@ -196,19 +197,22 @@ fn damaged_cells(random: &mut Random) -> usize {
         for place in 0..CELL_SIZE {
             for byte in 0..=u8::MAX {
                 lent.cells[..CELL_SIZE].copy_from_slice(&cell);
+                lent.count_again();
                 lent.cells[place] = byte;
+                reply_to(&lent, &frame);
+                lent.count_again();
                 reply_to(&lent, &frame);
             }
         }
     }
-    3 * CELL_SIZE * 256
+    6 * CELL_SIZE * 256
 }
 
 fn reply_to(lent: &Lent, frame: &[u8]) {
     same(&(lent.desk, lent.seats, frame), |side| {
-        let Lent { desk, mut seats, mut cells, mut marks } = lent.clone();
-        let answer = got(|answer| side.reply(answer, &mut seats, desk, &mut cells, &mut marks, frame));
-        (answer, seats, cells, marks)
+        let Lent { desk, mut seats, mut cells, mut marks, mut tally } = lent.clone();
+        let answer = got(|answer| side.reply(answer, &mut seats, desk, &mut cells, &mut marks, &mut tally, frame));
+        (answer, seats, cells, marks, tally)
     });
 }
 
@@ -220,20 +224,22 @@ fn spoiled_desks(random: &mut Random) -> usize {
         let held = random.below(40);
         let mut lent = Lent::with(random, used, held);
         spoil_desk(&mut lent, random);
+        spoil_tally(&mut lent, random);
         let key = key_of_seat(random.below(SEATS + 1));
         let request = request_with(random, key);
         let mut reply = reply_with(random, key);
         reply[5] = random.one_of(b"RREZ");
         let capture = [&request[..], b"\n", &reply, &reply[..30]].concat();
         same(&(lent.desk, lent.seats, &request), |side| {
-            let Lent { desk, mut seats, cells, marks } = lent.clone();
-            (got(|answer| side.open(answer, &mut seats, desk, &cells, &marks, &request)), seats)
+            let Lent { desk, mut seats, cells, marks, tally } = lent.clone();
+            (got(|answer| side.open(answer, &mut seats, desk, &cells, &marks, &tally, &request)), seats, tally)
         });
         reply_to(&lent, &reply);
         same(&(lent.desk, lent.seats, &capture), |side| {
-            let Lent { desk, mut seats, mut cells, mut marks } = lent.clone();
-            let answer = got(|answer| side.capture(answer, &mut seats, desk, &mut cells, &mut marks, &capture));
-            (answer, seats, cells, marks)
+            let Lent { desk, mut seats, mut cells, mut marks, mut tally } = lent.clone();
+            let answer =
+                got(|answer| side.capture(answer, &mut seats, desk, &mut cells, &mut marks, &mut tally, &capture));
+            (answer, seats, cells, marks, tally)
         });
     }
     3 * TIMES
@@ -263,7 +269,24 @@ fn spoil_desk(lent: &mut Lent, random: &mut Random) {
     }
 }
 
-/// Changes the last record of a seat to status E and marks the seat as ended, which leaves the desk good.
+/// Makes the tally wrong, leaves it as it was before the desk was spoiled, or counts it again.
+fn spoil_tally(lent: &mut Lent, random: &mut Random) {
+    let [row, other] = [random.below(LETTERS), random.below(LETTERS)];
+    let [column, another] = [random.below(STATUSES), random.below(STATUSES)];
+    match random.below(8) {
+        0 => lent.tally[row][column] = random.one_of(&LIMITS),
+        1 => lent.tally[row][column] = lent.tally[row][column].wrapping_sub(1),
+        2 => {
+            let number = lent.tally[row][column];
+            lent.tally[row][column] = lent.tally[other][another];
+            lent.tally[other][another] = number;
+        }
+        3 => (),
+        _ => lent.count_again(),
+    }
+}
+
+/// Changes the last record of a seat to status E and marks the seat as ended. With its tally this leaves the desk good.
 fn end_seat(lent: &mut Lent, random: &mut Random) {
     let seat = random.below(SEATS);
     let held = lent.desk.count as usize;
@@ -295,7 +318,7 @@ fn captures(random: &mut Random) -> usize {
     3 * TIMES
 }
 
-/// Calls on numbers, searches for cells with any state, and resets of rows of several lengths.
+/// Calls on numbers, searches for cells with any state, looks at a tally, and resets of rows of several lengths.
 fn numbers(random: &mut Random) -> usize {
     const TIMES: usize = 5_000;
     let lent = Lent::with(random, SEATS, CELLS);
@@ -311,11 +334,25 @@ fn numbers(random: &mut Random) -> usize {
         });
         let length = random.one_of(&[SEATS, SEATS, SEATS - 1, 0]);
         same(&(desk, length), |side| {
-            let mut seats = lent.seats;
-            (got(|answer| side.reset(answer, &mut seats[..length], desk)), seats)
+            let (mut seats, mut tally) = (lent.seats, [[time; STATUSES]; LETTERS]);
+            (got(|answer| side.reset(answer, &mut seats[..length], desk, &mut tally)), seats, tally)
         });
     }
-    5 * TIMES + names()
+    5 * TIMES + looks(random) + names()
+}
+
+/// Each letter with each status, on the tally of a full desk and on one of any numbers.
+fn looks(random: &mut Random) -> usize {
+    let any = std::array::from_fn(|_| std::array::from_fn(|_| random.one_of(&LIMITS)));
+    let tallies = [Lent::with(random, SEATS, CELLS).tally, any];
+    for tally in &tallies {
+        for letter in 0..=u8::MAX {
+            for status in 0..=u8::MAX {
+                same(&(letter, status), |side| side.look(tally, letter, status));
+            }
+        }
+    }
+    tallies.len() * 256 * 256
 }
 
 /// Every refusal's name, with outputs of each length up to one byte more than the longest name needs.

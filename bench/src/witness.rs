@@ -18,6 +18,7 @@ macro_rules! answers {
 answers!(
     DeskAnswer,
     CapturedAnswer,
+    LookedAnswer,
     RequestAnswer,
     ReplyAnswer,
     DynamicAnswer,

@@ -1,6 +1,6 @@
 /* watch [FILE]: reads the bytes of the serial line as they come, from a file, a device or standard input. It prints for
-   each frame what became of it, and at the end the records that each request got. All memory is static; nothing is
-   allocated. */
+   each frame what became of it, after each reply that was taken how many have not started, and at the end the records
+   that each request got. All memory is static; nothing is allocated. */
 #include <errno.h>
 #include <fcntl.h>
 #include <poll.h>
@@ -22,6 +22,7 @@ static rei2_desk desk;
 static rei2_seat seats[REI2_SEATS];
 static uint8_t cells[REI2_CELLS * REI2_CELL_SIZE];
 static uint32_t marks[REI2_CELLS];
+static uint32_t tally[REI2_LETTERS][REI2_STATUSES];
 
 static rei2_counts counts;
 
@@ -195,7 +196,8 @@ static void dynamic(const uint8_t *frame, size_t size) {
 
 /* A reply goes to the desk. If it is a stray, its key says which request is missing. */
 static void reply(const uint8_t *frame, size_t size) {
-    rei2_desk_answer answer = rei2_reply(seats, REI2_SEATS, desk, cells, sizeof cells, marks, REI2_CELLS, frame, size);
+    rei2_desk_answer answer =
+        rei2_reply(seats, REI2_SEATS, desk, cells, sizeof cells, marks, REI2_CELLS, tally, frame, size);
     answered(answer, frame, " taken by seat ", &counts.collected);
     if (answer.refusal == REI2_STRAY) {
         rei2_reply_head head = rei2_read_reply(frame, size).reply.head;
@@ -207,7 +209,7 @@ static void reply(const uint8_t *frame, size_t size) {
 /* A whole frame goes to the call for its first byte. */
 static void whole(const uint8_t *frame, size_t size) {
     if (frame[0] == REI2_REQUEST_LEAD) {
-        answered(rei2_open(seats, REI2_SEATS, desk, cells, sizeof cells, marks, REI2_CELLS, frame, size), frame,
+        answered(rei2_open(seats, REI2_SEATS, desk, cells, sizeof cells, marks, REI2_CELLS, tally, frame, size), frame,
                  " opened at seat ", &counts.opened);
     } else if (frame[0] == REI2_REPLY_LEAD) {
         reply(frame, size);
@@ -223,10 +225,21 @@ static void cut(size_t size) {
     put(" bytes");
 }
 
-/* Prints the line of a frame in the buffer: its place in the stream, its kind, and what became of it. */
+/* Prints the figure that a speaker asks for, how many have not started: the records that are held with the letter P. A
+   Z does not count, since it says that there is nothing to report. */
+static void print_not_started(void) {
+    put("  ");
+    put_number(rei2_look(tally, 'P', 'R').held + rei2_look(tally, 'P', 'E').held, 1);
+    put(" not started");
+    end_line();
+}
+
+/* Prints the line of a frame in the buffer: its place in the stream, its kind, and what became of it. Only a reply that
+   was taken adds to the count of the desk. */
 static void take(rei2_frame_answer found) {
     const uint8_t *frame = buffer + found.start;
     size_t size = found.end - found.start;
+    uint32_t count = desk.count;
     put_number(passed + found.start, 1);
     put(" ");
     put(kind_of(frame));
@@ -236,6 +249,9 @@ static void take(rei2_frame_answer found) {
         cut(size);
     }
     end_line();
+    if (desk.count != count) {
+        print_not_started();
+    }
 }
 
 /* Forgets the first bytes of the buffer. */
@@ -375,13 +391,14 @@ static void print_end(void) {
 /* The arrays are as long as the header says. The library says what it needs. */
 static int library_fits(void) {
     rei2_limits_answer limits = rei2_limits();
-    return limits.seats == REI2_SEATS && limits.cells == sizeof cells && limits.marks == REI2_CELLS;
+    return limits.seats == REI2_SEATS && limits.cells == sizeof cells && limits.marks == REI2_CELLS &&
+           limits.letters == REI2_LETTERS && limits.statuses == REI2_STATUSES;
 }
 
 /* Watches an open file. If nothing at all could be read, no counts are printed: they would look like those of an empty
    input. */
 static int watch_file(int file, const char *name) {
-    desk = rei2_reset(seats, REI2_SEATS, desk).desk;
+    desk = rei2_reset(seats, REI2_SEATS, desk, tally).desk;
     int error = watch(file);
     if (error == 0 || passed > 0) {
         print_end();

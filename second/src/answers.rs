@@ -74,7 +74,7 @@ impl Session {
     fn answer(&mut self, case: &str) -> Result<Vec<String>, NotACase> {
         let words: Vec<&str> = case.split(' ').collect();
         match scripts::answer(&mut self.desk, &words) {
-            Some(answer) => answer.map(one_line),
+            Some(answer) => answer,
             None => answer_by_itself(&words),
         }
     }
@@ -230,20 +230,27 @@ fn read_and_write_again<Record: Kind>(frame: &[u8]) -> Damage {
 /// Neighbouring values with the same answer are counted together.
 fn damage_line(frame: &[u8], place: usize, outcome: fn(&[u8]) -> Damage) -> String {
     let mut damaged = frame.to_vec();
-    let mut runs: Vec<(usize, Damage)> = Vec::new();
-    for value in 0..=u8::MAX {
+    let answers = (0..=u8::MAX).map(|value| {
         damaged[place] = value;
-        let answer = outcome(&damaged);
-        match runs.last_mut() {
-            Some((count, last)) if *last == answer => *count += 1,
-            _ => runs.push((1, answer)),
-        }
-    }
-    let runs: String = runs
+        outcome(&damaged)
+    });
+    let runs: String = runs(answers)
         .into_iter()
         .map(|(count, (number, offset, spoiled))| format!(" {count}*{number}.{offset}.{spoiled}"))
         .collect();
     format!("{place}{runs}")
+}
+
+/// Each run of neighbours that are the same, with its length.
+fn runs<Item: PartialEq>(items: impl Iterator<Item = Item>) -> Vec<(usize, Item)> {
+    let mut runs: Vec<(usize, Item)> = Vec::new();
+    for item in items {
+        match runs.last_mut() {
+            Some((count, last)) if *last == item => *count += 1,
+            _ => runs.push((1, item)),
+        }
+    }
+    runs
 }
 
 fn value_or_wrong(value: Option<impl ToString>) -> String {

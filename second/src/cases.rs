@@ -97,18 +97,21 @@ pub mod tests {
         "find",
         "find-from",
     ];
-    pub const SCRIPT_WORDS: [&str; 13] = [
+    pub const SCRIPT_WORDS: [&str; 16] = [
         "lend",
         "bits",
         "count",
         "seat",
         "mark",
         "cell",
+        "tally",
         "open",
         "reply",
         "reset",
         "used",
         "held",
+        "look",
+        "looks",
         "mixes",
         "mixes-by-address",
     ];

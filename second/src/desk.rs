@@ -1,6 +1,7 @@
 //! The desk: keeps open requests and sorts the replies to them.
 
 mod clauses;
+pub mod tally;
 #[cfg(test)]
 mod tests;
 
@@ -8,6 +9,7 @@ use crate::frame::Kind;
 use crate::refusal::Refusal;
 use crate::reply::{Reply, NOT_AVAILABLE, RECORD};
 use crate::request::{Request, NO_ANSWER_DUE};
+use tally::Tally;
 
 pub const SEATS: usize = 16;
 
@@ -67,14 +69,15 @@ impl Key {
     }
 }
 
-/// The state (bits and count) together with all that is lent: seats, cells and marks. The type
-/// fixes the row at sixteen seats. The clauses say whether the rest makes a desk.
+/// The state (bits, count and tally) together with all that is lent: seats, cells and marks. The
+/// type fixes the row at sixteen seats. The clauses say whether the rest makes a desk.
 #[derive(Clone, Debug, Default, PartialEq, Eq)]
 pub struct Desk {
     /// Bit i is set if seat i is in use.
     pub bits: u64,
     /// How many cells are taken, counted from the first.
     pub count: u32,
+    pub tally: Tally,
     pub seats: [Seat; SEATS],
     pub cells: Vec<u8>,
     pub marks: Vec<u32>,
@@ -130,17 +133,19 @@ impl Desk {
         }
         let cell = self.free_cell().ok_or(Refusal::Full)?;
         self.keep(frame, cell, seat);
+        self.tally.add_one(reply.information, reply.status);
         if reply.status != RECORD {
             self.seats[seat].ended = 1;
         }
         Ok(seat)
     }
 
-    /// Sets seats, bits and count to zero, whatever they were. Cells and marks stay. With a row of
-    /// sixteen seats it is never refused.
+    /// Sets seats, bits, count and tally to zero, whatever they were. Cells and marks stay. With a
+    /// row of sixteen seats it is never refused.
     pub fn reset(&mut self) {
         self.bits = 0;
         self.count = 0;
+        self.tally = Tally::default();
         self.seats = [Seat::default(); SEATS];
     }
 
@@ -154,6 +159,13 @@ impl Desk {
     pub fn next_held(&self, seat: u32, place: usize) -> Option<usize> {
         let end = self.below_the_count().min(self.capacity());
         (place..end).find(|&cell| self.marks[cell] == seat)
+    }
+
+    /// The number in the tally for a letter and a status. Nothing else is looked at, so the state
+    /// need not be a desk.
+    pub fn look(&self, letter: u8, status: u8) -> Result<u32, Refusal> {
+        let place = tally::place(letter, status).ok_or(Refusal::NoSuch)?;
+        Ok(self.tally.number(place))
     }
 
     fn must_be_a_desk(&self) -> Result<(), Refusal> {

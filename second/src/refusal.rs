@@ -21,6 +21,7 @@ pub enum Refusal {
     Ended,
     OutOfPlace,
     Full,
+    NoSuch,
 }
 
 impl Refusal {
@@ -41,6 +42,7 @@ impl Refusal {
             Refusal::Ended => 14,
             Refusal::OutOfPlace => 15,
             Refusal::Full => 16,
+            Refusal::NoSuch => 17,
         }
     }
 

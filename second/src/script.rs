@@ -1,6 +1,7 @@
 //! What the lines of a script do to a desk from outside: they lend it memory, and they set any part
 //! of it to any value.
 
+use crate::desk::tally::{COLUMNS, ROWS};
 use crate::desk::{Desk, Seat, SEATS};
 use crate::spelling::{bytes_text, parse_bits, parse_bytes, parse_number, parse_place, NotACase};
 
@@ -11,6 +12,8 @@ const LENT_MARK: u32 = 0xeeee_eeee;
 /// The most that is lent.
 pub const MOST_LENT_BYTES: usize = 15_400;
 pub const MOST_LENT_MARKS: usize = 310;
+
+const NOT_IN_THE_TALLY: NotACase = NotACase("ROW is 0 to 32 and COLUMN is 0 to 2");
 
 /// An empty desk with this many bytes and marks lent to it.
 pub fn lend(bytes: usize, marks: usize) -> Desk {
@@ -28,6 +31,8 @@ pub enum Change {
     Mark(usize, u32),
     /// The bytes from this place on. The place counts bytes, not cells.
     Cell(usize, Vec<u8>),
+    /// The number of the tally in this row and column.
+    Tally(usize, usize, u32),
 }
 
 impl Change {
@@ -39,6 +44,7 @@ impl Change {
             ["seat", place, record @ ..] => parse_seat(place, record),
             ["mark", place, mark] => parse_mark(place, mark),
             ["cell", place, bytes] => parse_cell(place, bytes),
+            ["tally", row, column, number] => parse_tally(row, column, number),
             _ => return None,
         })
     }
@@ -51,6 +57,7 @@ impl Change {
             Change::Seat(place, seat) => seat_text(*place, seat),
             Change::Mark(place, mark) => format!("mark {place} {mark}"),
             Change::Cell(place, bytes) => format!("cell {place} {}", bytes_text(bytes)),
+            Change::Tally(row, column, number) => tally_text(*row, *column, *number),
         }
     }
 
@@ -73,6 +80,11 @@ impl Change {
                 kept.ok_or(NotACase("not all of these bytes are lent"))?
                     .copy_from_slice(bytes);
             }
+            Change::Tally(row, column, number) => {
+                let kept = desk.tally.0.get_mut(*row);
+                let kept = kept.and_then(|numbers| numbers.get_mut(*column));
+                *kept.ok_or(NOT_IN_THE_TALLY)? = *number;
+            }
         }
         Ok(())
     }
@@ -88,6 +100,11 @@ pub fn seat_text(place: usize, seat: &Seat) -> String {
         ended,
     } = seat;
     format!("seat {place} {address} {requester} {number} {held} {ended}")
+}
+
+/// A number of the tally, as a line sets it and as an answer shows it.
+pub fn tally_text(row: usize, column: usize, number: u32) -> String {
+    format!("tally {row} {column} {number}")
 }
 
 fn parse_seat(place: &str, record: &[&str]) -> Result<Change, NotACase> {
@@ -116,6 +133,14 @@ fn parse_cell(place: &str, bytes: &str) -> Result<Change, NotACase> {
     Ok(Change::Cell(parse_place(place)?, parse_bytes(bytes)?))
 }
 
+fn parse_tally(row: &str, column: &str, number: &str) -> Result<Change, NotACase> {
+    let (row, column) = (parse_place(row)?, parse_place(column)?);
+    if row >= ROWS || column >= COLUMNS {
+        return Err(NOT_IN_THE_TALLY);
+    }
+    Ok(Change::Tally(row, column, parse_number(number)?))
+}
+
 #[cfg(test)]
 mod tests {
     use super::*;
@@ -132,6 +157,7 @@ mod tests {
         assert_eq!(desk.marks, [4_008_636_142; 2]);
         assert_eq!((desk.bits, desk.count), (0, 0));
         assert_eq!(desk.seats, [Seat::default(); 16]);
+        assert_eq!(desk.tally.0, [[0; 3]; 33]);
     }
 
     #[test]
@@ -142,6 +168,7 @@ mod tests {
             "seat 15 4294967295 1 2 3 4",
             "mark 309 16",
             "cell 15399 ff",
+            "tally 32 2 4294967295",
         ] {
             let change = parse(line).expect("a change").expect("spelled well");
             assert_eq!(change.text(), line);
@@ -157,6 +184,10 @@ mod tests {
             "seat 0 4294967296 0 0 0 0",
             "mark 0 4294967296",
             "cell 0 0",
+            "tally 33 0 0",
+            "tally 0 3 0",
+            "tally 0 0 4294967296",
+            "tally 0 -1 0",
         ] {
             assert!(parse(line).expect("a change").is_err(), "{line}");
         }
@@ -179,6 +210,7 @@ mod tests {
             Change::Seat(7, seat),
             Change::Mark(1, 8),
             Change::Cell(1, vec![9, 10]),
+            Change::Tally(12, 1, 11),
         ] {
             assert_eq!(change.make(&mut desk), Ok(()));
         }
@@ -187,6 +219,7 @@ mod tests {
         expected.seats[7] = seat;
         expected.marks = vec![0xeeee_eeee, 8];
         expected.cells = vec![0xee, 9, 10, 0xee];
+        expected.tally.0[12][1] = 11;
         assert_eq!(desk, expected);
     }
 
@@ -197,6 +230,8 @@ mod tests {
             Change::Cell(3, vec![1, 2]),
             Change::Cell(usize::MAX, vec![1]),
             Change::Seat(16, Seat::default()),
+            Change::Tally(33, 0, 1),
+            Change::Tally(0, 3, 1),
         ] {
             let mut desk = lend(4, 2);
             assert!(change.make(&mut desk).is_err(), "{change:?}");

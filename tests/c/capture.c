@@ -17,6 +17,8 @@ struct lent {
     uint8_t behind_cells[GUARD];
     uint32_t marks[REI2_CELLS];
     uint8_t behind_marks[GUARD];
+    uint32_t tally[REI2_LETTERS][REI2_STATUSES];
+    uint8_t behind_tally[GUARD];
     uint8_t out[REI2_LONGEST_LIST];
     uint8_t behind[GUARD];
 };
@@ -31,10 +33,16 @@ static void fill_lent(void) {
 
 static rei2_desk empty_desk(void) {
     fill_lent();
-    rei2_desk_answer answer = rei2_reset(lent.seats, REI2_SEATS, (rei2_desk){77, 77});
+    rei2_desk_answer answer = rei2_reset(lent.seats, REI2_SEATS, (rei2_desk){77, 77}, lent.tally);
     SAYS(answer, REI2_DONE, 0);
     memset(wanted.seats, 0, ROW);
+    memset(wanted.tally, 0, sizeof wanted.tally);
     return answer.desk;
+}
+
+/* One record more with the letter and the status of a reply. */
+static void want_counted(const uint8_t *reply) {
+    wanted.tally[place_in(REI2_LETTER_ORDER, reply[29])][place_in(REI2_STATUS_ORDER, reply[5])]++;
 }
 
 static void is_as_wanted(void) {
@@ -55,6 +63,10 @@ static void want_example(void) {
     wanted.seats[0] = (rei2_seat){' ', '1', 7, 2, 1};
     wanted.seats[1] = (rei2_seat){' ', 'A', 12, 1, 1};
     want_example_cells();
+    memset(wanted.tally, 0, sizeof wanted.tally);
+    for (size_t i = 0; i < 3; i++) {
+        want_counted(wanted.cells + i * REI2_CELL_SIZE);
+    }
 }
 
 /* A frame of the example, the answer to it, and the first two seats after it. */
@@ -78,17 +90,19 @@ enum { STEPS = sizeof steps / sizeof steps[0] };
 
 static rei2_desk_answer met(rei2_desk desk, const uint8_t *frame, size_t size) {
     if (frame[0] == REI2_REQUEST_LEAD) {
-        return rei2_open(lent.seats, REI2_SEATS, desk, lent.cells, CELLS, lent.marks, REI2_CELLS, frame, size);
+        return rei2_open(lent.seats, REI2_SEATS, desk, lent.cells, CELLS, lent.marks, REI2_CELLS, lent.tally, frame,
+                         size);
     }
-    return rei2_reply(lent.seats, REI2_SEATS, desk, lent.cells, CELLS, lent.marks, REI2_CELLS, frame, size);
+    return rei2_reply(lent.seats, REI2_SEATS, desk, lent.cells, CELLS, lent.marks, REI2_CELLS, lent.tally, frame, size);
 }
 
-/* What a step changes: the seats, and for a reply that is taken also a cell and its mark. */
+/* What a step changes: the seats, and for a reply that is taken also a cell, its mark and a number of the tally. */
 static void want_step(const struct step *step, uint32_t count) {
     memcpy(wanted.seats, step->seats, sizeof step->seats);
     if (example_capture[step->start] == REI2_REPLY_LEAD && step->refusal == REI2_DONE) {
         memcpy(wanted.cells + count * REI2_CELL_SIZE, example_capture + step->start, REI2_CELL_SIZE);
         wanted.marks[count] = step->seat;
+        want_counted(example_capture + step->start);
     }
 }
 
@@ -115,7 +129,8 @@ static void example_by_frames(void) {
 }
 
 static rei2_captured_answer captured(rei2_desk desk, const uint8_t *capture, size_t size) {
-    return rei2_capture(lent.seats, REI2_SEATS, desk, lent.cells, CELLS, lent.marks, REI2_CELLS, capture, size);
+    return rei2_capture(lent.seats, REI2_SEATS, desk, lent.cells, CELLS, lent.marks, REI2_CELLS, lent.tally, capture,
+                        size);
 }
 
 static int counts_are(rei2_counts c, size_t opened, size_t collected, size_t dynamic, size_t refused) {
@@ -217,6 +232,8 @@ static void two_stopwatches(void) {
     wanted.seats[0] = (rei2_seat){' ', '1', 7, 1, 1};
     wanted.seats[1] = (rei2_seat){'3', '1', 7, 1, 0};
     want_two_cells();
+    want_counted(wanted.cells);
+    want_counted(wanted.cells + REI2_CELL_SIZE);
     is_as_wanted();
 }
 

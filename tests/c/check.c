@@ -5,7 +5,7 @@
 
 static int passed, failed;
 static const char *tried;
-static int met[REI2_FULL + 1];
+static int met[REI2_NO_SUCH + 1];
 
 /* Counts a check. If it failed, prints where it is and what it was about, and returns 1. */
 static int fails(int good, struct place place) {
@@ -39,7 +39,7 @@ void check_same(const void *got, const void *wanted, size_t size, struct place p
 }
 
 void check_said(struct said got, struct said wanted, struct place place) {
-    if (got.refusal <= REI2_FULL) {
+    if (got.refusal <= REI2_NO_SUCH) {
         met[got.refusal] = 1;
     }
     int same = got.refusal == wanted.refusal && got.offset == wanted.offset && got.spoiled == wanted.spoiled;
@@ -57,6 +57,7 @@ struct said said_reply(rei2_reply_answer a) { return (struct said){a.refusal, a.
 struct said said_dynamic(rei2_dynamic_answer a) { return (struct said){a.refusal, a.offset, a.spoiled}; }
 struct said said_written(rei2_written_answer a) { return (struct said){a.refusal, a.offset, 0}; }
 struct said said_listed(rei2_listed_answer a) { return (struct said){a.refusal, 0, 0}; }
+struct said said_looked(rei2_looked_answer a) { return (struct said){a.refusal, 0, 0}; }
 struct said said_running(rei2_running_answer a) { return (struct said){a.refusal, 0, 0}; }
 
 void trying(const char *what) {
@@ -64,7 +65,7 @@ void trying(const char *what) {
 }
 
 int was_said(uint32_t refusal) {
-    return refusal <= REI2_FULL && met[refusal];
+    return refusal <= REI2_NO_SUCH && met[refusal];
 }
 
 int verdict(void) {

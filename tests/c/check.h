@@ -42,6 +42,7 @@ struct said {
         rei2_dynamic_answer: said_dynamic,   \
         rei2_written_answer: said_written,   \
         rei2_listed_answer: said_listed,     \
+        rei2_looked_answer: said_looked,     \
         rei2_running_answer: said_running)(answer)
 
 struct said said(struct said s);
@@ -52,6 +53,7 @@ struct said said_reply(rei2_reply_answer a);
 struct said said_dynamic(rei2_dynamic_answer a);
 struct said said_written(rei2_written_answer a);
 struct said said_listed(rei2_listed_answer a);
+struct said said_looked(rei2_looked_answer a);
 struct said said_running(rei2_running_answer a);
 
 void check(int good, struct place place);

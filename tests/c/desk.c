@@ -69,6 +69,8 @@ static void a_reply_goes_to_the_next_cell(void) {
     now.was.seats[1] = (rei2_seat){' ', 'A', 12, 2, 1};
     memcpy(now.was.cells + 4 * REI2_CELL_SIZE, now.memory.input, REI2_CELL_SIZE);
     now.was.marks[4] = 1;
+    CHECK(*number_of(&now.was, 'P', 'E') == 1);
+    *number_of(&now.was, 'P', 'E') = 2;
     KEPT(&now);
 }
 
@@ -114,18 +116,19 @@ enum { MORE = REI2_CELLS + 1 };
 static rei2_seat seats[REI2_SEATS];
 static uint8_t cells[MORE * REI2_CELL_SIZE];
 static uint32_t marks[MORE];
+static uint32_t tally[REI2_LETTERS][REI2_STATUSES];
 
 static rei2_desk one_seat(void) {
     uint8_t frame[REI2_REQUEST_SIZE];
     make_request(frame, '1', "007");
-    rei2_desk desk = rei2_reset(seats, REI2_SEATS, (rei2_desk){1, 1}).desk;
-    return rei2_open(seats, REI2_SEATS, desk, cells, sizeof cells, marks, MORE, frame, sizeof frame).desk;
+    rei2_desk desk = rei2_reset(seats, REI2_SEATS, (rei2_desk){1, 1}, tally).desk;
+    return rei2_open(seats, REI2_SEATS, desk, cells, sizeof cells, marks, MORE, tally, frame, sizeof frame).desk;
 }
 
 static rei2_desk_answer one_more(rei2_desk desk) {
     uint8_t frame[REI2_REPLY_SIZE];
     make_reply(frame, 'R', '1', "00007");
-    return rei2_reply(seats, REI2_SEATS, desk, cells, sizeof cells, marks, MORE, frame, sizeof frame);
+    return rei2_reply(seats, REI2_SEATS, desk, cells, sizeof cells, marks, MORE, tally, frame, sizeof frame);
 }
 
 static void no_more_than_256_cells(void) {
@@ -137,11 +140,13 @@ static void no_more_than_256_cells(void) {
     }
     SAYS(one_more(desk), REI2_FULL, 0);
     CHECK(desk.count == REI2_CELLS && seats[0].held == REI2_CELLS && seats[0].ended == 0);
+    CHECK(rei2_look(tally, 'P', 'R').held == REI2_CELLS);
     CHECK(cells[REI2_CELLS * REI2_CELL_SIZE] == 0);
     CHECK(rei2_next_held(desk, cells, sizeof cells, marks, MORE, 0, 255).cell == 255);
     CHECK(rei2_next_held(desk, cells, sizeof cells, marks, MORE, 0, 256).found == 0);
     memcpy(cells + REI2_CELLS * REI2_CELL_SIZE, cells, REI2_CELL_SIZE);
     seats[0].held = MORE;
+    tally[place_in(REI2_LETTER_ORDER, 'P')][0] = MORE;
     desk.count = MORE;
     SAYS(one_more(desk), REI2_DESK, 0);
 }
@@ -172,6 +177,7 @@ static void goes_to(uint32_t seat, char address, char status) {
     now.was.seats[seat].ended = status != 'R';
     memcpy(now.was.cells + cell * REI2_CELL_SIZE, now.memory.input, REI2_CELL_SIZE);
     now.was.marks[cell] = seat;
+    ++*number_of(&now.was, 'P', status);
     KEPT(&now);
 }
 
@@ -214,6 +220,7 @@ static void a_row_has_no_padding(void) {
     SAME(row[2], ((const uint32_t[NUMBERS]){0}), sizeof row[2]);
     SAYS(table_reset(&now), REI2_DONE, 0);
     memset(now.was.seats, 0, sizeof row);
+    memset(now.was.tally, 0, sizeof now.was.tally);
     KEPT(&now);
 }
 
@@ -273,23 +280,23 @@ static void any_state_is_read_back(void) {
     holds(3, NULL, 0);
 }
 
-/* ---- null pointers with the count 0 */
+/* ---- null pointers with the count 0. The tally is never null. */
 
 static void nothing_lent(void) {
     uint8_t frame[REI2_REPLY_SIZE];
-    rei2_desk desk = rei2_reset(seats, REI2_SEATS, (rei2_desk){9, 9}).desk;
-    SAYS(rei2_reset(NULL, 0, desk), REI2_DESK, 0);
-    SAYS(rei2_open(NULL, 0, desk, NULL, 0, NULL, 0, NULL, 0), REI2_DESK, 0);
-    SAYS(rei2_reply(NULL, 0, desk, NULL, 0, NULL, 0, NULL, 0), REI2_DESK, 0);
-    SAYS(rei2_capture(NULL, 0, desk, NULL, 0, NULL, 0, NULL, 0), REI2_DESK, 0);
-    SAYS(rei2_open(seats, REI2_SEATS, desk, NULL, 0, NULL, 0, NULL, 0), REI2_KIND, 0);
-    SAYS(rei2_reply(seats, REI2_SEATS, desk, NULL, 0, NULL, 0, NULL, 0), REI2_KIND, 0);
-    SAYS(rei2_capture(seats, REI2_SEATS, desk, NULL, 0, NULL, 0, NULL, 0), REI2_DONE, 0);
+    rei2_desk desk = rei2_reset(seats, REI2_SEATS, (rei2_desk){9, 9}, tally).desk;
+    SAYS(rei2_reset(NULL, 0, desk, tally), REI2_DESK, 0);
+    SAYS(rei2_open(NULL, 0, desk, NULL, 0, NULL, 0, tally, NULL, 0), REI2_DESK, 0);
+    SAYS(rei2_reply(NULL, 0, desk, NULL, 0, NULL, 0, tally, NULL, 0), REI2_DESK, 0);
+    SAYS(rei2_capture(NULL, 0, desk, NULL, 0, NULL, 0, tally, NULL, 0), REI2_DESK, 0);
+    SAYS(rei2_open(seats, REI2_SEATS, desk, NULL, 0, NULL, 0, tally, NULL, 0), REI2_KIND, 0);
+    SAYS(rei2_reply(seats, REI2_SEATS, desk, NULL, 0, NULL, 0, tally, NULL, 0), REI2_KIND, 0);
+    SAYS(rei2_capture(seats, REI2_SEATS, desk, NULL, 0, NULL, 0, tally, NULL, 0), REI2_DONE, 0);
     make_request(frame, '1', "007");
-    rei2_desk_answer answer = rei2_open(seats, REI2_SEATS, desk, NULL, 0, NULL, 0, frame, REI2_REQUEST_SIZE);
+    rei2_desk_answer answer = rei2_open(seats, REI2_SEATS, desk, NULL, 0, NULL, 0, tally, frame, REI2_REQUEST_SIZE);
     SAYS(answer, REI2_DONE, 0);
     make_reply(frame, 'R', '1', "00007");
-    SAYS(rei2_reply(seats, REI2_SEATS, answer.desk, NULL, 0, NULL, 0, frame, sizeof frame), REI2_FULL, 0);
+    SAYS(rei2_reply(seats, REI2_SEATS, answer.desk, NULL, 0, NULL, 0, tally, frame, sizeof frame), REI2_FULL, 0);
     CHECK(rei2_next_held(answer.desk, NULL, 0, NULL, 0, 0, 0).found == 0);
 }
 

@@ -16,6 +16,14 @@ void make_reply(uint8_t *to, char status, char requester, const char *number) {
     memcpy(to + 7, number, 5);
 }
 
+void put_letter(uint8_t *reply, char letter) {
+    const char *timing = place_in("0KSsa", (uint8_t)letter) < 5 ? "0959597500" "12052024"
+                         : place_in("123", (uint8_t)letter) < 3 ? "0001125400" "+0000003"
+                                                                : "ab cd-ef~!" "xyz     ";
+    reply[29] = (uint8_t)letter;
+    memcpy(reply + 30, timing, 18);
+}
+
 void make_dynamic(uint8_t *to) {
     memcpy(to, "\023R " "1" "A" "00041" "255" "001" "60000" "250" "005" "1" "0102030405" "9" "99999" "S" "\r",
            REI2_DYNAMIC_SIZE);
@@ -30,6 +38,14 @@ uint32_t field_of(const uint8_t *fields, size_t at) {
         fields++;
     }
     return *fields;
+}
+
+size_t place_in(const char *order, uint8_t code) {
+    size_t place = 0;
+    while (order[place] != 0 && (uint8_t)order[place] != code) {
+        place++;
+    }
+    return place;
 }
 
 void fill(void *at, size_t size, uint32_t seed) {

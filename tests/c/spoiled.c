@@ -1,4 +1,4 @@
-/* States and memory that make no desk: each call but the reset is refused with DESK, and no lent byte changes. */
+/* States and memory that make no desk: each call that tests it is refused with DESK, and no lent byte changes. */
 #include <string.h>
 
 #include "made.h"
@@ -79,6 +79,23 @@ static void ended_too_early(struct table *t) { seat(t, 1)->ended = 1; }
 static void ended_of_nothing(struct table *t) { seat(t, 2)->ended = 1; }
 static void ended_2(struct table *t) { seat(t, 0)->ended = 2; }
 
+/* The tally of the desk has two R, one E and one Z, all with the letter P. */
+static void tally_cleared(struct table *t) { memset(t->memory.tally, 0, sizeof t->memory.tally); }
+static void tally_other_status(struct table *t) {
+    --*number_of(&t->memory, 'P', 'R');
+    ++*number_of(&t->memory, 'P', 'E');
+}
+static void tally_other_letter(struct table *t) {
+    --*number_of(&t->memory, 'P', 'E');
+    ++*number_of(&t->memory, 'p', 'E');
+}
+static void tally_wide(struct table *t) { *number_of(&t->memory, 'P', 'R') += (uint32_t)1 << 16; }
+static void letter_in_the_cell(struct table *t) { cell(t, 1)[29] = 'Q'; }
+static void status_in_the_cell(struct table *t) {
+    cell(t, 1)[5] = 'E';
+    seat(t, 1)->ended = 1;
+}
+
 struct spoil {
     const char *what;
     void (*done)(struct table *);
@@ -135,6 +152,12 @@ static const struct spoil spoils[] = {
     {"a seat that ended with an R", ended_too_early},
     {"a seat that ended without a record", ended_of_nothing},
     {"an ended of 2", ended_2},
+    {"a tally of nothing", tally_cleared},
+    {"a record counted with another status", tally_other_status},
+    {"a record counted with another letter", tally_other_letter},
+    {"a number that is right but for its high bits", tally_wide},
+    {"a letter that was changed in a cell and not in the tally", letter_in_the_cell},
+    {"a status that was changed in cell and seat and not in the tally", status_in_the_cell},
 };
 
 /* ---- the calls on it */
@@ -167,12 +190,13 @@ static void refuses_all(void) {
     captures_nothing(table_capture(&now, frames, 0));
 }
 
-/* The reset takes any state. The seats are all 0 after it, and nothing else changes. */
+/* The reset takes any state. Seats and tally are all 0 after it, and nothing else changes. */
 static void is_reset(void) {
     rei2_desk_answer answer = table_reset(&now);
     SAYS(answer, REI2_DONE, 0);
     CHECK(answer.desk.bits == 0 && answer.desk.count == 0 && answer.seat == 0);
     memset(now.was.seats, 0, REI2_SEATS * sizeof(rei2_seat));
+    memset(now.was.tally, 0, sizeof now.was.tally);
     KEPT(&now);
 }
 
@@ -206,6 +230,36 @@ static void each_clause(void) {
     trying(NULL);
 }
 
+/* The laid desk with this much more at one number of the tally. */
+static void is_no_desk_with(size_t letter, size_t status, uint32_t more) {
+    table_laid(&now);
+    now.memory.tally[letter][status] += more;
+    refuses_all();
+    is_reset();
+}
+
+/* Each number of the tally counts: one more or one less makes no desk. */
+static void each_number_of_the_tally(void) {
+    for (size_t letter = 0; letter < REI2_LETTERS; letter++) {
+        for (size_t status = 0; status < REI2_STATUSES; status++) {
+            const char what[] = {REI2_LETTER_ORDER[letter], ' ', REI2_STATUS_ORDER[status], 0};
+            trying(what);
+            is_no_desk_with(letter, status, 1);
+            is_no_desk_with(letter, status, UINT32_MAX);
+            trying(NULL);
+        }
+    }
+}
+
+/* Other records with their tally make a desk. */
+static void another_letter_on_both_sides(void) {
+    table_laid(&now);
+    letter_in_the_cell(&now);
+    --*number_of(&now.memory, 'P', 'R');
+    ++*number_of(&now.memory, 'Q', 'R');
+    SAYS(table_reply(&now, frames + REI2_REQUEST_SIZE, REI2_REPLY_SIZE), REI2_DONE, 0);
+}
+
 static void garbage(void) {
     trying("garbage");
     table_of_garbage(&now);
@@ -233,6 +287,8 @@ void test_spoiled(void) {
     laid_is_a_desk();
     one_key_at_two_addresses();
     each_clause();
+    each_number_of_the_tally();
+    another_letter_on_both_sides();
     garbage();
     other_rows();
 }

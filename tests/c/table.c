@@ -38,28 +38,28 @@ static void put(struct table *table, const uint8_t *input, size_t size) {
 
 rei2_desk_answer table_reset(struct table *table) {
     memcpy(&table->was, &table->memory, sizeof table->was);
-    return rei2_reset(table->memory.seats, table->seats_len, table->desk);
+    return rei2_reset(table->memory.seats, table->seats_len, table->desk, table->memory.tally);
 }
 
 rei2_desk_answer table_open(struct table *table, const uint8_t *frame, size_t size) {
     struct memory *m = &table->memory;
     put(table, frame, size);
     return rei2_open(m->seats, table->seats_len, table->desk, m->cells, table->cells_len, m->marks, table->marks_len,
-                     m->input, size);
+                     m->tally, m->input, size);
 }
 
 rei2_desk_answer table_reply(struct table *table, const uint8_t *frame, size_t size) {
     struct memory *m = &table->memory;
     put(table, frame, size);
     return rei2_reply(m->seats, table->seats_len, table->desk, m->cells, table->cells_len, m->marks, table->marks_len,
-                      m->input, size);
+                      m->tally, m->input, size);
 }
 
 rei2_captured_answer table_capture(struct table *table, const uint8_t *capture, size_t size) {
     struct memory *m = &table->memory;
     put(table, capture, size);
     return rei2_capture(m->seats, table->seats_len, table->desk, m->cells, table->cells_len, m->marks,
-                        table->marks_len, m->input, size);
+                        table->marks_len, m->tally, m->input, size);
 }
 
 /* If the call was done, goes on with the state that it returned. */
@@ -92,6 +92,12 @@ rei2_desk_answer table_takes_at(struct table *table, char address, char status, 
     frame[2] = (uint8_t)address;
     rei2_desk_answer answer = table_reply(table, frame, sizeof frame);
     return kept(table, answer);
+}
+
+uint32_t *number_of(struct memory *memory, char letter, char status) {
+    size_t row = place_in(REI2_LETTER_ORDER, (uint8_t)letter);
+    size_t column = place_in(REI2_STATUS_ORDER, (uint8_t)status);
+    return &memory->tally[row][column];
 }
 
 int same_desk(rei2_desk a, rei2_desk b) {

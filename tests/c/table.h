@@ -15,6 +15,8 @@ struct memory {
     uint8_t behind_cells[GUARD];
     uint32_t marks[TABLE_CELLS];
     uint8_t behind_marks[GUARD];
+    uint32_t tally[REI2_LETTERS][REI2_STATUSES];
+    uint8_t behind_tally[GUARD];
     uint8_t input[TABLE_INPUT];
     uint8_t behind[GUARD];
 };
@@ -32,7 +34,7 @@ struct table {
 /* A table with nothing but garbage in it, and all of the memory lent. */
 void table_of_garbage(struct table *table);
 
-/* An empty desk with garbage in cells and marks. */
+/* An empty desk with garbage in cells and marks. Its tally is all 0. */
 void table_emptied(struct table *table);
 
 /* A desk with four seats, each with a space for its address: 1 007 holds R and E, A 012 holds R, z 000 nothing, a 999 a
@@ -51,6 +53,9 @@ rei2_desk_answer table_opens(struct table *table, char requester, const char *nu
 rei2_desk_answer table_opens_at(struct table *table, char address, char requester, const char *number);
 rei2_desk_answer table_takes(struct table *table, char status, char requester, const char *number);
 rei2_desk_answer table_takes_at(struct table *table, char address, char status, char requester, const char *number);
+
+/* The number of the tally for a letter and a status. */
+uint32_t *number_of(struct memory *memory, char letter, char status);
 
 /* The memory is the same as was. A test that expects a change makes it in was first. */
 #define KEPT(table) SAME(&(table)->memory, &(table)->was, sizeof(struct memory))

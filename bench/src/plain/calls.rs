@@ -3,7 +3,7 @@
 
 use super::refusal::{put_name, Refusal, DESK};
 use super::ways::Ways;
-use super::{desk, dynamic, listing, reply, request, times};
+use super::{desk, dynamic, listing, reply, request, tally, times};
 use crate::abi::*;
 use std::slice::{from_raw_parts, from_raw_parts_mut};
 
@@ -33,12 +33,19 @@ fn written(done: Result<usize, Refusal>) -> WrittenAnswer {
 }
 
 #[inline(never)]
-pub unsafe extern "C" fn reset(place: *mut DeskAnswer, seats: *mut Seat, len: usize, desk: Desk) -> *mut DeskAnswer {
+pub unsafe extern "C" fn reset(
+    place: *mut DeskAnswer,
+    seats: *mut Seat,
+    len: usize,
+    desk: Desk,
+    tally: *mut Tally,
+) -> *mut DeskAnswer {
     let seats = from_raw_parts_mut(seats, len);
     if len != SEATS {
         return store(place, desk_answer(desk, Err(DESK)));
     }
     seats.fill(Seat::default());
+    (*tally).fill([0; STATUSES]);
     store(place, DeskAnswer::default())
 }
 
@@ -52,13 +59,14 @@ pub unsafe extern "C" fn open<W: Ways>(
     cells_len: usize,
     marks: *const u32,
     marks_len: usize,
+    tally: *const Tally,
     frame: *const u8,
     frame_len: usize,
 ) -> *mut DeskAnswer {
     let seats = from_raw_parts_mut(seats, seats_len);
     let cells = from_raw_parts(cells, cells_len);
     let marks = from_raw_parts(marks, marks_len);
-    let done = desk::open::<W>(seats, state, cells, marks, from_raw_parts(frame, frame_len));
+    let done = desk::open::<W>(seats, state, cells, marks, &*tally, from_raw_parts(frame, frame_len));
     store(place, desk_answer(state, done))
 }
 
@@ -72,13 +80,14 @@ pub unsafe extern "C" fn reply<W: Ways>(
     cells_len: usize,
     marks: *mut u32,
     marks_len: usize,
+    tally: *mut Tally,
     frame: *const u8,
     frame_len: usize,
 ) -> *mut DeskAnswer {
     let seats = from_raw_parts_mut(seats, seats_len);
     let cells = from_raw_parts_mut(cells, cells_len);
     let marks = from_raw_parts_mut(marks, marks_len);
-    let done = desk::reply::<W>(seats, state, cells, marks, from_raw_parts(frame, frame_len));
+    let done = desk::reply::<W>(seats, state, cells, marks, &mut *tally, from_raw_parts(frame, frame_len));
     store(place, desk_answer(state, done))
 }
 
@@ -92,17 +101,27 @@ pub unsafe extern "C" fn capture<W: Ways>(
     cells_len: usize,
     marks: *mut u32,
     marks_len: usize,
+    tally: *mut Tally,
     bytes: *const u8,
     bytes_len: usize,
 ) -> *mut CapturedAnswer {
     let seats = from_raw_parts_mut(seats, seats_len);
     let cells = from_raw_parts_mut(cells, cells_len);
     let marks = from_raw_parts_mut(marks, marks_len);
-    let answer = match desk::capture::<W>(seats, state, cells, marks, from_raw_parts(bytes, bytes_len)) {
+    let bytes = from_raw_parts(bytes, bytes_len);
+    let answer = match desk::capture::<W>(seats, state, cells, marks, &mut *tally, bytes) {
         Ok((desk, counts)) => CapturedAnswer { desk, refusal: 0, counts },
         Err(refusal) => CapturedAnswer { desk: state, refusal: refusal.number, counts: Counts::default() },
     };
     store(place, answer)
+}
+
+#[inline(never)]
+pub unsafe extern "C" fn look(tally: *const Tally, letter: u8, status: u8) -> LookedAnswer {
+    match tally::look(&*tally, letter, status) {
+        Ok(held) => LookedAnswer { refusal: 0, held },
+        Err(refusal) => LookedAnswer { refusal: refusal.number, held: 0 },
+    }
 }
 
 #[inline(never)]

@@ -2,10 +2,11 @@
 
 use super::finder::WHOLE;
 use super::refusal::{Refusal, DESK, ENDED, FULL, IN_USE, NO_ANSWER_DUE, NO_SEAT, OUT_OF_PLACE, STRAY};
+use super::tally::count_one;
 use super::test::is_desk;
 use super::ways::{Keys, Ways};
 use super::{reply, request};
-use crate::abi::{Counts, Desk, ReplyHead, Seat, CELLS, CELL_SIZE, SEATS};
+use crate::abi::{Counts, Desk, ReplyHead, Seat, Tally, CELLS, CELL_SIZE, SEATS};
 
 /// The key by which a reply finds its seat.
 #[derive(Clone, Copy, PartialEq)]
@@ -23,6 +24,7 @@ pub fn key_of(seat: &Seat) -> Key {
 /// What the desk needs of a reply.
 pub struct Label {
     pub status: u8,
+    pub letter: u8,
     pub key: Key,
 }
 
@@ -30,7 +32,7 @@ impl Label {
     #[inline(always)]
     pub fn of(head: &ReplyHead) -> Self {
         let key = Key { address: head.address.into(), requester: head.requester.into(), number: head.number };
-        Label { status: head.status, key }
+        Label { status: head.status, letter: head.information, key }
     }
 }
 
@@ -47,16 +49,23 @@ pub fn capacity(cells: usize, marks: usize) -> usize {
 /// The state after a call, and the place of the seat.
 type Done = Result<(Desk, usize), Refusal>;
 
-pub fn open<W: Ways>(seats: &mut [Seat], desk: Desk, cells: &[u8], marks: &[u32], frame: &[u8]) -> Done {
+pub fn open<W: Ways>(seats: &mut [Seat], desk: Desk, cells: &[u8], marks: &[u32], tally: &Tally, frame: &[u8]) -> Done {
     let mut keys = W::Keys::default();
-    let row = row_of_desk::<W>(seats, &mut keys, desk, cells, marks)?;
+    let row = row_of_desk::<W>(seats, &mut keys, desk, cells, marks, tally)?;
     open_on_desk(row, &mut keys, desk, frame)
 }
 
-pub fn reply<W: Ways>(seats: &mut [Seat], desk: Desk, cells: &mut [u8], marks: &mut [u32], frame: &[u8]) -> Done {
+pub fn reply<W: Ways>(
+    seats: &mut [Seat],
+    desk: Desk,
+    cells: &mut [u8],
+    marks: &mut [u32],
+    tally: &mut Tally,
+    frame: &[u8],
+) -> Done {
     let mut keys = W::Keys::default();
-    let row = row_of_desk::<W>(seats, &mut keys, desk, cells, marks)?;
-    reply_on_desk::<W>(row, &keys, desk, cells, marks, frame)
+    let row = row_of_desk::<W>(seats, &mut keys, desk, cells, marks, tally)?;
+    reply_on_desk::<W>(row, &keys, desk, cells, marks, tally, frame)
 }
 
 /// The row, if state and memory make a desk. Its keys are taken too.
@@ -67,9 +76,10 @@ fn row_of_desk<'a, W: Ways>(
     desk: Desk,
     cells: &[u8],
     marks: &[u32],
+    tally: &Tally,
 ) -> Result<&'a mut [Seat; SEATS], Refusal> {
     let row: &mut [Seat; SEATS] = seats.try_into().map_err(|_| DESK)?;
-    if is_desk::<W>(row, keys, desk, cells, marks) {
+    if is_desk::<W>(row, keys, desk, cells, marks, tally) {
         Ok(row)
     } else {
         Err(DESK)
@@ -100,15 +110,16 @@ fn reply_on_desk<W: Ways>(
     desk: Desk,
     cells: &mut [u8],
     marks: &mut [u32],
+    tally: &mut Tally,
     frame: &[u8],
 ) -> Done {
-    let Label { status, key } = W::label(frame)?;
-    let place = keys.find(seats, desk.bits, key).ok_or(STRAY)?;
+    let label = W::label(frame)?;
+    let place = keys.find(seats, desk.bits, label.key).ok_or(STRAY)?;
     let seat = &mut seats[place];
     if seat.ended != 0 {
         return Err(ENDED);
     }
-    if status == b'Z' && seat.held != 0 {
+    if label.status == b'Z' && seat.held != 0 {
         return Err(OUT_OF_PLACE);
     }
     let cell = desk.count as usize;
@@ -118,7 +129,8 @@ fn reply_on_desk<W: Ways>(
     cells[cell * CELL_SIZE..][..CELL_SIZE].copy_from_slice(frame);
     marks[cell] = place as u32;
     seat.held += 1;
-    seat.ended = u32::from(status != b'R');
+    seat.ended = u32::from(label.status != b'R');
+    count_one(tally, &label);
     Ok((Desk { count: desk.count + 1, ..desk }, place))
 }
 
@@ -128,11 +140,12 @@ pub fn capture<W: Ways>(
     desk: Desk,
     cells: &mut [u8],
     marks: &mut [u32],
+    tally: &mut Tally,
     bytes: &[u8],
 ) -> Result<(Desk, Counts), Refusal> {
     let mut keys = W::Keys::default();
-    let row = row_of_desk::<W>(seats, &mut keys, desk, cells, marks)?;
-    Ok(capture_on_desk::<W>(row, &mut keys, desk, cells, marks, bytes))
+    let row = row_of_desk::<W>(seats, &mut keys, desk, cells, marks, tally)?;
+    Ok(capture_on_desk::<W>(row, &mut keys, desk, cells, marks, tally, bytes))
 }
 
 pub fn capture_on_desk<W: Ways>(
@@ -141,6 +154,7 @@ pub fn capture_on_desk<W: Ways>(
     mut desk: Desk,
     cells: &mut [u8],
     marks: &mut [u32],
+    tally: &mut Tally,
     bytes: &[u8],
 ) -> (Desk, Counts) {
     let mut counts = Counts::default();
@@ -151,7 +165,9 @@ pub fn capture_on_desk<W: Ways>(
         let (done, count) = match frame[0] {
             _ if found.kind != WHOLE => (None, &mut counts.refused),
             request::LEAD => (open_on_desk(seats, keys, desk, frame).ok(), &mut counts.opened),
-            reply::LEAD => (reply_on_desk::<W>(seats, keys, desk, cells, marks, frame).ok(), &mut counts.collected),
+            reply::LEAD => {
+                (reply_on_desk::<W>(seats, keys, desk, cells, marks, tally, frame).ok(), &mut counts.collected)
+            }
             _ => (W::read_dynamic(frame).ok().map(|_| (desk, 0)), &mut counts.dynamic),
         };
         match done {

@@ -3,7 +3,7 @@
 use super::desk::{capacity, capture_on_desk};
 use super::refusal::{Refusal, ROOM};
 use super::ways::Ways;
-use crate::abi::{Counts, Desk, Seat, CELLS, CELL_SIZE, SEATS};
+use crate::abi::{Counts, Desk, Seat, CELLS, CELL_SIZE, LETTERS, SEATS, STATUSES};
 use std::ops::Range;
 
 const MOST_INPUT: usize = 32_768;
@@ -73,8 +73,9 @@ pub fn list<W: Ways>(capture: &[u8], cells: &mut [u8], marks: &mut [u32], out: &
     let mut own_marks = [0; CELLS];
     let mut seats = [Seat::default(); SEATS];
     let mut keys = W::Keys::default();
-    let (desk, counts) =
-        capture_on_desk::<W>(&mut seats, &mut keys, Desk::default(), &mut own_cells, &mut own_marks[..room], capture);
+    let mut tally = [[0; STATUSES]; LETTERS];
+    let (desk, own) = (Desk::default(), &mut own_marks[..room]);
+    let (desk, counts) = capture_on_desk::<W>(&mut seats, &mut keys, desk, &mut own_cells, own, &mut tally, capture);
     let count = desk.count as usize;
     let (own_cells, own_marks) = (&own_cells[..count * CELL_SIZE], &own_marks[..count]);
     let size = size_of_list(own_marks, &counts);

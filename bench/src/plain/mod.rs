@@ -11,6 +11,7 @@ mod listing;
 pub mod refusal;
 pub mod reply;
 pub mod request;
+pub mod tally;
 pub mod test;
 pub mod times;
 pub mod ways;

@@ -25,6 +25,7 @@ pub const STRAY: Refusal = numbered(13);
 pub const ENDED: Refusal = numbered(14);
 pub const OUT_OF_PLACE: Refusal = numbered(15);
 pub const FULL: Refusal = numbered(16);
+pub const NO_SUCH: Refusal = numbered(17);
 
 /// FIELD, with the offset at which the wrong field begins, and that of its spoiled byte.
 pub const fn field(at: usize, spoiled: usize) -> Refusal {
@@ -42,9 +43,9 @@ pub fn part(good: bool, at: u32) -> Result<(), Refusal> {
 }
 
 #[rustfmt::skip]
-const NAMES: [&str; 17] = [
+const NAMES: [&str; 18] = [
     "DONE", "KIND", "LENGTH", "END", "ADDRESS", "FIELD", "RECORD", "ROOM", "TIME", "DESK", "NO ANSWER DUE", "IN USE",
-    "NO SEAT", "STRAY", "ENDED", "OUT OF PLACE", "FULL",
+    "NO SEAT", "STRAY", "ENDED", "OUT OF PLACE", "FULL", "NO SUCH",
 ];
 
 /// Writes a refusal's name and a zero byte, and returns the name's size.

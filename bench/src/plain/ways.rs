@@ -10,6 +10,9 @@ use crate::abi::{DynamicRequest, FrameAnswer, ReplyRecord, Seat, SEATS};
 pub trait Ways {
     type Keys: Keys;
 
+    /// Is a desk without held cells tested apart, without counting?
+    const EMPTY_APART: bool;
+
     fn read_reply(frame: &[u8]) -> Result<ReplyRecord, Refusal>;
 
     fn read_dynamic(frame: &[u8]) -> Result<DynamicRequest, Refusal>;
@@ -29,8 +32,8 @@ pub trait Keys: Default {
     /// Takes the keys of the seats. Are the seats good, and do their keys differ?
     fn take(&mut self, seats: &[Seat; SEATS], bits: u64) -> bool;
 
-    /// Is it the key of this seat, which is in use?
-    fn is_at(&self, seats: &[Seat; SEATS], place: usize, key: Key) -> bool;
+    /// Is the seat at this place in use, and is this its key? The key is that of a good reply.
+    fn is_at(&self, seats: &[Seat; SEATS], bits: u64, place: usize, key: Key) -> bool;
 
     /// The place of the seat with this key.
     fn find(&self, seats: &[Seat; SEATS], bits: u64, key: Key) -> Option<usize>;
@@ -44,6 +47,7 @@ pub struct Plain;
 
 impl Ways for Plain {
     type Keys = InSeats;
+    const EMPTY_APART: bool = false;
 
     #[inline(always)]
     fn read_reply(frame: &[u8]) -> Result<ReplyRecord, Refusal> {
@@ -82,8 +86,8 @@ impl Keys for InSeats {
     }
 
     #[inline(always)]
-    fn is_at(&self, seats: &[Seat; SEATS], place: usize, key: Key) -> bool {
-        key_of(&seats[place]) == key
+    fn is_at(&self, seats: &[Seat; SEATS], bits: u64, place: usize, key: Key) -> bool {
+        is_used(bits, place) && key_of(&seats[place]) == key
     }
 
     #[inline(always)]

@@ -35,11 +35,12 @@ struct Taking {
 
 impl Calls for Taking {
     fn make<W: Witness>(&mut self, side: &Side, witness: &mut W) {
-        let Lent { desk, seats, cells, marks } = &mut self.lent;
+        let Lent { desk, seats, cells, marks, tally } = &mut self.lent;
         seats.fill(Seat::default());
+        tally.fill([0; STATUSES]);
         let mut answer = CapturedAnswer::default();
-        side.capture(&mut answer, seats, *desk, cells, marks, &self.capture);
-        witness.saw(&self.capture, &answer, &[seats, cells, marks]);
+        side.capture(&mut answer, seats, *desk, cells, marks, tally, &self.capture);
+        witness.saw(&self.capture, &answer, &[seats, cells, marks, tally]);
     }
 }
 
@@ -79,7 +80,7 @@ pub fn rows() -> Vec<Row> {
     }
     for given in [&full, &mixed] {
         let mut about = about("rei2_capture", "", given, 1);
-        about.cleared = "the seats";
+        about.cleared = "the seats, the tally";
         rows.push(Row::new(about, Taking { capture: given.1.clone(), lent: Lent::empty() }));
     }
     for given in [&full, &mixed] {

@@ -1,9 +1,9 @@
-//! Calls on a desk. What a call changed in the seats is put back before the next call. This is done on all sides and is
-//! timed too. Free cells and marks are not put back, since they may contain anything.
+//! Calls on a desk. What a call changed in the seats and in the tally is put back before the next call. This is done on all
+//! sides and is timed too. Free cells and marks are not put back, since they may contain anything.
 
 use super::{About, Calls, Row};
 use crate::abi::*;
-use crate::inputs::{key_of_seat, reply_with, request_with, Lent};
+use crate::inputs::{key_of_seat, place_in_tally, reply_with, request_with, Lent};
 use crate::random::Random;
 use crate::witness::Witness;
 
@@ -20,11 +20,11 @@ struct Opening {
 
 impl Calls for Opening {
     fn make<W: Witness>(&mut self, side: &Side, witness: &mut W) {
-        let Lent { desk, seats, cells, marks } = &mut self.lent;
+        let Lent { desk, seats, cells, marks, tally } = &mut self.lent;
         let mut answer = DeskAnswer::default();
         for frame in &self.frames {
-            side.open(&mut answer, seats, *desk, cells, marks, frame);
-            witness.saw(frame, &answer, &[seats, cells, marks]);
+            side.open(&mut answer, seats, *desk, cells, marks, tally, frame);
+            witness.saw(frame, &answer, &[seats, cells, marks, tally]);
             seats[answer.seat as usize] = Seat::default();
         }
     }
@@ -33,18 +33,35 @@ impl Calls for Opening {
 struct Replying {
     lent: Lent,
     frames: Vec<Vec<u8>>,
-    /// For each frame, the place of its seat and the seat as it was before.
-    before: Vec<(usize, Seat)>,
+    /// For each frame, what it changes.
+    before: Vec<Before>,
+}
+
+/// The place of a seat and the seat as it was before, and the same for a number of the tally.
+struct Before {
+    place: usize,
+    seat: Seat,
+    row: usize,
+    column: usize,
+    number: u32,
+}
+
+impl Before {
+    fn of(lent: &Lent, place: usize, frame: &[u8]) -> Self {
+        let (row, column) = place_in_tally(frame);
+        Before { place, seat: lent.seats[place], row, column, number: lent.tally[row][column] }
+    }
 }
 
 impl Calls for Replying {
     fn make<W: Witness>(&mut self, side: &Side, witness: &mut W) {
-        let Lent { desk, seats, cells, marks } = &mut self.lent;
+        let Lent { desk, seats, cells, marks, tally } = &mut self.lent;
         let mut answer = DeskAnswer::default();
-        for (frame, &(place, seat)) in self.frames.iter().zip(&self.before) {
-            side.reply(&mut answer, seats, *desk, cells, marks, frame);
-            witness.saw(frame, &answer, &[seats, cells, marks]);
-            seats[place] = seat;
+        for (frame, before) in self.frames.iter().zip(&self.before) {
+            side.reply(&mut answer, seats, *desk, cells, marks, tally, frame);
+            witness.saw(frame, &answer, &[seats, cells, marks, tally]);
+            seats[before.place] = before.seat;
+            tally[before.row][before.column] = before.number;
         }
     }
 }
@@ -55,11 +72,11 @@ struct Resetting {
 
 impl Calls for Resetting {
     fn make<W: Witness>(&mut self, side: &Side, witness: &mut W) {
-        let Lent { desk, seats, .. } = &mut self.lent;
+        let Lent { desk, seats, tally, .. } = &mut self.lent;
         let mut answer = DeskAnswer::default();
         for _ in 0..FRAMES {
-            side.reset(&mut answer, seats, *desk);
-            witness.saw(desk, &answer, &[seats]);
+            side.reset(&mut answer, seats, *desk, tally);
+            witness.saw(desk, &answer, &[seats, tally]);
         }
     }
 }
@@ -98,13 +115,13 @@ fn replying(used: usize, held: usize, refusal: u32) -> Row {
     let mut random = Random::new(5);
     let lent = Lent::with(&mut random, used, held);
     let seats = || (0..FRAMES).map(|k| k % used);
-    let frames = seats().map(|seat| reply_with(&mut random, key_of_seat(seat))).collect();
-    let before = seats().map(|seat| (seat, lent.seats[seat])).collect();
+    let frames: Vec<Vec<u8>> = seats().map(|seat| reply_with(&mut random, key_of_seat(seat))).collect();
+    let before = seats().zip(&frames).map(|(seat, frame)| Before::of(&lent, seat, frame)).collect();
     let outcome = if refusal == 0 { "taken" } else { "refused (full)" };
     let plural = if used == 1 { "seat" } else { "seats" };
     let case = format!("{outcome}, {held} cells held, {used} {plural} in use");
     let mut about = About::new("rei2_reply", case, refusal, FRAMES);
-    about.cleared = "the seat";
+    about.cleared = "the seat, a number of the tally";
     Row::new(about, Replying { lent, frames, before })
 }
 
@@ -114,7 +131,7 @@ fn reading_back(case: &str, seat: u32, calls: usize) -> Row {
 }
 
 pub fn rows() -> Vec<Row> {
-    let reset = About::new("rei2_reset", "sixteen seats", 0, FRAMES);
+    let reset = About::new("rei2_reset", "sixteen seats and the tally", 0, FRAMES);
     let lent = Lent::with(&mut Random::new(7), SEATS, 0);
     let mut rows = vec![Row::new(reset, Resetting { lent })];
     rows.extend([0, 64, 256].map(opening));

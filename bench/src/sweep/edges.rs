@@ -47,6 +47,7 @@ fn replies(random: &mut Random) -> usize {
                 reply_to(&lent, &frame);
                 let mut holding = lent.clone();
                 holding.cells[..CELL_SIZE].copy_from_slice(&frame);
+                holding.count_again();
                 reply_to(&holding, &any);
             }
         }

@@ -37,8 +37,9 @@ impl Keys for Column {
         self.0.iter().all(|&key| key == 0 || self.count(key) == 1)
     }
 
+    /// A seat that is not in use has the number 0, which is no key's.
     #[inline(always)]
-    fn is_at(&self, _: &[Seat; SEATS], place: usize, key: Key) -> bool {
+    fn is_at(&self, _: &[Seat; SEATS], _: u64, place: usize, key: Key) -> bool {
         self.0[place] == packed(key)
     }
 

@@ -3,10 +3,12 @@
 //! - a search for frames skips blocks of sixteen bytes (`finder`);
 //! - digits are tested in runs, and then the numbers are read without a test (`fields`, `dynamic`, `reply`);
 //! - a held cell, or a reply that comes in, is first asked only whether it is good, and for its label (`reply`);
-//! - the keys of the seats are a column of numbers, which is made once in a call (`desk`).
+//! - the keys of the seats are a column of numbers, which is made once in a call (`desk`);
+//! - if no cell is held, nothing is counted, and the tally only has to be all zero (`EMPTY_APART`).
 //!
 //! All else is plain's. What did not gain was left out: rules are combined by `&&`, because with `&` a held cell takes 15 ns
-//! instead of 12 (on an AMD EPYC).
+//! instead of 12 (on an AMD EPYC). Held cells are counted as on the plain side, since a copy of the tally that is counted down
+//! is no faster.
 
 mod desk;
 mod dynamic;
@@ -26,6 +28,7 @@ pub struct Tuned;
 
 impl Ways for Tuned {
     type Keys = desk::Column;
+    const EMPTY_APART: bool = true;
 
     #[inline(always)]
     fn read_reply(frame: &[u8]) -> Result<ReplyRecord, Refusal> {

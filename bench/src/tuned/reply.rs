@@ -47,7 +47,7 @@ pub fn held_label(cell: &[u8]) -> Option<Label> {
         return None;
     }
     let key = Key { address: frame[2].into(), requester: frame[6].into(), number: sum(&frame[7..12]) };
-    is_timing(frame).then_some(Label { status: frame[5], key })
+    is_timing(frame).then_some(Label { status: frame[5], letter: frame[29], key })
 }
 
 /// Is all good but the timing? The digits must be.

@@ -1,9 +1,9 @@
 -- The worked calls, each by computation. Assumes nothing.
 use mathlib.Core.Path.{refl}
 use Rattle.digits.specs.Digits.{numberAt, numberFrom}
-use Rattle.digits.specs.Text.{oneOf}
+use Rattle.digits.specs.Text.{oneOf, placeOf}
 use Rattle.frames.specs.Rules.{between, upTo, isAddress, isRaw, isRequester, isOutput}
-use Rattle.frames.specs.Status.{isStatus}
+use Rattle.frames.specs.Status.{isStatus, statusPlace}
 use Rattle.frames.specs.Shape.{allFrom}
 use Rattle.frames.specs.Classes.{digitFrom, firstOff}
 use Rattle.frames.specs.Layout.{fieldsOf}
@@ -17,6 +17,7 @@ use Rattle.desk.specs.Hearing.{heard, ends, inPlace}
 use Rattle.desk.specs.Step.{step}
 use Rattle.desk.specs.Seats.{keyed, seatWith, lowestClear}
 use Rattle.desk.specs.Memory.{capacityOf, recordsOf}
+use Rattle.desk.specs.Tally.{heldOf, entryRight, tallyRight}
 use Rattle.desk.specs.Desk.{isZero, markNames, lastEnds, isDesk}
 use Rattle.desk.specs.Calls.{keyTried, requestTried, openTried, opens, seatTried, labelTried, replyTried, replies, seatsInUse}
 use Rattle.desk.specs.Events.{run, answers}
@@ -25,7 +26,7 @@ use Rattle.desk.specs.Cases.{Worked, MixWorked, AddressMixWorked, Orders
 use Rattle.desk.specs.DeskCases.{DeskWorked}
 
 pub worked : Worked
-unfolding numberAt numberFrom oneOf between upTo isAddress isRaw isRequester isOutput allFrom fieldsOf headTold read timingKind timed Q.isInformation Q.isRequestChannel Q.requestFields isStatus P.isLetter P.isReplyChannel P.leastRun P.fromBib P.replyFields allBelow countBelow first sameKey isKey heard ends inPlace keyed seatWith lowestClear capacityOf isZero markNames lastEnds isDesk keyTried requestTried openTried opens step seatTried labelTried replyTried replies run seatsInUse recordsOf firstOff digitFrom
+unfolding numberAt numberFrom oneOf between upTo isAddress isRaw isRequester isOutput allFrom fieldsOf headTold read timingKind timed Q.isInformation Q.isRequestChannel Q.requestFields isStatus P.isLetter P.isReplyChannel P.leastRun P.fromBib P.replyFields allBelow countBelow first sameKey isKey heard ends inPlace keyed seatWith lowestClear capacityOf isZero markNames lastEnds placeOf P.letterPlace statusPlace heldOf entryRight tallyRight isDesk keyTried requestTried openTried opens step seatTried labelTried replyTried replies run seatsInUse recordsOf firstOff digitFrom
 worked = record {
   no-desk-opens = refl;
   no-desk-replies = refl;
@@ -69,15 +70,15 @@ worked = record {
 }
 
 pub mix-worked : MixWorked
-unfolding numberAt numberFrom oneOf between upTo isAddress isRaw isRequester isOutput allFrom fieldsOf headTold read timingKind timed Q.isInformation Q.isRequestChannel Q.requestFields isStatus P.isLetter P.isReplyChannel P.leastRun P.fromBib P.replyFields allBelow countBelow first sameKey isKey heard ends inPlace keyed seatWith lowestClear capacityOf isZero markNames lastEnds isDesk keyTried requestTried openTried opens step seatTried labelTried replyTried replies run answers repliesTo recordsOf firstOff digitFrom
-mix-worked = record { answers = refl; marks = refl; count = refl; bits = refl; seats = refl; held-by-1 = refl; held-by-A = refl; held-by-z = refl; bound = refl }
+unfolding numberAt numberFrom oneOf between upTo isAddress isRaw isRequester isOutput allFrom fieldsOf headTold read timingKind timed Q.isInformation Q.isRequestChannel Q.requestFields isStatus P.isLetter P.isReplyChannel P.leastRun P.fromBib P.replyFields allBelow countBelow first sameKey isKey heard ends inPlace keyed seatWith lowestClear capacityOf isZero markNames lastEnds placeOf P.letterPlace statusPlace heldOf entryRight tallyRight isDesk keyTried requestTried openTried opens step seatTried labelTried replyTried replies run answers repliesTo recordsOf firstOff digitFrom
+mix-worked = record { answers = refl; marks = refl; count = refl; bits = refl; seats = refl; held-by-1 = refl; held-by-A = refl; held-by-z = refl; tally = refl; bound = refl }
 
 pub address-mix-worked : AddressMixWorked
-unfolding numberAt numberFrom oneOf between upTo isAddress isRaw isRequester isOutput allFrom fieldsOf headTold read timingKind timed Q.isInformation Q.isRequestChannel Q.requestFields isStatus P.isLetter P.isReplyChannel P.leastRun P.fromBib P.replyFields allBelow countBelow first sameKey isKey heard ends inPlace keyed seatWith lowestClear capacityOf isZero markNames lastEnds isDesk keyTried requestTried openTried opens step seatTried labelTried replyTried replies run answers repliesTo recordsOf firstOff digitFrom
+unfolding numberAt numberFrom oneOf between upTo isAddress isRaw isRequester isOutput allFrom fieldsOf headTold read timingKind timed Q.isInformation Q.isRequestChannel Q.requestFields isStatus P.isLetter P.isReplyChannel P.leastRun P.fromBib P.replyFields allBelow countBelow first sameKey isKey heard ends inPlace keyed seatWith lowestClear capacityOf isZero markNames lastEnds placeOf P.letterPlace statusPlace heldOf entryRight tallyRight isDesk keyTried requestTried openTried opens step seatTried labelTried replyTried replies run answers repliesTo recordsOf firstOff digitFrom
 address-mix-worked = record { answers = refl; marks = refl; count = refl; seats = refl; held-at-space = refl; held-at-0 = refl; held-at-9 = refl; bound = refl }
 
 pub orders-worked : OrdersWorked
-unfolding numberAt numberFrom oneOf between upTo isAddress isRaw isRequester isOutput allFrom fieldsOf headTold read timingKind timed Q.isInformation Q.isRequestChannel Q.requestFields isStatus P.isLetter P.isReplyChannel P.leastRun P.fromBib P.replyFields allBelow countBelow first sameKey isKey heard ends inPlace keyed seatWith lowestClear capacityOf isZero markNames lastEnds isDesk keyTried requestTried openTried opens step seatTried labelTried replyTried replies run answers recordsOf firstOff digitFrom
+unfolding numberAt numberFrom oneOf between upTo isAddress isRaw isRequester isOutput allFrom fieldsOf headTold read timingKind timed Q.isInformation Q.isRequestChannel Q.requestFields isStatus P.isLetter P.isReplyChannel P.leastRun P.fromBib P.replyFields allBelow countBelow first sameKey isKey heard ends inPlace keyed seatWith lowestClear capacityOf isZero markNames lastEnds placeOf P.letterPlace statusPlace heldOf entryRight tallyRight isDesk keyTried requestTried openTried opens step seatTried labelTried replyTried replies run answers recordsOf firstOff digitFrom
 orders-worked = record {
   marks-one-way = refl;
   marks-other-way = refl;
@@ -88,7 +89,7 @@ orders-worked = record {
 }
 
 pub desk-worked : DeskWorked
-unfolding numberAt numberFrom oneOf between upTo isAddress isRaw isRequester isOutput allFrom fieldsOf headTold read timingKind timed Q.isInformation Q.isRequestChannel Q.requestFields isStatus P.isLetter P.isReplyChannel P.leastRun P.fromBib P.replyFields allBelow countBelow first sameKey isKey heard ends inPlace keyed seatWith lowestClear capacityOf isZero markNames lastEnds isDesk keyTried requestTried openTried opens step seatTried labelTried replyTried replies recordsOf firstOff digitFrom
+unfolding numberAt numberFrom oneOf between upTo isAddress isRaw isRequester isOutput allFrom fieldsOf headTold read timingKind timed Q.isInformation Q.isRequestChannel Q.requestFields isStatus P.isLetter P.isReplyChannel P.leastRun P.fromBib P.replyFields allBelow countBelow first sameKey isKey heard ends inPlace keyed seatWith lowestClear capacityOf isZero markNames lastEnds placeOf P.letterPlace statusPlace heldOf entryRight tallyRight isDesk keyTried requestTried openTried opens step seatTried labelTried replyTried replies recordsOf firstOff digitFrom
 desk-worked = record {
   a-desk = refl;
   gap = refl;
@@ -130,4 +131,16 @@ desk-worked = record {
   not-ended = refl;
   ended-by-2 = refl;
   ended-early = refl;
+  one-more = refl;
+  one-less = refl;
+  other-status = refl;
+  other-letter = refl;
+  one-beside = refl;
+  no-tally = refl;
+  rows-32 = refl;
+  rows-34 = refl;
+  row-of-two = refl;
+  row-of-four = refl;
+  stale = refl;
+  stale-counted = refl;
 }

@@ -1,20 +1,21 @@
 -- The code of the desk's test computes the clauses, in its own order and in one pass over the rows. Assumes nothing.
 use Prim.Native.Nat.{ℕ, zero, suc, _+_, _*_, _-_, _<_, _≤_}
-use mathlib.Core.Bool.{Bool, true, false, true≢false, cond, not, _&&_}
+use mathlib.Core.Bool.{Bool, true, false, true≢false, false≢true, cond, not, _&&_}
 use mathlib.Core.List.{List, []}
-use mathlib.Core.Path.{_≡_, refl, sym, ap, subst, _∙_}
+use mathlib.Core.Path.{_≡_, refl, sym, ap, ap₂, subst, _∙_}
 use lib.ListN.{length, getD, take, drop, set, replicate, length-replicate, getD-replicate, length-set}
-use lib.Seq.{getD-set-same, getD-set-other}
+use lib.Seq.{getD-set-same, getD-set-other, getD-take, getD-drop}
 use native.Mathlib.Omega.{arith}
-use borrow.Author.Tests.{eq-eqb, ne-eqb}
+use borrow.Author.Tests.{eq-eqb, ne-eqb, ltb-true}
 use lib.Dec.{eqb, ltb}
 use Rattle.digits.specs.Told.{Told, gives, refuses}
-use Rattle.digits.proofs.Tests.{by-test, and-l, and-r}
+use Rattle.digits.proofs.Tests.{by-test, and-true, and-l, and-r}
 use Rattle.frames.specs.declared.reply.StaticReply.{StaticReply}
 use Rattle.frames.specs.declared.reply.ReplyLabel.{ReplyLabel}
 use Rattle.frames.specs.Kind.{read}
 use Rattle.frames.specs.Reply.{reply, isGood, labelled, labelAt}
 use Rattle.desk.specs.declared.state.Seat.{Seat}
+use Rattle.desk.specs.declared.key.Key.{Key}
 use Rattle.desk.specs.declared.step.Progress.{Progress}
 use Rattle.desk.specs.declared.step.Stepped.{Stepped}
 use Rattle.desk.specs.declared.step.Stepped.the-variants.{Ended, OutOfPlace, Full, Taken}
@@ -24,16 +25,19 @@ use Rattle.desk.specs.Below.{allBelow}
 use Rattle.desk.specs.Key.{keyIn, seatKey, sameKey, isKey}
 use Rattle.desk.specs.Hearing.{heard, hasKey}
 use Rattle.desk.specs.Step.{advanced, step, none, replay, goes}
-use Rattle.desk.specs.Seats.{seatAt, usedBit}
+use Rattle.desk.specs.Seats.{seatAt, usedBit, keyed}
+use Rattle.desk.specs.Tally.{Table, tallyRight}
 use Rattle.desk.specs.Memory.{Memory, capacityOf, cellAt, markAt, recordsOf}
-use Rattle.desk.specs.Desk.{isZero, keyLegal, unusedZero, markNames, markGood, allSeats, noBitAbove, keysLegal, noKeyShared, unusedAllZero, countFits, isDesk}
+use Rattle.desk.specs.Desk.{isZero, keyLegal, unusedZero, markNames, markGood, allSeats, noBitAbove, keysLegal, noKeyShared, unusedAllZero, countFits, tallyIsCount, isDesk}
 use Rattle.desk.specs.Replay.{replayed, takenAt, rowGood, agrees, replays}
 use Rattle.desk.specs.inside.Columns.{Sized, rowOf, sameAt}
 use Rattle.desk.specs.inside.Clauses.{seatGood, seatGoodAt, hasNumber, turnOf, rowTaken, Tracks}
+use Rattle.desk.specs.inside.Counted.{isClear, rowCounted, rowPasses, Whole, Leaves}
 use Rattle.desk.specs.inside.Judging.{stepTold, isTaken}
-use Rattle.desk.proofs.Below.{never, past, out, and-false-r, eq-case, all-at, all-and, all-ext}
-use Rattle.desk.proofs.HearingLaws.{good-heard}
-use Rattle.desk.proofs.ColumnLaws.{seat-at, same-number, unused-held, unused-ended, heard-keyed}
+use Rattle.desk.proofs.Below.{never, false-or, past, out, and-false-r, eq-case, all-at, all-of, all-and, all-ext}
+use Rattle.desk.proofs.HearingLaws.{heard-reply, good-heard}
+use Rattle.desk.proofs.TallyLaws.{Listed, reply-listed, clear-is-right, right-counted}
+use Rattle.desk.proofs.ColumnLaws.{seat-at, key-is, unused-held, unused-ended, heard-keyed}
 use Rattle.desk.proofs.ReplayLaws.{replayed-next, desk-run}
 
 -- ---- the clauses in the definition's order, and in the order of the code
@@ -46,6 +50,10 @@ turned true true true false true n r = refl
 turned true true true false false n r = refl
 turned true true true true true n r = refl
 turned true true true true false n r = refl
+
+grouped : (x r t : Bool) → x && r && t ≡ x && (r && t)
+grouped true r t = refl
+grouped false r t = refl
 
 module _ (row : List Seat) (bits : ℕ) where
   seat-by : (i : ℕ) (b : Bool) → cond b (isKey (seatKey (seatAt row i))) (isZero (seatAt row i)) ≡ cond b (isKey (seatKey (seatAt row i))) true && cond b true (isZero (seatAt row i))
@@ -65,11 +73,12 @@ module _ (row : List Seat) (bits : ℕ) where
 
 -- a row that is an array has its length; so the code computes the other clauses
 pub desk-by : (m : Memory) {r : Bool} → length (m .row) ≡ seatCount
-    → r ≡ noBitAbove m && (allBelow seatCount (seatGoodAt (m .row) (m .bits)) && (noKeyShared m && (countFits m && replays (m .row) (m .bits) (m .count) (m .cells) (m .marks)))) → r ≡ isDesk m
+    → r ≡ noBitAbove m && (allBelow seatCount (seatGoodAt (m .row) (m .bits)) && (noKeyShared m && (countFits m && (replays (m .row) (m .bits) (m .count) (m .cells) (m .marks) && tallyIsCount m)))) → r ≡ isDesk m
 desk-by m n q =
     past (eq-eqb (length (m .row)) seatCount n)
-    (q ∙ ap (λ (x : Bool). noBitAbove m && (x && (noKeyShared m && (countFits m && replays (m .row) (m .bits) (m .count) (m .cells) (m .marks))))) (sym (seats-are (m .row) (m .bits))))
-    ∙ sym (turned (allSeats m) (noBitAbove m) (keysLegal m) (noKeyShared m) (unusedAllZero m) (countFits m) (replays (m .row) (m .bits) (m .count) (m .cells) (m .marks)))
+    (q ∙ ap (λ (x : Bool). noBitAbove m && (x && (noKeyShared m && (countFits m && (replays (m .row) (m .bits) (m .count) (m .cells) (m .marks) && tallyIsCount m))))) (sym (seats-are (m .row) (m .bits))))
+    ∙ sym (turned (allSeats m) (noBitAbove m) (keysLegal m) (noKeyShared m) (unusedAllZero m) (countFits m) (replays (m .row) (m .bits) (m .count) (m .cells) (m .marks) && tallyIsCount m))
+    ∙ sym (grouped (allSeats m && noBitAbove m && keysLegal m && noKeyShared m && unusedAllZero m && countFits m) (replays (m .row) (m .bits) (m .count) (m .cells) (m .marks)) (tallyIsCount m))
     ∙ sym (desk-run m)
 
 -- a row with a seat that is not good is no desk
@@ -119,8 +128,12 @@ part-cell cells i =
     let e : i * cellSize + cellSize - i * cellSize ≡ cellSize = omega arith in
     ap (λ (n : ℕ). take n (drop (i * cellSize) cells)) e
 
+-- byte k of cell i, by the bytes of all cells
+pub cell-byte : (cells : List ℕ) (i k : ℕ) → k < cellSize → getD cells (i * cellSize + k) 0 ≡ getD (cellAt cells i) k 0
+cell-byte cells i k l = sym (getD-take cellSize (drop (i * cellSize) cells) k 0 l ∙ getD-drop (i * cellSize) cells k 0)
+
 -- before the first row no seat holds a record
-tracks-none : (cells marks : List ℕ) → Tracks cells marks 0 (replicate seatCount 0) (replicate seatCount 0)
+pub tracks-none : (cells marks : List ℕ) → Tracks cells marks 0 (replicate seatCount 0) (replicate seatCount 0)
 unfolding replay recordsOf
 tracks-none cells marks =
     record {
@@ -162,6 +175,25 @@ module _ (keys cells marks : List ℕ) (i : ℕ) (held ended : List ℕ) (k : Tr
         each = next;
       }
 
+-- letter and status of a row that is taken are two of the lists
+number-heard : (key : ℕ) (t : Told ReplyLabel) → hasNumber key t ≡ true → (l : ReplyLabel) × (t ≡ gives l)
+number-heard key (gives l) e = (l, refl)
+number-heard key (refuses why) e = absurd (false≢true e)
+
+pub key-heard : (k : Key) (t : Told ReplyLabel) → hasKey k t ≡ true → (l : ReplyLabel) × (t ≡ gives l)
+key-heard k (gives l) e = (l, refl)
+key-heard k (refuses why) e = absurd (false≢true e)
+
+cell-listed : (key : ℕ) (c : List ℕ) → hasNumber key (heard c) ≡ true → Listed c
+cell-listed key c e =
+    let h = number-heard key (heard c) e in
+    let r = heard-reply c (h .0) (h .1) in
+    reply-listed c (r .0) (r .1 .0)
+
+pub row-listed : (keys cells marks : List ℕ) (i : ℕ) → rowTaken keys cells marks i ≡ true → Listed (cellAt cells i)
+row-listed keys cells marks i e =
+    cell-listed (getD keys (markAt marks i) 0) (cellAt cells i) (and-l _ (takenAt cells marks i) (and-r (ltb (markAt marks i) seatCount) _ e))
+
 -- ---- over a row of good seats the columns say what the row says
 
 no-records : (cells marks : List ℕ) (s n : ℕ) → ((j : ℕ) → j < n → eqb (markAt marks j) s ≡ false) → recordsOf cells marks s n ≡ []
@@ -170,17 +202,27 @@ no-records cells marks s zero h = refl
 no-records cells marks s (suc n) h = rw (h n (omega arith), no-records cells marks s n (λ j l. h j (omega arith)))
 
 module _ (keys held ended : List ℕ) (f : Sized keys held ended) (bits : ℕ) (good : allBelow seatCount (seatGoodAt (rowOf keys held ended) bits) ≡ true) (cells marks : List ℕ) where
-  number-has : (s : ℕ) (c : List ℕ) → hasNumber (getD keys s 0) (heard c) ≡ hasKey (seatKey (seatAt (rowOf keys held ended) s)) (heard c)
-  number-has s c = go (heard c) refl
+  -- of a reply: its key is at seat s, and the seat is in use
+  number-has : (s : ℕ) (c : List ℕ) → s < seatCount → hasNumber (getD keys s 0) (heard c) ≡ usedBit bits s && hasKey (seatKey (seatAt (rowOf keys held ended) s)) (heard c)
+  unfolding keyed
+  number-has s c h = go (heard c) refl
     where
-      go : (t : Told ReplyLabel) → heard c ≡ t → hasNumber (getD keys s 0) t ≡ hasKey (seatKey (seatAt (rowOf keys held ended) s)) t
-      go (gives l) e = same-number (getD keys s 0) (keyIn l) (heard-keyed c l e .short) ∙ ap (λ (x : Seat). sameKey (seatKey x) (keyIn l)) (sym (seat-at keys held ended f s))
-      go (refuses why) e = refl
+      go : (t : Told ReplyLabel) → heard c ≡ t → hasNumber (getD keys s 0) t ≡ usedBit bits s && hasKey (seatKey (seatAt (rowOf keys held ended) s)) t
+      go (gives l) e = key-is keys held ended f bits good (keyIn l) (heard-keyed c l e) s h
+      go (refuses why) e = sym (and-false-r (usedBit bits s) refl)
 
-  pub rows-are : (n : ℕ) → allBelow n (rowTaken keys bits cells marks) ≡ allBelow n (rowGood (rowOf keys held ended) bits cells marks)
-  rows-are n =
-      all-ext n (rowTaken keys bits cells marks) (rowGood (rowOf keys held ended) bits cells marks)
-      (λ i l. ap (λ (x : Bool). markGood bits marks i && (x && takenAt cells marks i)) (number-has (markAt marks i) (cellAt cells i)))
+  row-is : (i : ℕ) → rowTaken keys cells marks i ≡ rowGood (rowOf keys held ended) bits cells marks i
+  unfolding markNames
+  row-is i =
+      by-test (ltb (markAt marks i) seatCount)
+      (λ y. rw (y, number-has (markAt marks i) (cellAt cells i) (ltb-true _ _ y)) (grouped (usedBit bits (markAt marks i)) _ (takenAt cells marks i)))
+      (λ y. rw y)
+
+  rows-are : (n : ℕ) → allBelow n (rowTaken keys cells marks) ≡ allBelow n (rowGood (rowOf keys held ended) bits cells marks)
+  rows-are n = all-ext n (rowTaken keys cells marks) (rowGood (rowOf keys held ended) bits cells marks) (λ i l. row-is i)
+
+  pub passes-good : (n : ℕ) (t : Table) → allBelow n (rowPasses keys t cells marks) ≡ true → allBelow n (rowGood (rowOf keys held ended) bits cells marks) ≡ true
+  passes-good n t h = sym (rows-are n) ∙ and-l _ (allBelow n (rowCounted t cells)) (sym (all-and n (rowTaken keys cells marks) (rowCounted t cells)) ∙ h)
 
   module _ (n : ℕ) (all : allBelow n (rowGood (rowOf keys held ended) bits cells marks) ≡ true) (reached over : List ℕ) (k : Tracks cells marks n reached over) where
     -- no mark names a seat that is not in use
@@ -203,3 +245,19 @@ module _ (keys held ended : List ℕ) (f : Sized keys held ended) (bits : ℕ) (
 
     pub columns-agree : allBelow seatCount (sameAt held reached) && allBelow seatCount (sameAt ended over) ≡ allBelow seatCount (λ s. agrees (replayed cells marks s n) (seatAt (rowOf keys held ended) s) bits s)
     columns-agree = sym (all-and seatCount (sameAt held reached) (sameAt ended over)) ∙ all-ext seatCount _ _ agree-at
+
+    -- the columns are what the rows bring the seats to, and nothing is left of the tally: then clauses 7 to 12 hold
+    pub rows-pass : (t left : Table) → Whole t → Leaves t cells n left → {a b z : Bool} → a ≡ allBelow seatCount (sameAt held reached) → b ≡ allBelow seatCount (sameAt ended over) → z ≡ isClear left
+        → a && b && z ≡ replays (rowOf keys held ended) bits n cells marks && tallyRight cells n t
+    unfolding replays
+    rows-pass t left w v {a} {b} {z} p q r = rw all (ap₂ (λ (x y : Bool). x && y) (ap₂ (λ (x y : Bool). x && y) p q ∙ columns-agree) (r ∙ clear-is-right t cells n left w v))
+
+  -- a row that fails: then clauses 7 to 12 do not all hold
+  pub rows-fail : (n : ℕ) (t : Table) → allBelow n (rowPasses keys t cells marks) ≡ false → replays (rowOf keys held ended) bits n cells marks && tallyRight cells n t ≡ false
+  unfolding replays
+  rows-fail n t bad =
+      false-or (replays (rowOf keys held ended) bits n cells marks && tallyRight cells n t) (λ y.
+      let good-rows = and-l (allBelow n (rowGood (rowOf keys held ended) bits cells marks)) _ (and-l (replays (rowOf keys held ended) bits n cells marks) (tallyRight cells n t) y) in
+      let all = all-at n (rowTaken keys cells marks) (rows-are n ∙ good-rows) in
+      let right = and-r (replays (rowOf keys held ended) bits n cells marks) (tallyRight cells n t) y in
+      never (allBelow n (rowPasses keys t cells marks)) (all-of n (rowPasses keys t cells marks) (λ i l. and-true (all i l) (right-counted t cells n i right l (row-listed keys cells marks i (all i l))))) bad)

@@ -26,6 +26,8 @@ use Rattle.digits.proofs.Tests.{and-true}
 use Rattle.desk.proofs.Below.{never, below-case, eq-case}
 use Rattle.desk.proofs.Bits.{set-own, set-other, set-below, none-used}
 use Rattle.desk.proofs.KeyLaws.{same-key, own-key}
+use Rattle.desk.proofs.HearingLaws.{heard-reply}
+use Rattle.desk.proofs.TallyLaws.{Right, reply-listed, right-empty, right-same, right-more}
 use Rattle.desk.proofs.ReplayLaws.{replay-more, Facts, desk-facts, facts-desk, mark-used}
 use Rattle.desk.proofs.WrittenLaws.{length-with, cell-before, cell-new}
 use Rattle.desk.proofs.StepLaws.{keyed-used, Took, took-used, took-key, Room, took-room, Opens, by-reply, by-opening}
@@ -111,6 +113,12 @@ module _ (m : Memory) (f : List ℕ) (t : Taking) (k : Took m f t) where
       (λ e. rw (e, records-own, replay-more none (heldBy m (t .seat)) f, k .hears, k .status, taken-own) (ap (λ (p : Progress). advanced p (t .status)) (k .facts .agree (t .seat) (k .below) (took-used m f t k))))
       (λ n. rw (records-other i n, taken-other i n) (k .facts .agree i l u))
 
+  tally-facts : Right (taken m f t .cells) (m .count + 1) (taken m f t .tally)
+  tally-facts =
+      let h = heard-reply f (k .label) (k .hears) in
+      let same = right-same (m .cells) (taken m f t .cells) (m .count) (m .tally) (k .facts .tally) old-cell in
+      rw (add-one (m .count)) (right-more (taken m f t .cells) (m .count) (m .tally) same f new-cell (reply-listed f (h .0) (h .1 .0)))
+
   pub taken-desk : Facts (taken m f t)
   taken-desk = record {
     size = length-set (m .row) (t .seat) (grown (seatAt (m .row) (t .seat)) (t .status)) ∙ k .facts .size;
@@ -121,6 +129,7 @@ module _ (m : Memory) (f : List ℕ) (t : Taking) (k : Took m f t) where
     fits = rw taken-capacity (let r = k .room in omega arith);
     rows = row-facts;
     agree = agree-facts;
+    tally = tally-facts;
   }
 
 -- ---- a seat that no mark names
@@ -208,6 +217,7 @@ module _ (m : Memory) (f : List ℕ) (o : Opening) (k : Opens m f o) where
     fits = k .facts .fits;
     rows = row-stays;
     agree = still-agree;
+    tally = k .facts .tally;
   }
 
 -- ---- an emptied desk
@@ -226,6 +236,7 @@ emptied-desk m = record {
   fits = omega arith;
   rows = λ i l. absurd (omega arith);
   agree = λ i l u. never (usedBit 0 i) u (none-used i);
+  tally = right-empty (m .cells);
 }
 
 -- ---- a desk stays a desk

@@ -2,7 +2,7 @@
 use Prim.Native.Nat.{ℕ}
 use mathlib.Core.List.{List}
 use mathlib.Core.Bool.{true, false, true≢false, false≢true}
-use mathlib.Core.Path.{_≡_, refl, sym, ap, subst}
+use mathlib.Core.Path.{_≡_, refl, sym, ap, subst, _∙_}
 use lib.ListN.{length}
 use lib.Dec.{eqb}
 use borrow.Author.Tests.{eqb-true}
@@ -13,10 +13,11 @@ use Rattle.frames.specs.declared.reply.ReplyLabel.{ReplyLabel}
 use Rattle.frames.specs.Kind.{Kind, leadIs, headTold, read}
 use Rattle.frames.specs.Reply.{reply, labelOf, labelled, isGood, labelAt}
 use Rattle.frames.proofs.HeadLaws.{tried-gives, then-gives}
-use Rattle.frames.proofs.LabelLaws.{Labelled, label-legal, label-is-read}
+use Rattle.frames.proofs.LabelLaws.{lettered, Labelled, label-legal, label-is-read}
 use Rattle.desk.specs.declared.key.Key.{Key}
 use Rattle.desk.specs.Limits.{cellSize}
 use Rattle.desk.specs.Key.{keyIn, sameKey}
+use Rattle.desk.specs.Tally.{statusAt}
 use Rattle.desk.specs.Hearing.{heard, hasKey, statusIn}
 use Rattle.desk.specs.Rule.{Frame, isTo, letterIn}
 use Rattle.desk.specs.Events.{toReply, addressed}
@@ -38,6 +39,15 @@ labelled-gives (refuses why) l e = absurd (not-refused l why (sym e))
 pub heard-long : (f : List ℕ) (l : ReplyLabel) → heard f ≡ gives l → length f ≡ cellSize
 unfolding heard
 heard-long f l e = let r = labelled-gives (read reply f) l e in read-long reply f (r .0) (r .1)
+
+-- a frame that is heard is a reply, and its status is its byte at 5
+pub heard-reply : (f : List ℕ) (l : ReplyLabel) → heard f ≡ gives l → (r : StaticReply) × ((read reply f ≡ gives r) × (l .status ≡ statusAt f))
+unfolding heard
+heard-reply f l e = go (read reply f) refl e
+  where
+    go : (t : Told StaticReply) → read reply f ≡ t → labelled t ≡ gives l → (r : StaticReply) × ((read reply f ≡ gives r) × (l .status ≡ statusAt f))
+    go (gives r) q d = let s : labelOf r ≡ l = cc in (r, (q, sym (ap (λ (x : ReplyLabel). x .status) s) ∙ lettered f r q .status-is))
+    go (refuses why) q d = absurd (not-refused l why (sym d))
 
 -- ---- the quick check: a good reply has the label of its bytes, and no other frame has one
 

@@ -42,12 +42,12 @@ desk-good m d =
     let f = desk-facts m d in
     all-of seatCount (seatGoodAt (m .row) (m .bits)) (λ i l. by-test (usedBit (m .bits) i) (λ u. rw u (f .keys i l u)) (λ u. rw u (f .zeros i l u)))
 
-module _ (d : Desk) (keys held ended cells marks : List ℕ) (z : Sized keys held ended) (is : isDesk (memory d (rowOf keys held ended) cells marks) ≡ true) where
+module _ (d : Desk) (keys held ended cells marks : List ℕ) (tally : List (List ℕ)) (z : Sized keys held ended) (is : isDesk (memory d (rowOf keys held ended) cells marks tally) ≡ true) where
   abbrev row : List Seat
   row = rowOf keys held ended
 
   abbrev m : Memory
-  m = memory d row cells marks
+  m = memory d row cells marks tally
 
   good : allBelow seatCount (seatGoodAt row (d .bits)) ≡ true
   good = desk-good m is
@@ -93,17 +93,17 @@ module _ (d : Desk) (keys held ended cells marks : List ℕ) (z : Sized keys hel
 
 -- ---- the same for a row that the columns show
 
-pub open-row : (d : Desk) (row : List Seat) (keys held ended cells marks : List ℕ) → Sized keys held ended → rowOf keys held ended ≡ row → isDesk (memory d row cells marks) ≡ true
-    → (f : List ℕ) → whatIsGiven (read request f) (columnAsked keys (d .bits)) ≡ openTried (memory d row cells marks) f
-open-row d row keys held ended cells marks z e is f =
-    open-by-columns d keys held ended cells marks z (ap (λ (r : List Seat). isDesk (memory d r cells marks)) e ∙ is) f
-    ∙ ap (λ (r : List Seat). openTried (memory d r cells marks) f) e
+pub open-row : (d : Desk) (row : List Seat) (keys held ended cells marks : List ℕ) (tally : List (List ℕ)) → Sized keys held ended → rowOf keys held ended ≡ row → isDesk (memory d row cells marks tally) ≡ true
+    → (f : List ℕ) → whatIsGiven (read request f) (columnAsked keys (d .bits)) ≡ openTried (memory d row cells marks tally) f
+open-row d row keys held ended cells marks tally z e is f =
+    open-by-columns d keys held ended cells marks tally z (ap (λ (r : List Seat). isDesk (memory d r cells marks tally)) e ∙ is) f
+    ∙ ap (λ (r : List Seat). openTried (memory d r cells marks tally) f) e
 
-pub reply-row : (d : Desk) (row : List Seat) (keys held ended cells marks : List ℕ) → Sized keys held ended → rowOf keys held ended ≡ row → isDesk (memory d row cells marks) ≡ true
-    → (f : List ℕ) → whatIsGiven (heard f) (columnTried keys held ended (ltb (d .count) (capacity (memory d row cells marks)))) ≡ replyTried (memory d row cells marks) f
-reply-row d row keys held ended cells marks z e is f =
-    reply-by-columns d keys held ended cells marks z (ap (λ (r : List Seat). isDesk (memory d r cells marks)) e ∙ is) f
-    ∙ ap (λ (r : List Seat). replyTried (memory d r cells marks) f) e
+pub reply-row : (d : Desk) (row : List Seat) (keys held ended cells marks : List ℕ) (tally : List (List ℕ)) → Sized keys held ended → rowOf keys held ended ≡ row → isDesk (memory d row cells marks tally) ≡ true
+    → (f : List ℕ) → whatIsGiven (heard f) (columnTried keys held ended (ltb (d .count) (capacity (memory d row cells marks tally)))) ≡ replyTried (memory d row cells marks tally) f
+reply-row d row keys held ended cells marks tally z e is f =
+    reply-by-columns d keys held ended cells marks tally z (ap (λ (r : List Seat). isDesk (memory d r cells marks tally)) e ∙ is) f
+    ∙ ap (λ (r : List Seat). replyTried (memory d r cells marks tally) f) e
 
 -- ---- a frame whose pointer and length were taken apart is the same frame
 

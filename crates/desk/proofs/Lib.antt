@@ -1,4 +1,5 @@
 pub mod Below
+pub mod TallyLaws
 pub mod Bits
 pub mod KeyLaws
 pub mod HearingLaws
@@ -17,6 +18,7 @@ pub mod RuleLaws
 pub mod ViewLaws
 pub mod OpeningLaws
 pub mod MixLaws
+pub mod LookLaws
 pub mod SameLaws
 pub mod SwapLaws
 pub mod AwaitedLaws

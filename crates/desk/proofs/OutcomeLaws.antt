@@ -90,7 +90,7 @@ module _ (m : Memory) (f : List ℕ) where
 
 -- m with one seat set
 abbrev put : Memory → ℕ → Seat → Memory
-put m i s = record { row = set (m .row) i s; bits = m .bits; count = m .count; cells = m .cells; marks = m .marks }
+put m i s = record { row = set (m .row) i s; bits = m .bits; count = m .count; cells = m .cells; marks = m .marks; tally = m .tally }
 
 module _ (m after : Memory) (o : Outcome) (full : length (m .row) ≡ seatCount) where
   -- a step that changed a seat
@@ -105,7 +105,7 @@ module _ (m : Memory) (o : Outcome) (why : Refusal) (full : length (m .row) ≡ 
   none-changed =
       let past : length (m .row) ≤ seatCount = omega (arith, full) in (
         record { place = ap placeIn (d .answer); is = sym (List·getD-eq-default (m .row) zeroSeat past) ∙ ap (λ (x : List Seat). seatAt x seatCount) (λ j. d .memory j .row) },
-        record { answer = d .answer; memory = (λ j. record { row = set-out (m .row) seatCount zeroSeat past j; bits = m .bits; count = m .count; cells = m .cells; marks = m .marks }) ∙ d .memory },
+        record { answer = d .answer; memory = (λ j. record { row = set-out (m .row) seatCount zeroSeat past j; bits = m .bits; count = m .count; cells = m .cells; marks = m .marks; tally = m .tally }) ∙ d .memory },
       )
 
 -- ---- a step that is refused
@@ -115,6 +115,6 @@ module _ (m : Memory) (f : List ℕ) (full : length (m .row) ≡ seatCount) (d :
   step-not-opened r why is e =
       subst (λ (x : OpenStep). OpenStepDid m f x) (sym (is ∙ ap (λ (y : Desk). notOpened y why) q)) (none-changed m (opens m f) (openRefused why) full (not-opened m f (openRefused why) e))
 
-  pub step-not-taken : (r : ReplyStep) (why : ReplyRefusal) → r ≡ notTaken d why → refuses (replyRefused why) ≡ replyTried m f → ReplyStepDid m f r (m .cells) (m .marks)
+  pub step-not-taken : (r : ReplyStep) (why : ReplyRefusal) → r ≡ notTaken d why → refuses (replyRefused why) ≡ replyTried m f → ReplyStepDid m f r (m .cells) (m .marks) (m .tally)
   step-not-taken r why is e =
-      subst (λ (x : ReplyStep). ReplyStepDid m f x (m .cells) (m .marks)) (sym (is ∙ ap (λ (y : Desk). notTaken y why) q)) (none-changed m (replies m f) (replyRefused why) full (not-taken m f (replyRefused why) e))
+      subst (λ (x : ReplyStep). ReplyStepDid m f x (m .cells) (m .marks) (m .tally)) (sym (is ∙ ap (λ (y : Desk). notTaken y why) q)) (none-changed m (replies m f) (replyRefused why) full (not-taken m f (replyRefused why) e))

@@ -19,9 +19,10 @@ use Rattle.desk.specs.Hearing.{heard, inPlace, statusIn, endedIn}
 use Rattle.desk.specs.Step.{progressOf, advanced, step, none, replay, goes}
 use Rattle.desk.specs.Seats.{seatAt, usedBit, keyed, keyedAt}
 use Rattle.desk.specs.Memory.{Memory, capacity, cellAt, markAt, recordsOf}
-use Rattle.desk.specs.Desk.{isZero, keyLegal, unusedZero, apartAt, apartBelow, markNames, markGood, cellKeyed, named, lastEnds, heldRight, endedRight, placed, allSeats, noBitAbove, keysLegal, noKeyShared, unusedAllZero, countFits, marksName, cellsAreReplies, heldIsNamed, endsLast, endedIsLast, isDesk}
+use Rattle.desk.specs.Desk.{isZero, keyLegal, unusedZero, apartAt, apartBelow, markNames, markGood, cellKeyed, named, lastEnds, heldRight, endedRight, placed, allSeats, noBitAbove, keysLegal, noKeyShared, unusedAllZero, countFits, marksName, cellsAreReplies, heldIsNamed, endsLast, endedIsLast, tallyIsCount, isDesk}
 use Rattle.desk.specs.Replay.{replayed, takenAt, rowGood, agrees, replays, DeskIsReplay}
 use Rattle.digits.proofs.Tests.{by-test, by-less, and-true, and-l, and-r}
+use Rattle.desk.proofs.TallyLaws.{Right, right-of, is-right}
 use Rattle.desk.proofs.Below.{never, false-or, count-most, all-at, all-of, all-and, all-ext}
 use Rattle.desk.proofs.KeyLaws.{same-key, own-key}
 
@@ -147,9 +148,9 @@ gathered true true true p e = refl
 gathered true true false true e = refl
 gathered true true false false e = refl
 
-parted : (x m c h p e : Bool) → x && m && c && h && p && e ≡ x && (m && c && h && p && e)
-parted true m c h p e = refl
-parted false m c h p e = refl
+parted : (x m c h p e t : Bool) → x && m && c && h && p && e && t ≡ x && (m && c && h && p && e) && t
+parted true m c h p e t = refl
+parted false m c h p e t = refl
 
 module _ (row : List Seat) (bits count : ℕ) (cells marks : List ℕ) where
   agree-by : (a c : Bool) (b : Bool) → cond b a true && cond b c true ≡ cond b (a && c) true
@@ -177,11 +178,11 @@ pub desk-is-replay : DeskIsReplay
 desk-is-replay m = gathered (marksName m) (cellsAreReplies m) (heldIsNamed m) (endsLast m) (endedIsLast m) ∙ rows-are (m .row) (m .bits) (m .count) (m .cells) (m .marks)
 
 -- the first six clauses, and the replay
-pub desk-run : (m : Memory) → isDesk m ≡ allSeats m && noBitAbove m && keysLegal m && noKeyShared m && unusedAllZero m && countFits m && replays (m .row) (m .bits) (m .count) (m .cells) (m .marks)
+pub desk-run : (m : Memory) → isDesk m ≡ allSeats m && noBitAbove m && keysLegal m && noKeyShared m && unusedAllZero m && countFits m && replays (m .row) (m .bits) (m .count) (m .cells) (m .marks) && tallyIsCount m
 unfolding isDesk
 desk-run m =
     let six = allSeats m && noBitAbove m && keysLegal m && noKeyShared m && unusedAllZero m && countFits m in
-    parted six (marksName m) (cellsAreReplies m) (heldIsNamed m) (endsLast m) (endedIsLast m) ∙ ap (λ (x : Bool). six && x) (desk-is-replay m)
+    parted six (marksName m) (cellsAreReplies m) (heldIsNamed m) (endsLast m) (endedIsLast m) (tallyIsCount m) ∙ ap (λ (x : Bool). six && x && tallyIsCount m) (desk-is-replay m)
 
 -- ---- the facts
 
@@ -194,6 +195,7 @@ pub record Facts (m : Memory) : Type 0 where
   pub fits : m .count ≤ capacity m
   pub rows : (i : ℕ) → i < m .count → rowGood (m .row) (m .bits) (m .cells) (m .marks) i ≡ true
   pub agree : (s : ℕ) → s < seatCount → usedBit (m .bits) s ≡ true → progressOf (seatAt (m .row) s) ≡ replayed (m .cells) (m .marks) s (m .count)
+  pub tally : Right (m .cells) (m .count) (m .tally)
 
 -- a clause about used seats only
 when-used : {b x : Bool} → b ≡ true → cond b x true ≡ true → x ≡ true
@@ -254,7 +256,9 @@ module _ (m : Memory) where
       let c4 = c3 && noKeyShared m in
       let c5 = c4 && unusedAllZero m in
       let c6 = c5 && countFits m in
-      let h7 = sym (desk-run m) ∙ h in
+      let c7 = c6 && replays (m .row) (m .bits) (m .count) (m .cells) (m .marks) in
+      let h8 = sym (desk-run m) ∙ h in
+      let h7 = and-l c7 (tallyIsCount m) h8 in
       let h6 = and-l c6 _ h7 in
       let h5 = and-l c5 (countFits m) h6 in
       let h4 = and-l c4 (unusedAllZero m) h5 in
@@ -271,20 +275,22 @@ module _ (m : Memory) where
         fits = leb-true _ _ (and-r c5 (countFits m) h6);
         rows = all-at (m .count) _ (and-l good _ rows);
         agree = λ s l u. agreed _ (seatAt (m .row) s) (m .bits) s u (all-at seatCount _ (and-r good _ rows) s l);
+        tally = right-of (m .cells) (m .count) (m .tally) (and-r c7 (tallyIsCount m) h8);
       }
 
   pub facts-desk : Facts m → isDesk m ≡ true
   unfolding replays
   facts-desk f =
       desk-run m
-      ∙ and-true (and-true (and-true (and-true (and-true (and-true
+      ∙ and-true (and-true (and-true (and-true (and-true (and-true (and-true
       (eq-eqb (length (m .row)) seatCount (f .size))
       (lt-ltb (m .bits) (2 ^ seatCount) (f .bits)))
       (all-of seatCount (keyLegal (m .row) (m .bits)) (λ i l. used-only (usedBit (m .bits) i) _ (f .keys i l))))
       (all-of seatCount (apartBelow (m .row) (m .bits)) (λ i l. all-of i (apartAt (m .row) (m .bits) i) (apart-of (m .row) (m .bits) (f .one) i l))))
       (all-of seatCount (unusedZero (m .row) (m .bits)) (λ i l. unused-only (usedBit (m .bits) i) _ (f .zeros i l))))
       (le-leb (m .count) (capacity m) (f .fits)))
-      (and-true (all-of (m .count) _ (f .rows)) (all-of seatCount _ (λ s l. agreeing _ (seatAt (m .row) s) (m .bits) s (f .agree s l))))
+      (and-true (all-of (m .count) _ (f .rows)) (all-of seatCount _ (λ s l. agreeing _ (seatAt (m .row) s) (m .bits) s (f .agree s l)))))
+      (is-right (m .cells) (m .count) (m .tally) (f .tally))
 
 -- each mark below the count names a used seat, and each cell is a reply with its key
 pub mark-seat : (bits m : ℕ) → markNames bits m ≡ true → m < seatCount

@@ -3,7 +3,8 @@ use Prim.Native.Nat.{ℕ, _<_}
 use mathlib.Core.Bool.{_&&_}
 use mathlib.Core.Path.{_≡_, refl, sym, ap, ap₂, _∙_}
 use mathlib.Core.List.{List, [], _∷_}
-use lib.ListN.{length}
+use lib.ListN.{length, getD}
+use lib.Seq.{ext-getD}
 use lib.Dec.{ltb}
 use borrow.Author.Tests.{ltb-true}
 use Rattle.digits.specs.declared.refusal.Refusal.{Refusal}
@@ -21,6 +22,10 @@ use Rattle.desk.specs.Limits.{seatCount}
 use Rattle.desk.specs.Key.{requestKey, keyIn, sameKey}
 use Rattle.desk.specs.Hearing.{heard}
 use Rattle.desk.specs.Rule.{Frame}
+use Rattle.frames.specs.Reply.{letters}
+use Rattle.frames.specs.Status.{statuses}
+use Rattle.desk.specs.Looks.{among}
+use Rattle.desk.specs.Tally.{letterCount, statusCount, entryAt, isOf}
 use Rattle.desk.specs.Memory.{Memory, capacity}
 use Rattle.desk.specs.Calls.{Outcome, outcome, whatIsGiven, keyTried, requestTried, openTried, opens, opened, replyTried, replies, taken}
 use Rattle.desk.specs.Events.{Event, toOpen, toReply, happens, run, answers}
@@ -28,7 +33,7 @@ use Rattle.desk.specs.Views.{View, viewAt, newView, cellFree, Same, View
 use Rattle.desk.proofs.Below.{eq-case}
 use Rattle.desk.proofs.ReplayLaws.{Facts, desk-facts, facts-desk}
 use Rattle.desk.proofs.Bits.{same-bits}
-use Rattle.desk.proofs.SumLaws.{sum-ext, all-records}
+use Rattle.desk.proofs.SumLaws.{held-spread, sum-ext, all-records}
 use Rattle.desk.proofs.StepLaws.{took, opens-taken}
 use Rattle.desk.proofs.DeskLaws.{taken-capacity, reply-facts, opening-facts}
 use Rattle.desk.proofs.ViewLaws.{seatOf, seat-same, Moves, withRecord, taken-moves, opened-moves, tryOf, damaged-tried, stray-tried, heard-tried}
@@ -106,12 +111,27 @@ module _ (m x : Memory) (f : Frame) (d : Facts m) (y : Facts x) where
   open-same (gives r) e b h = rw (facts-desk m d, facts-desk x y, e, h (requestKey r), b)
   open-same (refuses why) e b h = rw (facts-desk m d, facts-desk x y, e)
 
--- ---- the views tell the bits and the count
+-- ---- the views tell the bits, the count and the tally
 
-tells : (m x : Memory) → Facts m → Facts x → Same m x → (x .bits ≡ m .bits) × (x .count ≡ m .count)
+-- each number of the tally is a sum over the seats
+same-tally : (m x : Memory) → Facts m → Facts x → Same m x → x .tally ≡ m .tally
+same-tally m x d y h =
+    let t = d .tally .whole in
+    let u = y .tally .whole in
+    let entries : (i j : ℕ) → i < letterCount → j < statusCount → entryAt (x .tally) i j ≡ entryAt (m .tally) i j = λ i j k l.
+    let letter = getD letters i 0 in
+    let status = getD statuses j 0 in
+    y .tally .each i j k l ∙ sym (held-spread x y letter status)
+    ∙ sum-ext seatCount _ _ (λ s b. ap (λ (v : View). among (isOf letter status) (v .records)) (h .view s b))
+    ∙ held-spread m d letter status ∙ sym (d .tally .each i j k l) in
+    ext-getD [] (x .tally) (m .tally) (u .size ∙ sym (t .size)) (λ i l.
+    let k : i < letterCount = rw (u .size) at l in
+    ext-getD 0 (getD (x .tally) i []) (getD (m .tally) i []) (u .rows i k ∙ sym (t .rows i k)) (λ j b. entries i j k (rw (u .rows i k) at b)))
+
+tells : (m x : Memory) → Facts m → Facts x → Same m x → (x .bits ≡ m .bits) × ((x .count ≡ m .count) × (x .tally ≡ m .tally))
 tells m x d y h = (
   same-bits seatCount (x .bits) (m .bits) (y .bits) (d .bits) (λ i l. ap (λ (v : View). v .used) (h .view i l)),
-  sym (all-records x y) ∙ sum-ext seatCount _ _ (λ s l. ap (λ (v : View). length (v .records)) (h .view s l)) ∙ all-records m d,
+  (sym (all-records x y) ∙ sum-ext seatCount _ _ (λ s l. ap (λ (v : View). length (v .records)) (h .view s l)) ∙ all-records m d, same-tally m x d y h),
 )
 
 pub views-tell-all : ViewsTellAll
@@ -126,7 +146,7 @@ deed-same : (m x : Memory) (e : Event) → Facts m → Facts x → Same m x → 
 deed-same m x (toOpen f) d y h = ap (λ (t : Told Opening). whatIsGiven t openDeed) (open-same m x f d y (read request f) refl (tells m x d y h .0) (λ k. same-seat m x k h))
 deed-same m x (toReply f) d y h =
     ap (λ (t : Told Taking). whatIsGiven t (replyDeed f)) (reply-same m x f d y (heard f) refl
-    (λ c e. record { seat = same-seat m x (keyIn c) h; view = h .view (seatOf m (keyIn c)); free = λ l. ap₂ ltb (tells m x d y h .1) (h .size) }))
+    (λ c e. record { seat = same-seat m x (keyIn c) h; view = h .view (seatOf m (keyIn c)); free = λ l. ap₂ ltb (tells m x d y h .1 .0) (h .size) }))
 
 moved : (m x m′ x′ : Memory) (s : ℕ) (turn : View → View) → Moves m m′ s (turn (viewAt m s)) → Moves x x′ s (turn (viewAt x s)) → (i : ℕ) → viewAt x i ≡ viewAt m i → viewAt x′ i ≡ viewAt m′ i
 moved m x m′ x′ s turn a b i h =

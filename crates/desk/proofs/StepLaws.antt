@@ -25,13 +25,17 @@ use Rattle.desk.specs.Key.{requestKey, keyIn, seatKey, isKey}
 use Rattle.desk.specs.Hearing.{heard, inPlace}
 use Rattle.desk.specs.Step.{progressOf, step, none, goes}
 use Rattle.desk.specs.Seats.{seatAt, usedBit, keyed, keyedAt, seatWith, clearAt, lowestClear}
+use Rattle.frames.specs.Reply.{isLetter}
+use Rattle.frames.specs.Status.{isStatus}
+use Rattle.desk.specs.Tally.{entryOf, letterAt, statusAt}
 use Rattle.desk.specs.Memory.{Memory, capacity, capacityOf, heldBy}
 use Rattle.desk.specs.Desk.{isDesk}
 use Rattle.desk.specs.Calls.{Outcome, outcome, letterQ, keyTried, requestTried, whatIsGiven, openTried, opens, opened, seatTried, labelTried, replyTried, replies, taken}
 use Rattle.digits.proofs.Tests.{and-true, and-l, and-r}
+use Rattle.desk.proofs.TallyLaws.{reply-listed, right-entry, held-most}
 use Rattle.desk.proofs.Below.{first-sound, first-before}
 use Rattle.desk.proofs.KeyLaws.{same-key, request-legal}
-use Rattle.desk.proofs.HearingLaws.{heard-long}
+use Rattle.desk.proofs.HearingLaws.{heard-long, heard-reply}
 use Rattle.desk.proofs.ReplayLaws.{replay-held, goes-step, replayed-most, Facts, desk-facts}
 
 -- ---- answers that are not refusals
@@ -119,6 +123,22 @@ module _ (m : Memory) (f : List ℕ) (t : Taking) (k : Took m f t) where
 
   pub took-key : seatKey (seatAt (m .row) (t .seat)) ≡ keyIn (k .label)
   took-key = keyed-key (m .row) (m .bits) (keyIn (k .label)) (t .seat) took-keyed
+
+-- a taken reply can be counted: its letter and status have an entry, which is small
+pub record Countable (m : Memory) (f : List ℕ) (t : Taking) : Type 0 where
+  pub letter : isLetter (letterAt f) ≡ true
+  pub status : isStatus (t .status) ≡ true
+  pub same : t .status ≡ statusAt f
+  pub few : entryOf (m .tally) (letterAt f) (t .status) ≤ m .count
+
+pub took-countable : (m : Memory) (f : List ℕ) (t : Taking) → Took m f t → Countable m f t
+took-countable m f t k =
+    let h = heard-reply f (k .label) (k .hears) in
+    let g = reply-listed f (h .0) (h .1 .0) in
+    let e : t .status ≡ statusAt f = sym (k .status) ∙ h .1 .1 in
+    let w = right-entry (m .cells) (m .count) (m .tally) (k .facts .tally) (letterAt f) (statusAt f) (g .letter) (g .status) in
+    let n = held-most (m .cells) (m .count) (letterAt f) (statusAt f) in
+    record { letter = g .letter; status = rw e (g .status); same = e; few = rw e (omega (arith, w, n)) }
 
 -- what must hold for the stores of a taken reply
 pub record Room (m : Memory) (f : List ℕ) (t : Taking) : Type 0 where

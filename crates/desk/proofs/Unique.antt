@@ -9,6 +9,7 @@ use Rattle.digits.specs.Refusals.{DESK, NO-ANSWER-DUE, IN-USE, NO-SEAT, STRAY, 
 use Rattle.digits.specs.Told.{Told, gives, refuses}
 use Rattle.frames.specs.declared.refusals.ReadRefusal.the-variants.{Kind, Length, End, Address, Field}
 use Rattle.frames.proofs.RefusalLaws.{readBack}
+use Rattle.desk.specs.declared.state.Emptied.{Emptied}
 use Rattle.desk.specs.declared.state.Seat.{Seat}
 use Rattle.desk.specs.declared.opening.OpenDone.{OpenDone}
 use Rattle.desk.specs.declared.opening.OpenStep.{OpenStep}
@@ -27,7 +28,7 @@ use Rattle.desk.specs.declared.capture.CaptureDone.{CaptureDone}
 use Rattle.desk.specs.Seats.{seatAt}
 use Rattle.desk.specs.Memory.{Memory, memory}
 use Rattle.desk.specs.Capture.{captureTold, TookCapture}
-use Rattle.desk.specs.Calls.{Outcome, opens, replies, openTold, replyTold, Changed, OpenDid, ReplyDid, OpenStepDid, ReplyStepDid}
+use Rattle.desk.specs.Calls.{ResetDid, Outcome, opens, replies, openTold, replyTold, Changed, OpenDid, ReplyDid, OpenStepDid, ReplyStepDid}
 use Rattle.desk.specs.Unique.{OneOutcome}
 
 -- ---- an answer can be recovered from what it means: no two refusals have the same number and offset
@@ -82,6 +83,9 @@ capture-back NoDesk = refl
 
 -- ---- the outcomes
 
+one-reset : (o p : Emptied × List (List ℕ)) → ResetDid (o .0) (o .1) → ResetDid (p .0) (p .1) → o ≡ p
+one-reset o p d e = let a = d .empty ∙ sym (e .empty) in let b = d .zero ∙ sym (e .zero) in λ i. (a i, b i)
+
 module _ (m : Memory) (f : List ℕ) where
   one-opening : (r q : OpenDone) → OpenDid m f r → OpenDid m f q → r ≡ q
   one-opening r q d e =
@@ -89,18 +93,18 @@ module _ (m : Memory) (f : List ℕ) where
       let n = d .memory ∙ sym (e .memory) in
       λ i. record { answer = a i; desk = record { bits = n i .bits; count = n i .count }; row = n i .row }
 
-  one-reply : (o p : ReplyDone × (List ℕ × List ℕ)) → ReplyDid m f (o .0) (o .1 .0) (o .1 .1) → ReplyDid m f (p .0) (p .1 .0) (p .1 .1) → o ≡ p
+  one-reply : (o p : ReplyDone × (List ℕ × (List ℕ × List (List ℕ)))) → ReplyDid m f (o .0) (o .1 .0) (o .1 .1 .0) (o .1 .1 .1) → ReplyDid m f (p .0) (p .1 .0) (p .1 .1 .0) (p .1 .1 .1) → o ≡ p
   one-reply o p d e =
       let a = sym (reply-back (o .0 .answer)) ∙ ap replyBack (d .answer ∙ sym (e .answer)) ∙ reply-back (p .0 .answer) in
       let n = d .memory ∙ sym (e .memory) in
-      λ i. (record { answer = a i; desk = record { bits = n i .bits; count = n i .count }; row = n i .row }, (n i .cells, n i .marks))
+      λ i. (record { answer = a i; desk = record { bits = n i .bits; count = n i .count }; row = n i .row }, (n i .cells, (n i .marks, n i .tally)))
 
-  one-capture : (o p : CaptureDone × (List ℕ × List ℕ))
-      → TookCapture m f (o .0 .answer) (memory (o .0 .desk) (o .0 .row) (o .1 .0) (o .1 .1)) → TookCapture m f (p .0 .answer) (memory (p .0 .desk) (p .0 .row) (p .1 .0) (p .1 .1)) → o ≡ p
+  one-capture : (o p : CaptureDone × (List ℕ × (List ℕ × List (List ℕ))))
+      → TookCapture m f (o .0 .answer) (memory (o .0 .desk) (o .0 .row) (o .1 .0) (o .1 .1 .0) (o .1 .1 .1)) → TookCapture m f (p .0 .answer) (memory (p .0 .desk) (p .0 .row) (p .1 .0) (p .1 .1 .0) (p .1 .1 .1)) → o ≡ p
   one-capture o p d e =
       let a = sym (capture-back (o .0 .answer)) ∙ ap captureBack (d .told ∙ sym (e .told)) ∙ capture-back (p .0 .answer) in
       let n = d .memory ∙ sym (e .memory) in
-      λ i. (record { answer = a i; desk = record { bits = n i .bits; count = n i .count }; row = n i .row }, (n i .cells, n i .marks))
+      λ i. (record { answer = a i; desk = record { bits = n i .bits; count = n i .count }; row = n i .row }, (n i .cells, (n i .marks, n i .tally)))
 
 -- place and seat of a step are those of the outcome
 module _ (o : Outcome) (i j : ℕ) (s t : Seat) (d : Changed o i s) (e : Changed o j t) where
@@ -119,13 +123,13 @@ module _ (m : Memory) (f : List ℕ) where
       let s = same-seat (opens m f) (r .at) (q .at) (r .seat) (q .seat) (d .0) (e .0) in
       λ i. record { answer = a i; desk = record { bits = n i .bits; count = n i .count }; at = p i; seat = s i }
 
-  one-reply-step : (o p : ReplyStep × (List ℕ × List ℕ)) → ReplyStepDid m f (o .0) (o .1 .0) (o .1 .1) → ReplyStepDid m f (p .0) (p .1 .0) (p .1 .1) → o ≡ p
+  one-reply-step : (o p : ReplyStep × (List ℕ × (List ℕ × List (List ℕ)))) → ReplyStepDid m f (o .0) (o .1 .0) (o .1 .1 .0) (o .1 .1 .1) → ReplyStepDid m f (p .0) (p .1 .0) (p .1 .1 .0) (p .1 .1 .1) → o ≡ p
   one-reply-step o p d e =
       let a = sym (reply-back (o .0 .answer)) ∙ ap replyBack (d .1 .answer ∙ sym (e .1 .answer)) ∙ reply-back (p .0 .answer) in
       let n = d .1 .memory ∙ sym (e .1 .memory) in
       let k = same-place (replies m f) (o .0 .at) (p .0 .at) (o .0 .seat) (p .0 .seat) (d .0) (e .0) in
       let s = same-seat (replies m f) (o .0 .at) (p .0 .at) (o .0 .seat) (p .0 .seat) (d .0) (e .0) in
-      λ i. (record { answer = a i; desk = record { bits = n i .bits; count = n i .count }; at = k i; seat = s i }, (n i .cells, n i .marks))
+      λ i. (record { answer = a i; desk = record { bits = n i .bits; count = n i .count }; at = k i; seat = s i }, (n i .cells, (n i .marks, n i .tally)))
 
 pub one-outcome : OneOutcome
-one-outcome = record { «open» = one-opening; reply = one-reply; open-step = one-open-step; reply-step = one-reply-step; take-capture = one-capture }
+one-outcome = record { reset = one-reset; «open» = one-opening; reply = one-reply; open-step = one-open-step; reply-step = one-reply-step; take-capture = one-capture }

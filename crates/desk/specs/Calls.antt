@@ -40,6 +40,7 @@ use Rattle.desk.specs.Hearing.{heard}
 use Rattle.desk.specs.Step.{progressOf, advanced, step}
 use Rattle.desk.specs.Seats.{zeroSeat, seatAt, usedBit, seatWith, lowestClear}
 use Rattle.desk.specs.Memory.{Memory, memory, capacity, capacityOf, markAt}
+use Rattle.desk.specs.Tally.{emptyTally, letterAt, statusAt, counted}
 use Rattle.desk.specs.Desk.{isDesk, allSeats}
 
 -- ---- what a call does
@@ -87,7 +88,7 @@ newSeat k = record { address = k .address; requester = k .requester; number = k 
 
 -- the seat gets the key, and its bit is set; nothing else changes
 abbrev pub opened : Memory → Opening → Memory
-opened m o = record { row = set (m .row) (o .seat) (newSeat (o .key)); bits = m .bits + 2 ^ (o .seat); count = m .count; cells = m .cells; marks = m .marks }
+opened m o = record { row = set (m .row) (o .seat) (newSeat (o .key)); bits = m .bits + 2 ^ (o .seat); count = m .count; cells = m .cells; marks = m .marks; tally = m .tally }
 
 unfoldable pub opens : Memory → List ℕ → Outcome
 opens m f = outcome m (λ o. o .seat) (opened m) (openTried m f)
@@ -123,7 +124,7 @@ grown s status =
 abbrev pub withCell : List ℕ → ℕ → List ℕ → List ℕ
 withCell cells at f = take at cells ++ f ++ drop (at + cellSize) cells
 
--- the frame goes to the cell at the count and its seat to the mark beside it; the seat holds one more record; the count grows by one; nothing else changes
+-- the frame goes to the cell at the count and its seat to the mark beside it; the seat holds one more record; the count grows by one, and so does the tally at the reply's letter and status; nothing else changes
 abbrev pub taken : Memory → List ℕ → Taking → Memory
 taken m f t =
     record {
@@ -132,6 +133,7 @@ taken m f t =
       count = m .count + 1;
       cells = withCell (m .cells) (m .count * cellSize) f;
       marks = set (m .marks) (m .count) (t .seat);
+      tally = counted (m .tally) (letterAt f) (statusAt f);
     }
 
 unfoldable pub replies : Memory → List ℕ → Outcome
@@ -148,9 +150,9 @@ emptyState = record { bits = 0; count = 0 }
 abbrev pub emptyDesk : Emptied
 emptyDesk = record { desk = emptyState; row = emptyRow }
 
--- a memory after a reset: seats, bits and count are zero; cells and marks stay
+-- a memory after a reset: seats, bits, count and tally are zero; cells and marks stay
 abbrev pub emptied : Memory → Memory
-emptied m = memory emptyState emptyRow (m .cells) (m .marks)
+emptied m = memory emptyState emptyRow (m .cells) (m .marks) emptyTally
 
 -- refused only if the row does not have sixteen seats; nothing else is looked at
 unfoldable pub resets : Memory → Outcome
@@ -207,13 +209,18 @@ pub record Did (told : Told ℕ) (after : Memory) (o : Outcome) : Type 0 where
   pub answer : told ≡ o .answer
   pub memory : after ≡ o .after
 
--- of an opening: cells and marks are lent only to be read
-abbrev pub OpenDid : Memory → List ℕ → OpenDone → Type 0
-OpenDid m f r = Did (openTold (r .answer)) (memory (r .desk) (r .row) (m .cells) (m .marks)) (opens m f)
+-- of a reset: the state and the row that it returns, and the tally after it
+pub record ResetDid (r : Emptied) (tally′ : List (List ℕ)) : Type 0 where
+  pub empty : r ≡ emptyDesk
+  pub zero : tally′ ≡ emptyTally
 
--- of a reply: with the cells and marks after it
-abbrev pub ReplyDid : Memory → List ℕ → ReplyDone → List ℕ → List ℕ → Type 0
-ReplyDid m f r cells′ marks′ = Did (replyTold (r .answer)) (memory (r .desk) (r .row) cells′ marks′) (replies m f)
+-- of an opening: cells, marks and tally are lent only to be read
+abbrev pub OpenDid : Memory → List ℕ → OpenDone → Type 0
+OpenDid m f r = Did (openTold (r .answer)) (memory (r .desk) (r .row) (m .cells) (m .marks) (m .tally)) (opens m f)
+
+-- of a reply: with the cells, the marks and the tally after it
+abbrev pub ReplyDid : Memory → List ℕ → ReplyDone → List ℕ → List ℕ → List (List ℕ) → Type 0
+ReplyDid m f r cells′ marks′ tally′ = Did (replyTold (r .answer)) (memory (r .desk) (r .row) cells′ marks′ tally′) (replies m f)
 
 -- the place of the seat that a call changed; if it changed none, 16, which is no place
 abbrev pub placeIn : Told ℕ → ℕ
@@ -228,8 +235,8 @@ pub record Changed (o : Outcome) (at : ℕ) (seat : Seat) : Type 0 where
 -- of a step: the row with the seat set is the row after the call
 abbrev pub OpenStepDid : Memory → List ℕ → OpenStep → Type 0
 OpenStepDid m f r =
-    Changed (opens m f) (r .at) (r .seat) × Did (openTold (r .answer)) (memory (r .desk) (set (m .row) (r .at) (r .seat)) (m .cells) (m .marks)) (opens m f)
+    Changed (opens m f) (r .at) (r .seat) × Did (openTold (r .answer)) (memory (r .desk) (set (m .row) (r .at) (r .seat)) (m .cells) (m .marks) (m .tally)) (opens m f)
 
-abbrev pub ReplyStepDid : Memory → List ℕ → ReplyStep → List ℕ → List ℕ → Type 0
-ReplyStepDid m f r cells′ marks′ =
-    Changed (replies m f) (r .at) (r .seat) × Did (replyTold (r .answer)) (memory (r .desk) (set (m .row) (r .at) (r .seat)) cells′ marks′) (replies m f)
+abbrev pub ReplyStepDid : Memory → List ℕ → ReplyStep → List ℕ → List ℕ → List (List ℕ) → Type 0
+ReplyStepDid m f r cells′ marks′ tally′ =
+    Changed (replies m f) (r .at) (r .seat) × Did (replyTold (r .answer)) (memory (r .desk) (set (m .row) (r .at) (r .seat)) cells′ marks′ tally′) (replies m f)

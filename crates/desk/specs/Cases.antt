@@ -17,7 +17,7 @@ use Rattle.desk.specs.Mix.{repliesTo}
 
 -- no seats, and lent cells of this many bytes with this many marks
 abbrev pub lending : ℕ → ℕ → Memory
-lending bytes marks = record { row = []; bits = 0; count = 0; cells = replicate bytes 0; marks = replicate marks 0 }
+lending bytes marks = record { row = []; bits = 0; count = 0; cells = replicate bytes 0; marks = replicate marks 0; tally = [] }
 
 -- a request with number 007, with this address, requester and letter
 abbrev pub askingAt : String → String → String → List ℕ
@@ -146,6 +146,8 @@ pub record MixWorked : Type 0 where
   pub held-by-1 : heldBy (run three mixed) 0 ≡ replyTo "R" "1" "00007" "00002" ∷ replyTo "E" "1" "00007" "00007" ∷ []
   pub held-by-A : heldBy (run three mixed) 1 ≡ replyTo "R" "A" "00007" "00001" ∷ replyTo "R" "A" "00007" "00000" ∷ replyTo "E" "A" "00007" "00010" ∷ []
   pub held-by-z : heldBy (run three mixed) 2 ≡ replyTo "Z" "z" "00007" "00005" ∷ []
+  -- three R, two E and one Z, all with letter P, which is the thirteenth
+  pub tally : run three mixed .tally ≡ replicate 12 (0 ∷ 0 ∷ 0 ∷ []) ++ (3 ∷ 2 ∷ 1 ∷ []) ∷ replicate 20 (0 ∷ 0 ∷ 0 ∷ [])
   -- six are kept; the three that are refused after the end or out of place count as replies too
   pub bound : repliesTo three mixed ≡ 9
 

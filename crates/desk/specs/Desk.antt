@@ -1,4 +1,4 @@
--- What makes a desk: a definition for each of the eleven clauses, and all of them in the paper's order.
+-- What makes a desk: a definition for each of the eleven clauses, all of them in the paper's order, and then the tally.
 use Prim.Native.Nat.{ℕ, zero, suc, _^_}
 use mathlib.Core.List.{List}
 use mathlib.Core.Bool.{Bool, true, cond, not, _&&_}
@@ -12,6 +12,7 @@ use Rattle.desk.specs.Key.{seatKey, isKey}
 use Rattle.desk.specs.Hearing.{heard, hasKey, statusIn, endedIn}
 use Rattle.desk.specs.Seats.{seatAt, usedBit, keyedAt}
 use Rattle.desk.specs.Memory.{Memory, capacity, cellAt, markAt}
+use Rattle.desk.specs.Tally.{tallyRight}
 
 -- clause 3: seat i, if used, has a key that a static request can have
 abbrev pub keyLegal : List Seat → ℕ → ℕ → Bool
@@ -106,6 +107,10 @@ module _ (m : Memory) where
   abbrev pub endedIsLast : Bool
   endedIsLast = allBelow seatCount (endedRight (m .row) (m .bits) (m .count) (m .cells) (m .marks))
 
+  -- clause 12: each number of the tally is how many cells below the count have its letter and status
+  abbrev pub tallyIsCount : Bool
+  tallyIsCount = tallyRight (m .cells) (m .count) (m .tally)
+
   unfoldable pub isDesk : Bool
   isDesk =
       allSeats
@@ -119,3 +124,4 @@ module _ (m : Memory) where
       && heldIsNamed
       && endsLast
       && endedIsLast
+      && tallyIsCount

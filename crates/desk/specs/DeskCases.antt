@@ -33,9 +33,20 @@ cells a b c = a ++ b ++ c ++ replicate 51 0
 abbrev pub records : List ℕ
 records = cells (told "1" "R") (told "A" "R") (told "1" "E")
 
--- the seats, the bits, the count, the cells and the marks
+-- a tally with a row for P, which comes after twelve other letters; the other 32 rows are zeros
+abbrev pub nobody : List ℕ
+nobody = 0 ∷ 0 ∷ 0 ∷ []
+
+abbrev pub tally : ℕ → ℕ → ℕ → List (List ℕ)
+tally r e z = replicate 12 nobody ++ (r ∷ e ∷ z ∷ []) ∷ replicate 20 nobody
+
+-- the seats, the bits, the count, the cells, the marks and the tally
+abbrev pub telling : List Seat → ℕ → ℕ → List ℕ → List ℕ → List (List ℕ) → Memory
+telling row bits count cells marks tally = record { row = row; bits = bits; count = count; cells = cells; marks = marks; tally = tally }
+
+-- two records with R and one with E
 abbrev pub with : List Seat → ℕ → ℕ → List ℕ → List ℕ → Memory
-with row bits count cells marks = record { row = row; bits = bits; count = count; cells = cells; marks = marks }
+with row bits count cells marks = telling row bits count cells marks (tally 2 1 0)
 
 -- the first three seats, and thirteen seats of zeros
 abbrev pub seats : Seat → Seat → Seat → List Seat
@@ -83,7 +94,7 @@ pub record DeskWorked : Type 0 where
   pub mark-of-unused : isDesk (with (seats one (seat 32 65 7 0 0) none) 3 3 records (0 ∷ 2 ∷ 0 ∷ [])) ≡ false
   pub mark-16 : isDesk (with (seats one (seat 32 65 7 0 0) none) 3 3 records (0 ∷ 16 ∷ 0 ∷ [])) ≡ false
   -- cells are well formed replies with the keys of their seats
-  pub damaged : isDesk (with (seats one two none) 3 3 (cells (told "1" "R") (told "A" "Q") (told "1" "E")) marks) ≡ false
+  pub damaged : isDesk (telling (seats one two none) 3 3 (cells (told "1" "R") (told "A" "Q") (told "1" "E")) marks (tally 1 1 0)) ≡ false
   pub of-another : isDesk (with (seats one two none) 3 3 (cells (told "1" "R") (told "a" "R") (told "1" "E")) marks) ≡ false
   pub of-another-address : isDesk (with (seats one two none) 3 3 (cells (told "1" "R") (replyFrom "0" "R" "A" "00007" "00015") (told "1" "E")) marks) ≡ false
   pub of-another-number : isDesk (with (seats one two none) 3 3 (cells (told "1" "R") (replyTo "R" "A" "00008" "00015") (told "1" "E")) marks) ≡ false
@@ -92,12 +103,26 @@ pub record DeskWorked : Type 0 where
   pub held-more : isDesk (with (seats (seat 32 49 7 3 1) two none) 3 3 records marks) ≡ false
   -- only the last record is E or Z, and a Z is the only one
   pub E-first : isDesk (with (seats (seat 32 49 7 2 0) two none) 3 3 (cells (told "1" "E") (told "A" "R") (told "1" "R")) marks) ≡ false
-  pub E-twice : isDesk (with (seats one two none) 3 3 (cells (told "1" "E") (told "A" "R") (told "1" "E")) marks) ≡ false
-  pub Z-first : isDesk (with (seats (seat 32 49 7 2 0) two none) 3 3 (cells (told "1" "Z") (told "A" "R") (told "1" "R")) marks) ≡ false
-  pub Z-last : isDesk (with (seats one two none) 3 3 (cells (told "1" "R") (told "A" "R") (told "1" "Z")) marks) ≡ false
-  pub Z-alone : isDesk (with (seats one (seat 32 65 7 1 1) none) 3 3 (cells (told "1" "R") (told "A" "Z") (told "1" "E")) marks) ≡ true
+  pub E-twice : isDesk (telling (seats one two none) 3 3 (cells (told "1" "E") (told "A" "R") (told "1" "E")) marks (tally 1 2 0)) ≡ false
+  pub Z-first : isDesk (telling (seats (seat 32 49 7 2 0) two none) 3 3 (cells (told "1" "Z") (told "A" "R") (told "1" "R")) marks (tally 2 0 1)) ≡ false
+  pub Z-last : isDesk (telling (seats one two none) 3 3 (cells (told "1" "R") (told "A" "R") (told "1" "Z")) marks (tally 2 0 1)) ≡ false
+  pub Z-alone : isDesk (telling (seats one (seat 32 65 7 1 1) none) 3 3 (cells (told "1" "R") (told "A" "Z") (told "1" "E")) marks (tally 1 1 1)) ≡ true
   -- `ended` is 1 if the last record is E or Z, and otherwise 0
-  pub goes-on : isDesk (with (seats (seat 32 49 7 2 0) two none) 3 3 (cells (told "1" "R") (told "A" "R") (told "1" "R")) marks) ≡ true
+  pub goes-on : isDesk (telling (seats (seat 32 49 7 2 0) two none) 3 3 (cells (told "1" "R") (told "A" "R") (told "1" "R")) marks (tally 3 0 0)) ≡ true
   pub not-ended : isDesk (with (seats (seat 32 49 7 2 0) two none) 3 3 records marks) ≡ false
   pub ended-by-2 : isDesk (with (seats (seat 32 49 7 2 2) two none) 3 3 records marks) ≡ false
   pub ended-early : isDesk (with (seats one (seat 32 65 7 1 1) none) 3 3 records marks) ≡ false
+  -- the tally has 33 rows of three numbers, and each is how many records have its letter and status
+  pub one-more : isDesk (telling (seats one two none) 3 3 records marks (tally 3 1 0)) ≡ false
+  pub one-less : isDesk (telling (seats one two none) 3 3 records marks (tally 2 0 0)) ≡ false
+  pub other-status : isDesk (telling (seats one two none) 3 3 records marks (tally 1 2 0)) ≡ false
+  pub other-letter : isDesk (telling (seats one two none) 3 3 records marks (replicate 11 nobody ++ (2 ∷ 1 ∷ 0 ∷ []) ∷ replicate 21 nobody)) ≡ false
+  pub one-beside : isDesk (telling (seats one two none) 3 3 records marks (replicate 12 nobody ++ (2 ∷ 1 ∷ 0 ∷ []) ∷ (replicate 19 nobody ++ (0 ∷ 0 ∷ 1 ∷ []) ∷ []))) ≡ false
+  pub no-tally : isDesk (telling (seats one two none) 3 3 records marks []) ≡ false
+  pub rows-32 : isDesk (telling (seats one two none) 3 3 records marks (replicate 12 nobody ++ (2 ∷ 1 ∷ 0 ∷ []) ∷ replicate 19 nobody)) ≡ false
+  pub rows-34 : isDesk (telling (seats one two none) 3 3 records marks (tally 2 1 0 ++ nobody ∷ [])) ≡ false
+  pub row-of-two : isDesk (telling (seats one two none) 3 3 records marks (replicate 12 nobody ++ (2 ∷ 1 ∷ []) ∷ replicate 20 nobody)) ≡ false
+  pub row-of-four : isDesk (telling (seats one two none) 3 3 records marks (replicate 12 nobody ++ (2 ∷ 1 ∷ 0 ∷ 0 ∷ []) ∷ replicate 20 nobody)) ≡ false
+  -- a cell beyond the count is not counted, whatever it holds
+  pub stale : isDesk (with (seats one two none) 3 3 (told "1" "R" ++ told "A" "R" ++ told "1" "E" ++ told "A" "E") marks) ≡ true
+  pub stale-counted : isDesk (telling (seats one two none) 3 3 (told "1" "R" ++ told "A" "R" ++ told "1" "E" ++ told "A" "E") marks (tally 2 2 0)) ≡ false

@@ -5,6 +5,7 @@ pub mod Hearing
 pub mod Step
 pub mod Seats
 pub mod Memory
+pub mod Tally
 pub mod Desk
 pub mod Replay
 pub mod Calls
@@ -17,6 +18,7 @@ pub mod Views
 pub mod Openings
 pub mod Folds
 pub mod Mix
+pub mod Looks
 pub mod Orders
 pub mod CaptureDemands
 pub mod KeyDemands

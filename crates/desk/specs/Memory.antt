@@ -1,4 +1,4 @@
--- The state and the lent memory together: the row of seats, the bits, the count, the cells and the marks.
+-- The state and the lent memory together: the row of seats, the bits, the count, the cells, the marks and the tally.
 use Prim.Native.Nat.{ℕ, zero, suc, _*_, _/_, min}
 use mathlib.Core.List.{List, [], _∷_, _++_}
 use mathlib.Core.Bool.{cond}
@@ -14,9 +14,10 @@ pub record Memory : Type 0 where
   pub count : ℕ
   pub cells : List ℕ
   pub marks : List ℕ
+  pub tally : List (List ℕ)
 
-abbrev pub memory : Desk → List Seat → List ℕ → List ℕ → Memory
-memory d row cells marks = record { row = row; bits = d .bits; count = d .count; cells = cells; marks = marks }
+abbrev pub memory : Desk → List Seat → List ℕ → List ℕ → List (List ℕ) → Memory
+memory d row cells marks tally = record { row = row; bits = d .bits; count = d .count; cells = cells; marks = marks; tally = tally }
 
 -- the least of 256, the whole cells and the marks
 unfoldable pub capacityOf : ℕ → ℕ → ℕ

@@ -109,9 +109,9 @@ pub record Same (m x : Memory) : Type 0 where
   pub size : capacity x ≡ capacity m
   pub view : (s : ℕ) → s < seatCount → viewAt x s ≡ viewAt m s
 
--- the views tell which seats are in use and how many cells are held
+-- the views tell which seats are in use, how many cells are held, and the tally
 abbrev pub ViewsTellAll : Type 0
-ViewsTellAll = (m x : Memory) → isDesk m ≡ true → isDesk x ≡ true → Same m x → (x .bits ≡ m .bits) × (x .count ≡ m .count)
+ViewsTellAll = (m x : Memory) → isDesk m ≡ true → isDesk x ≡ true → Same m x → (x .bits ≡ m .bits) × ((x .count ≡ m .count) × (x .tally ≡ m .tally))
 
 -- no opening and no reply tells them apart, and they look the same after it
 abbrev pub SameGoesOn : Type 0

@@ -15,13 +15,17 @@ use crate::state::Seat;
 use crate::state::capacity;
 use crate::step::Progress;
 use crate::step::advanced;
+use crate::tally::count_one;
 use digits::byte_at;
 use finder::Cursor;
 use finder::Found;
 use finder::next;
 use frames::dynamic::DynamicRead;
 use frames::dynamic::read_dynamic;
+use frames::reply::LETTERS;
 use frames::reply::REPLY_LEAD;
+use frames::reply::STATUSES;
+use frames::reply::field;
 use frames::request::REQUEST_LEAD;
 ghost use mathlib.Core.Path.{_≡_};
 ghost use mathlib.Core.Bool.{true};
@@ -70,15 +74,16 @@ struct Met {
     desk: Desk,
 }
 
-// Takes the frames of a capture one after the other. Cells and marks change as by one call for each frame.
+// Takes the frames of a capture one after the other. Cells, marks and tally change as by one call for each frame.
 pub fn take_capture(
     desk: Desk,
     row: [Seat; SEATS],
     cells: &mut [u8],
     marks: &mut [u32],
+    tally: &mut [[u32; STATUSES]; LETTERS],
     capture: &[u8],
 ) -> CaptureDone
-    ensures { λ r. ⌜ TookCapture (memory desk row (now (cells .entry)) (now (marks .entry))) (now (capture .entry)) (r .answer) (memory (r .desk) (r .row) (now (cells .exit)) (now (marks .exit))) ⌝ }
+    ensures { λ r. ⌜ TookCapture (memory desk row (now (cells .entry)) (now (marks .entry)) (now (tally .entry))) (now (capture .entry)) (r .answer) (memory (r .desk) (r .row) (now (cells .exit)) (now (marks .exit)) (now (tally .exit))) ⌝ }
 {
     let mut keys = [0u32; SEATS];
     let mut held = [0u32; SEATS];
@@ -86,7 +91,7 @@ pub fn take_capture(
     if !columns(row, desk.bits, &mut keys, &mut held, &mut ended) {
         return no_desk(desk, row);
     }
-    if !is_desk(desk, &keys, &held, &ended, cells, marks) {
+    if !is_desk(desk, &keys, &held, &ended, cells, marks, tally) {
         return no_desk(desk, row);
     }
     let mut desk = desk;
@@ -118,6 +123,7 @@ pub fn take_capture(
                     &mut ended,
                     cells,
                     marks,
+                    tally,
                     &capture[start..end],
                 );
                 let fate = m.fate;
@@ -148,17 +154,18 @@ fn meet(
     ended: &mut [u32],
     cells: &mut [u8],
     marks: &mut [u32],
+    tally: &mut [[u32; STATUSES]; LETTERS],
     frame: &[u8],
 ) -> Met
-    requires { ⌜ Sized (now keys) (now held) (now ended) × (isDesk (memory desk (rowOf (now keys) (now held) (now ended)) (now cells) (now marks)) ≡ true) ⌝ }
-    ensures { λ r. ⌜ Meets (meets (memory desk (rowOf (now (keys .entry)) (now (held .entry)) (now (ended .entry))) (now (cells .entry)) (now (marks .entry))) (now (frame .entry))) r (memory (r .desk) (rowOf (now (keys .exit)) (now (held .exit)) (now (ended .exit))) (now (cells .exit)) (now (marks .exit))) ⌝ }
+    requires { ⌜ Sized (now keys) (now held) (now ended) × (isDesk (memory desk (rowOf (now keys) (now held) (now ended)) (now cells) (now marks) (now tally)) ≡ true) ⌝ }
+    ensures { λ r. ⌜ Meets (meets (memory desk (rowOf (now (keys .entry)) (now (held .entry)) (now (ended .entry))) (now (cells .entry)) (now (marks .entry)) (now (tally .entry))) (now (frame .entry))) r (memory (r .desk) (rowOf (now (keys .exit)) (now (held .exit)) (now (ended .exit))) (now (cells .exit)) (now (marks .exit)) (now (tally .exit))) ⌝ }
 {
     let lead = byte_at(frame, 0);
     if lead == REQUEST_LEAD {
-        return meet_request(desk, keys, held, ended, cells, marks, frame);
+        return meet_request(desk, keys, held, ended, cells, marks, tally, frame);
     }
     if lead == REPLY_LEAD {
-        return meet_reply(desk, keys, held, ended, cells, marks, frame);
+        return meet_reply(desk, keys, held, ended, cells, marks, tally, frame);
     }
     Met {
         fate: dynamic_fate(frame),
@@ -166,7 +173,7 @@ fn meet(
     }
 }
 
-// A static request: if it is opened, its seat gets the key. Records, cells and marks are here only so that a desk can be required.
+// A static request: if it is opened, its seat gets the key. Records, cells, marks and tally are here only so that a desk can be required.
 fn meet_request(
     desk: Desk,
     keys: &mut [u32],
@@ -174,10 +181,11 @@ fn meet_request(
     ended: &[u32],
     cells: &[u8],
     marks: &[u32],
+    tally: &[[u32; STATUSES]; LETTERS],
     frame: &[u8],
 ) -> Met
-    requires { ⌜ Sized (now keys) (now held) (now ended) × (isDesk (memory desk (rowOf (now keys) (now held) (now ended)) (now cells) (now marks)) ≡ true) ⌝ }
-    ensures { λ r. ⌜ MeetsBy Opened (opens (memory desk (rowOf (now (keys .entry)) (now (held .entry)) (now (ended .entry))) (now (cells .entry)) (now (marks .entry))) (now (frame .entry))) r (memory (r .desk) (rowOf (now (keys .exit)) (now (held .entry)) (now (ended .entry))) (now (cells .entry)) (now (marks .entry))) ⌝ }
+    requires { ⌜ Sized (now keys) (now held) (now ended) × (isDesk (memory desk (rowOf (now keys) (now held) (now ended)) (now cells) (now marks) (now tally)) ≡ true) ⌝ }
+    ensures { λ r. ⌜ MeetsBy Opened (opens (memory desk (rowOf (now (keys .entry)) (now (held .entry)) (now (ended .entry))) (now (cells .entry)) (now (marks .entry)) (now (tally .entry))) (now (frame .entry))) r (memory (r .desk) (rowOf (now (keys .exit)) (now (held .entry)) (now (ended .entry))) (now (cells .entry)) (now (marks .entry)) (now (tally .entry))) ⌝ }
 {
     match opening_judged(keys, desk.bits, frame) {
         OpenJudged::Opens(opening) => {
@@ -204,10 +212,11 @@ fn meet_reply(
     ended: &mut [u32],
     cells: &mut [u8],
     marks: &mut [u32],
+    tally: &mut [[u32; STATUSES]; LETTERS],
     frame: &[u8],
 ) -> Met
-    requires { ⌜ Sized (now keys) (now held) (now ended) × (isDesk (memory desk (rowOf (now keys) (now held) (now ended)) (now cells) (now marks)) ≡ true) ⌝ }
-    ensures { λ r. ⌜ MeetsBy Collected (replies (memory desk (rowOf (now (keys .entry)) (now (held .entry)) (now (ended .entry))) (now (cells .entry)) (now (marks .entry))) (now (frame .entry))) r (memory (r .desk) (rowOf (now (keys .entry)) (now (held .exit)) (now (ended .exit))) (now (cells .exit)) (now (marks .exit))) ⌝ }
+    requires { ⌜ Sized (now keys) (now held) (now ended) × (isDesk (memory desk (rowOf (now keys) (now held) (now ended)) (now cells) (now marks) (now tally)) ≡ true) ⌝ }
+    ensures { λ r. ⌜ MeetsBy Collected (replies (memory desk (rowOf (now (keys .entry)) (now (held .entry)) (now (ended .entry))) (now (cells .entry)) (now (marks .entry)) (now (tally .entry))) (now (frame .entry))) r (memory (r .desk) (rowOf (now (keys .entry)) (now (held .exit)) (now (ended .exit))) (now (cells .exit)) (now (marks .exit)) (now (tally .exit))) ⌝ }
 {
     let free = (desk.count as usize) < capacity(cells.len(), marks.len());
     match reply_judged(keys, held, ended, free, frame) {
@@ -220,6 +229,7 @@ fn meet_reply(
             let p = advanced(so_far, taking.status);
             held[at] = p.held;
             ended[at] = p.ended;
+            count_one(tally, byte_at(frame, field::INFORMATION), taking.status);
             Met {
                 fate: Fate::Collected,
                 desk: put_reply(desk, at, cells, marks, frame),

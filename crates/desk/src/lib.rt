@@ -10,3 +10,4 @@ pub mod opening;
 pub mod reply;
 pub mod state;
 mod step;
+pub mod tally;

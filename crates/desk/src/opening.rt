@@ -14,6 +14,8 @@ use digits::refusal::Refusal;
 use digits::refusal::plain;
 use frames::refusals::ReadRefusal;
 use frames::refusals::of_reading;
+use frames::reply::LETTERS;
+use frames::reply::STATUSES;
 use frames::request::RequestRead;
 use frames::request::StaticRequest;
 use frames::request::read_request;
@@ -84,10 +86,17 @@ pub(crate) enum OpenJudged {
     Refuses(OpenRefusal),
 }
 
-pub fn open(desk: Desk, row: [Seat; SEATS], cells: &[u8], marks: &[u32], frame: &[u8]) -> OpenDone
-    ensures { λ r. ⌜ OpenDid (memory desk row (now (cells .entry)) (now (marks .entry))) (now (frame .entry)) r ⌝ }
+pub fn open(
+    desk: Desk,
+    row: [Seat; SEATS],
+    cells: &[u8],
+    marks: &[u32],
+    tally: &[[u32; STATUSES]; LETTERS],
+    frame: &[u8],
+) -> OpenDone
+    ensures { λ r. ⌜ OpenDid (memory desk row (now (cells .entry)) (now (marks .entry)) (now (tally .entry))) (now (frame .entry)) r ⌝ }
 {
-    let step = open_step(desk, row, cells, marks, frame);
+    let step = open_step(desk, row, cells, marks, tally, frame);
     let answer = step.answer;
     let desk = step.desk;
     let seat = step.seat;
@@ -104,9 +113,10 @@ pub fn open_step(
     row: [Seat; SEATS],
     cells: &[u8],
     marks: &[u32],
+    tally: &[[u32; STATUSES]; LETTERS],
     frame: &[u8],
 ) -> OpenStep
-    ensures { λ r. ⌜ OpenStepDid (memory desk row (now (cells .entry)) (now (marks .entry))) (now (frame .entry)) r ⌝ }
+    ensures { λ r. ⌜ OpenStepDid (memory desk row (now (cells .entry)) (now (marks .entry)) (now (tally .entry))) (now (frame .entry)) r ⌝ }
 {
     let mut keys = [0u32; SEATS];
     let mut held = [0u32; SEATS];
@@ -114,7 +124,7 @@ pub fn open_step(
     if !columns(row, desk.bits, &mut keys, &mut held, &mut ended) {
         return not_opened(desk, OpenRefusal::Desk);
     }
-    if !is_desk(desk, &keys, &held, &ended, cells, marks) {
+    if !is_desk(desk, &keys, &held, &ended, cells, marks, tally) {
         return not_opened(desk, OpenRefusal::Desk);
     }
     match judged(&keys, desk.bits, frame) {

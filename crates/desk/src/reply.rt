@@ -16,6 +16,8 @@ use crate::step::Stepped;
 use crate::step::advanced;
 use crate::step::progress_of;
 use crate::step::step;
+use crate::tally::count_one;
+use digits::byte_at;
 use digits::put_bytes;
 use digits::refusal as table;
 use digits::refusal::Refusal;
@@ -24,9 +26,12 @@ use frames::check::is_reply;
 use frames::check::label_at;
 use frames::refusals::ReadRefusal;
 use frames::refusals::of_reading;
+use frames::reply::LETTERS;
 use frames::reply::ReplyCheck;
 use frames::reply::ReplyLabel;
+use frames::reply::STATUSES;
 use frames::reply::check_reply;
+use frames::reply::field;
 ghost use mathlib.Core.Path.{_≡_};
 ghost use Prim.Native.Nat.{_<_};
 ghost use Rattle.desk.specs.Limits.{mostCells};
@@ -96,11 +101,12 @@ pub fn reply(
     row: [Seat; SEATS],
     cells: &mut [u8],
     marks: &mut [u32],
+    tally: &mut [[u32; STATUSES]; LETTERS],
     frame: &[u8],
 ) -> ReplyDone
-    ensures { λ r. ⌜ ReplyDid (memory desk row (now (cells .entry)) (now (marks .entry))) (now (frame .entry)) r (now (cells .exit)) (now (marks .exit)) ⌝ }
+    ensures { λ r. ⌜ ReplyDid (memory desk row (now (cells .entry)) (now (marks .entry)) (now (tally .entry))) (now (frame .entry)) r (now (cells .exit)) (now (marks .exit)) (now (tally .exit)) ⌝ }
 {
-    let step = reply_step(desk, row, cells, marks, frame);
+    let step = reply_step(desk, row, cells, marks, tally, frame);
     let answer = step.answer;
     let desk = step.desk;
     let seat = step.seat;
@@ -117,9 +123,10 @@ pub fn reply_step(
     row: [Seat; SEATS],
     cells: &mut [u8],
     marks: &mut [u32],
+    tally: &mut [[u32; STATUSES]; LETTERS],
     frame: &[u8],
 ) -> ReplyStep
-    ensures { λ r. ⌜ ReplyStepDid (memory desk row (now (cells .entry)) (now (marks .entry))) (now (frame .entry)) r (now (cells .exit)) (now (marks .exit)) ⌝ }
+    ensures { λ r. ⌜ ReplyStepDid (memory desk row (now (cells .entry)) (now (marks .entry)) (now (tally .entry))) (now (frame .entry)) r (now (cells .exit)) (now (marks .exit)) (now (tally .exit)) ⌝ }
 {
     let mut keys = [0u32; SEATS];
     let mut held = [0u32; SEATS];
@@ -127,7 +134,7 @@ pub fn reply_step(
     if !columns(row, desk.bits, &mut keys, &mut held, &mut ended) {
         return not_taken(desk, ReplyRefusal::Desk);
     }
-    if !is_desk(desk, &keys, &held, &ended, cells, marks) {
+    if !is_desk(desk, &keys, &held, &ended, cells, marks, tally) {
         return not_taken(desk, ReplyRefusal::Desk);
     }
     let free = (desk.count as usize) < capacity(cells.len(), marks.len());
@@ -135,6 +142,7 @@ pub fn reply_step(
         ReplyJudged::Takes(taking) => {
             let at = taking.seat;
             let after = put_reply(desk, at, cells, marks, frame);
+            count_one(tally, byte_at(frame, field::INFORMATION), taking.status);
             let seat = at as u32;
             ReplyStep {
                 answer: ReplyAnswer::Taken(seat),

@@ -2,12 +2,15 @@
 use crate::limits::CELL_SIZE;
 use crate::limits::CELLS;
 use crate::limits::SEATS;
+use crate::tally::clear;
 use digits::least;
+use frames::reply::LETTERS;
+use frames::reply::STATUSES;
 ghost use mathlib.Core.Path.{_≡_};
 ghost use lib.ListN.{set};
 ghost use Rattle.desk.specs.Seats.{zeroSeat};
 ghost use Rattle.desk.specs.Memory.{capacityOf};
-ghost use Rattle.desk.specs.Calls.{seatsInUse, emptyDesk};
+ghost use Rattle.desk.specs.Calls.{seatsInUse, ResetDid};
 
 // Five numbers without padding. Address and requester are held by their codes; `ended` is 0 or 1.
 #[repr(C)]
@@ -55,10 +58,11 @@ pub(crate) fn with_seat(row: [Seat; SEATS], at: usize, seat: Seat) -> [Seat; SEA
     after
 }
 
-// The empty desk; it replaces any state. Cells and marks are not touched.
-pub fn reset() -> Emptied
-    ensures { λ r. ⌜ r ≡ emptyDesk ⌝ }
+// The empty desk; it replaces any state, and all numbers of the tally are 0, whatever they were. Cells and marks are not touched.
+pub fn reset(tally: &mut [[u32; STATUSES]; LETTERS]) -> Emptied
+    ensures { λ r. ⌜ ResetDid r (now (tally .exit)) ⌝ }
 {
+    clear(tally);
     Emptied {
         desk: Desk { bits: 0, count: 0 },
         row: [no_seat(); SEATS],

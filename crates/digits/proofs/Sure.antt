@@ -43,4 +43,4 @@ module _ {A : Type 0} where
   sure-tried false f rest h s = sure-refuses f (h refl)
 
 pub table-worked : TableWorked
-table-worked = record { numbers = refl; offsets = refl; spoiled-bytes = refl; field-numbers = λ o p. refl; record-numbers = λ o. refl; none-0 = refl; last-16 = refl; none-17 = refl; field-placed = refl; field-own = refl; spoiled-before = refl; field-nowhere = refl; record-placed = refl; record-spoiled = refl; room-placed = refl; room-spoiled = refl }
+table-worked = record { numbers = refl; offsets = refl; spoiled-bytes = refl; field-numbers = λ o p. refl; record-numbers = λ o. refl; none-0 = refl; last-17 = refl; none-18 = refl; field-placed = refl; field-own = refl; spoiled-before = refl; field-nowhere = refl; record-placed = refl; record-spoiled = refl; room-placed = refl; room-spoiled = refl }

@@ -1,5 +1,5 @@
 -- Letters and lists of them.
-use Prim.Native.Nat.{ℕ, _-_, _/_, _%_, _^_}
+use Prim.Native.Nat.{ℕ, suc, _-_, _/_, _%_, _^_}
 use Prim.Native.Char.{code}
 use Prim.Native.String.{String, [] as done, _∷_ as _then_}
 use mathlib.Core.List.{List, [], _∷_}
@@ -16,6 +16,11 @@ codes (c then s) = code c ∷ codes s
 unfoldable pub oneOf : List ℕ → ℕ → Bool
 oneOf [] b = false
 oneOf (x ∷ xs) b = eqb b x || oneOf xs b
+
+-- the place of a byte in a list, counted from 0; the list's length if it is not in it
+unfoldable pub placeOf : List ℕ → ℕ → ℕ
+placeOf [] b = 0
+placeOf (x ∷ xs) b = cond (eqb b x) 0 (suc (placeOf xs b))
 
 -- whether a byte is in a set of bytes below 128. The set is two numbers: bit b of the first for bytes below 64,
 -- and bit b - 64 of the second for the others

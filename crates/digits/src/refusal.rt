@@ -34,6 +34,8 @@ pub const OUT_OF_PLACE: u32 = 15;
 
 pub const FULL: u32 = 16;
 
+pub const NO_SUCH: u32 = 17;
+
 // Only FIELD and RECORD have an offset, and only FIELD has the offset of a spoiled byte; for the others they are 0.
 pub struct Refusal {
     pub number: u32,

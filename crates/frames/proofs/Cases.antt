@@ -1,7 +1,7 @@
 -- The worked cases, each by computation. Assumes nothing.
 use mathlib.Core.Path.{refl}
 use Rattle.digits.specs.Digits.{digits, numberAt, numberFrom}
-use Rattle.digits.specs.Text.{oneOf}
+use Rattle.digits.specs.Text.{oneOf, placeOf}
 use Rattle.times.specs.Clock.{ticksOf, clockNumber}
 use Rattle.times.specs.Day.{leap, monthLength, realDay}
 use Rattle.times.specs.Net.{isNet}
@@ -9,7 +9,7 @@ use Rattle.times.specs.Running.{inRange, runningTime}
 use Rattle.frames.specs.Rules.{between, upTo, isAddress, isRaw, isRequester, isOutput}
 use Rattle.frames.specs.Layout.{fieldsOf, recordWrong, write}
 use Rattle.frames.specs.Kind.{headTold, read, wrongIn, frameOf, writeTried}
-use Rattle.frames.specs.Status.{isStatus}
+use Rattle.frames.specs.Status.{isStatus, statusPlace}
 use Rattle.frames.specs.Shape.{allFrom}
 use Rattle.frames.specs.Classes.{digitFrom, firstOff}
 use Rattle.frames.specs.Request as Q
@@ -232,7 +232,7 @@ dynamic-worked = record {
 }
 
 pub rules-worked : RulesWorked
-unfolding oneOf between isAddress isRaw isRequester isOutput timingKind isSign Q.isInformation Q.isRequestChannel isStatus P.isLetter P.isReplyChannel D.isOrder D.isDynamicChannel D.leastPeriod
+unfolding oneOf between isAddress isRaw isRequester isOutput timingKind isSign Q.isInformation Q.isRequestChannel isStatus P.isLetter P.isReplyChannel D.isOrder D.isDynamicChannel D.leastPeriod placeOf P.letterPlace statusPlace
 rules-worked = record {
   addresses = refl;
   requesters = refl;
@@ -240,6 +240,9 @@ rules-worked = record {
   raw-bytes = refl;
   information = refl;
   letters = refl;
+  letter-places = refl;
+  no-letter-place = refl;
+  status-places = refl;
   statuses = refl;
   orders = refl;
   signs = refl;

@@ -17,7 +17,8 @@ use Rattle.frames.specs.declared.reply.StaticReply.{StaticReply}
 use Rattle.frames.specs.declared.reply.ReplyLabel.{ReplyLabel}
 use Rattle.frames.specs.Rules.{isAddress, isRequester}
 use Rattle.frames.specs.Kind.{headTold, read}
-use Rattle.frames.specs.Reply.{reply, isGood, GoodIsRead, digitAt, labelOf, labelAt, LabelIsRead}
+use Rattle.frames.specs.Status.{isStatus}
+use Rattle.frames.specs.Reply.{reply, isLetter, isGood, GoodIsRead, digitAt, labelOf, labelAt, LabelIsRead}
 use Rattle.frames.specs.inside.Held.{orNone}
 use Rattle.frames.specs.inside.Reply.{headAt, replyAt, wrongAt}
 use Rattle.frames.proofs.HeadLaws.{tried-gives, then-gives}
@@ -89,6 +90,19 @@ label-legal s r e =
     let g = given s r e in
     let h = head-fine (headAt s) _ (g .fine) in
     subst (λ (x : StaticReply). Labelled (labelOf x)) (sym (g .is)) (record { address = g .address; requester = h .requester; number = up-to 99999 _ (h .number) })
+
+-- letter and status of a good reply are its bytes at 29 and 5
+pub record Lettered (s : List ℕ) (r : StaticReply) : Type 0 where
+  pub letter : isLetter (getD s 29 0) ≡ true
+  pub status : isStatus (getD s 5 0) ≡ true
+  pub letter-is : r .head .information ≡ getD s 29 0
+  pub status-is : r .head .status ≡ getD s 5 0
+
+pub lettered : (s : List ℕ) (r : StaticReply) → read reply s ≡ gives r → Lettered s r
+lettered s r e =
+    let g = given s r e in
+    let h = head-fine (headAt s) _ (g .fine) in
+    record { letter = h .letter; status = h .status; letter-is = ap (λ (x : StaticReply). x .head .information) (g .is); status-is = ap (λ (x : StaticReply). x .head .status) (g .is) }
 
 pub label-is-read : LabelIsRead
 unfolding labelAt

@@ -10,6 +10,7 @@ pub mod TimingLaws
 pub mod RequestLaws
 pub mod ReplyLaws
 pub mod LabelLaws
+pub mod LetterLaws
 pub mod DigitLaws
 pub mod CheckLaws
 pub mod DynamicLaws

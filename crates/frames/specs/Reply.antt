@@ -6,7 +6,7 @@ use mathlib.Core.Path.{_≡_}
 use mathlib.Core.Bool.{Bool, true, false, cond, _||_}
 use lib.ListN.{length, getD, replicate}
 use lib.Dec.{leb, eqb}
-use Rattle.digits.specs.Text.{codes, oneOf}
+use Rattle.digits.specs.Text.{codes, oneOf, placeOf}
 use Rattle.digits.specs.Told.{Told, gives, refuses}
 use Rattle.frames.specs.declared.refusals.ReadVerdict.{ReadVerdict}
 use Rattle.frames.specs.declared.refusals.ReadVerdict.the-variants.{Read, Refused}
@@ -26,9 +26,16 @@ use Rattle.frames.specs.Layout.{Layout, field, within}
 use Rattle.frames.specs.Kind.{Kind, read}
 use Rattle.frames.specs.Timing.{Times, timingKind, timed}
 
--- 33 letters: the request's without L t * l b c d q
+-- 33 letters: the request's without L t * l b c d q, in its order
+abbrev pub letters : List ℕ
+letters = codes "0123456789AQPaSsTKRGHhIiJjpkugWwX"
+
 unfoldable pub isLetter : ℕ → Bool
-isLetter = oneOf (codes "0123456789AQPaSsTKRGHhIiJjpkugWwX")
+isLetter = oneOf letters
+
+-- the place of a letter among the 33, or 33 if it is none of them
+unfoldable pub letterPlace : ℕ → ℕ
+letterPlace = placeOf letters
 
 unfoldable pub isReplyChannel : ℕ → Bool
 isReplyChannel v = leb v 240 || eqb v 245 || eqb v 248 || eqb v 249 || eqb v 250 || eqb v 255
@@ -50,14 +57,14 @@ pub record Tail : Type 0 where
 
 -- the layout from the bib on, by the least run, the field of the physical channel, the rule for the letter, and the kind of time and date for each letter
 unfoldable pub fromBib : ℕ → Field ℕ → (ℕ → Bool) → (ℕ → TimingKind) → Layout Tail
-fromBib least physicalChannel letters kind =
+fromBib least physicalChannel legal kind =
     field 12 (numberTo 5 59999) (λ t. t .bib) λ bib.
     field 17 (numberTo 3 199) (λ t. t .group) λ group.
     field 20 (numberBy 3 2 (between least 250)) (λ t. t .run) λ run.
     field 23 physicalChannel (λ t. t .physical) λ physical.
     -- logical channel
     field 26 (numberBy 3 2 isReplyChannel) (λ t. t .channel) λ channel.
-    field 29 (letter letters) (λ t. t .information) λ information.
+    field 29 (letter legal) (λ t. t .information) λ information.
     within (λ t. t .times)
     (λ times. record { bib = bib; group = group; run = run; physical = physical; channel = channel; information = information; times = times })
     (timed (kind information))

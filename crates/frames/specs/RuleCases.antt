@@ -1,6 +1,6 @@
 -- All values that each rule for letters and channels takes, lowest first.
 use Prim.Native.Nat.{ℕ, zero, suc}
-use mathlib.Core.List.{List, [], _∷_, _++_}
+use mathlib.Core.List.{List, [], _∷_, _++_, map}
 use mathlib.Core.Bool.{Bool, true, false, cond}
 use mathlib.Core.Path.{_≡_}
 use lib.ListN.{drop}
@@ -9,7 +9,7 @@ use Rattle.digits.specs.Text.{codes}
 use Rattle.frames.specs.declared.timing.TimingKind.{TimingKind}
 use Rattle.frames.specs.declared.timing.TimingKind.the-variants.{Clock as clockKind, Net as netKind, Raw as rawKind}
 use Rattle.frames.specs.Rules.{isAddress, isRequester, isOutput, isRaw}
-use Rattle.frames.specs.Status.{isStatus}
+use Rattle.frames.specs.Status.{isStatus, statusPlace}
 use Rattle.frames.specs.Request as Q
 use Rattle.frames.specs.Timing.{timingKind, isSign}
 use Rattle.frames.specs.Reply as P
@@ -42,6 +42,11 @@ pub record RulesWorked : Type 0 where
   -- 41 letters of a request; 33 of a reply, which are those without * L b c d l q t
   pub information : taken Q.isInformation 256 ≡ codes "*0123456789AGHIJKLPQRSTWXabcdghijklpqstuw"
   pub letters : taken P.isLetter 256 ≡ codes "0123456789AGHIJKPQRSTWXaghijkpsuw"
+  -- the places of letters and statuses in the tally; 33 and 3 are no places
+  pub letter-places : map P.letterPlace (codes "0123456789AQPaSsTKRGHhIiJjpkugWwX")
+      ≡ 0 ∷ 1 ∷ 2 ∷ 3 ∷ 4 ∷ 5 ∷ 6 ∷ 7 ∷ 8 ∷ 9 ∷ 10 ∷ 11 ∷ 12 ∷ 13 ∷ 14 ∷ 15 ∷ 16 ∷ 17 ∷ 18 ∷ 19 ∷ 20 ∷ 21 ∷ 22 ∷ 23 ∷ 24 ∷ 25 ∷ 26 ∷ 27 ∷ 28 ∷ 29 ∷ 30 ∷ 31 ∷ 32 ∷ []
+  pub no-letter-place : map P.letterPlace (codes "L*tq") ≡ 33 ∷ 33 ∷ 33 ∷ 33 ∷ []
+  pub status-places : map statusPlace (codes "REZr") ≡ 0 ∷ 1 ∷ 2 ∷ 3 ∷ []
   pub statuses : taken isStatus 256 ≡ codes "ERZ"
   pub orders : taken D.isOrder 256 ≡ codes "ABTabt"
   pub signs : taken isSign 256 ≡ codes "+-"

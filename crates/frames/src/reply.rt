@@ -35,8 +35,8 @@ ghost use lib.ListN.{length, replicate};
 ghost use Rattle.frames.specs.Kind.{wrongIn, Wrote};
 ghost use Rattle.frames.specs.inside.Reply as I;
 ghost use Rattle.frames.specs.inside.Spoiled.{headByte, replyByte};
-ghost use Rattle.frames.specs.Status.{isStatus};
-ghost use Rattle.frames.specs.Reply.{isLetter, isReplyChannel, leastRun, reply, zeroHead, zeroReply, ReadAs, checkTold, CheckedAs};
+ghost use Rattle.frames.specs.Status.{isStatus, statusPlace};
+ghost use Rattle.frames.specs.Reply.{isLetter, letterPlace, isReplyChannel, leastRun, reply, zeroHead, zeroReply, ReadAs, checkTold, CheckedAs};
 
 pub const REPLY_LEAD: u8 = 18;
 
@@ -95,6 +95,11 @@ pub const STATUS_Z: u8 = b'Z';
 const LETTERS_LOW: u64 = 0x3ff_0000_0000_0000;
 
 const LETTERS_HIGH: u64 = 0xa9_0f82_019f_0f82;
+
+// How many letters and how many statuses a reply can have.
+pub const LETTERS: usize = 33;
+
+pub const STATUSES: usize = 3;
 
 // The parts before time and date. Address, letters, program and mode are held by their codes.
 #[repr(C)]
@@ -415,6 +420,60 @@ pub(crate) fn is_letter(b: u8) -> bool
     ensures { λ r. ⌜ r ≡ isLetter b ⌝ }
 {
     in_set(LETTERS_LOW, LETTERS_HIGH, b)
+}
+
+// The place of a letter among the 33, or LETTERS if it is none of them. The compiler makes a table of it; is_letter, which is asked more often, needs none.
+pub fn letter_place(letter: u8) -> usize
+    ensures { λ r. ⌜ r ≡ letterPlace letter ⌝ }
+{
+    match letter {
+        b'0' => 0,
+        b'1' => 1,
+        b'2' => 2,
+        b'3' => 3,
+        b'4' => 4,
+        b'5' => 5,
+        b'6' => 6,
+        b'7' => 7,
+        b'8' => 8,
+        b'9' => 9,
+        b'A' => 10,
+        b'Q' => 11,
+        b'P' => 12,
+        b'a' => 13,
+        b'S' => 14,
+        b's' => 15,
+        b'T' => 16,
+        b'K' => 17,
+        b'R' => 18,
+        b'G' => 19,
+        b'H' => 20,
+        b'h' => 21,
+        b'I' => 22,
+        b'i' => 23,
+        b'J' => 24,
+        b'j' => 25,
+        b'p' => 26,
+        b'k' => 27,
+        b'u' => 28,
+        b'g' => 29,
+        b'W' => 30,
+        b'w' => 31,
+        b'X' => 32,
+        _ => LETTERS,
+    }
+}
+
+// The place of a status among the three, or STATUSES if it is none of them.
+pub fn status_place(status: u8) -> usize
+    ensures { λ r. ⌜ r ≡ statusPlace status ⌝ }
+{
+    match status {
+        STATUS_R => 0,
+        STATUS_E => 1,
+        STATUS_Z => 2,
+        _ => STATUSES,
+    }
 }
 
 pub(crate) fn is_reply_channel(v: u32) -> bool

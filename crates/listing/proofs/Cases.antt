@@ -6,10 +6,10 @@ use mathlib.Core.List.{List, [], _∷_, _++_}
 use mathlib.Core.Path.{_≡_, refl, ap, _∙_}
 use lib.ListN.{length, drop, replicate}
 use Rattle.digits.specs.Digits.{digits, numberAt, numberFrom}
-use Rattle.digits.specs.Text.{codes, oneOf}
+use Rattle.digits.specs.Text.{codes, oneOf, placeOf}
 use Rattle.times.specs.Clock.{ticksOf}
 use Rattle.frames.specs.Rules.{between, upTo, isAddress, isRaw, isRequester, isOutput}
-use Rattle.frames.specs.Status.{isStatus}
+use Rattle.frames.specs.Status.{isStatus, statusPlace}
 use Rattle.frames.specs.Shape.{allFrom}
 use Rattle.frames.specs.Layout.{fieldsOf}
 use Rattle.frames.specs.Kind.{headTold, read}
@@ -29,6 +29,7 @@ use Rattle.desk.specs.Step.{step}
 use Rattle.desk.specs.Seats.{keyed, seatWith, lowestClear}
 use Rattle.desk.specs.declared.capture.Counts.{Counts}
 use Rattle.desk.specs.Memory.{Memory, capacityOf, recordsOf}
+use Rattle.desk.specs.Tally.{heldOf, entryRight, tallyRight}
 use Rattle.desk.specs.Desk.{isZero, markNames, lastEnds, isDesk}
 use Rattle.desk.specs.Calls.{keyTried, requestTried, openTried, opens, seatTried, labelTried, replyTried, replies}
 use Rattle.desk.specs.Capture.{meets, fates, afterAll, howMany, countsOf}
@@ -82,17 +83,19 @@ kept = record {
   count = 3;
   cells = closed 18 "R SORA0000700022003014015006P010203040506070809  " ++ (closed 18 "R3SOR10001200009004001002003P111213141516171819  " ++ (closed 18 "R SOEA0000700015003014015006P212223242526272829  " ++ replicate 51 0));
   marks = 0 ∷ 1 ∷ 0 ∷ 0 ∷ [];
+  -- three with P: two R and one E
+  tally = replicate 12 (replicate 3 0) ++ (2 ∷ 1 ∷ 0 ∷ []) ∷ replicate 20 (replicate 3 0);
 }
 
 abbrev four : Counts
 four = record { opened = 2; collected = 3; dynamic = 1; refused = 2 }
 
 after-small : afterAll (store (replicate 204 0) (replicate 4 0)) found ≡ kept
-unfolding numberAt numberFrom oneOf ticksOf between upTo isAddress isRaw isRequester isOutput allFrom fieldsOf headTold read timingKind timed Q.isInformation Q.isRequestChannel Q.requestFields isStatus P.isLetter P.isReplyChannel P.leastRun P.fromBib P.replyFields D.isOrder D.isDynamicChannel D.leastPeriod D.dynamicFields allBelow countBelow first sameKey isKey heard ends inPlace keyed seatWith lowestClear capacityOf isZero markNames lastEnds isDesk keyTried requestTried openTried opens step seatTried labelTried replyTried replies meets fates afterAll howMany
+unfolding numberAt numberFrom oneOf ticksOf between upTo isAddress isRaw isRequester isOutput allFrom fieldsOf headTold read timingKind timed Q.isInformation Q.isRequestChannel Q.requestFields isStatus P.isLetter P.isReplyChannel P.leastRun P.fromBib P.replyFields D.isOrder D.isDynamicChannel D.leastPeriod D.dynamicFields allBelow countBelow first sameKey isKey heard ends inPlace keyed seatWith lowestClear capacityOf isZero markNames lastEnds placeOf P.letterPlace statusPlace heldOf entryRight tallyRight isDesk keyTried requestTried openTried opens step seatTried labelTried replyTried replies meets fates afterAll howMany
 after-small = refl
 
 counts-small : countsOf (fates (store (replicate 204 0) (replicate 4 0)) found) ≡ four
-unfolding numberAt numberFrom oneOf ticksOf between upTo isAddress isRaw isRequester isOutput allFrom fieldsOf headTold read timingKind timed Q.isInformation Q.isRequestChannel Q.requestFields isStatus P.isLetter P.isReplyChannel P.leastRun P.fromBib P.replyFields D.isOrder D.isDynamicChannel D.leastPeriod D.dynamicFields allBelow countBelow first sameKey isKey heard ends inPlace keyed seatWith lowestClear capacityOf isZero markNames lastEnds isDesk keyTried requestTried openTried opens step seatTried labelTried replyTried replies meets fates afterAll howMany
+unfolding numberAt numberFrom oneOf ticksOf between upTo isAddress isRaw isRequester isOutput allFrom fieldsOf headTold read timingKind timed Q.isInformation Q.isRequestChannel Q.requestFields isStatus P.isLetter P.isReplyChannel P.leastRun P.fromBib P.replyFields D.isOrder D.isDynamicChannel D.leastPeriod D.dynamicFields allBelow countBelow first sameKey isKey heard ends inPlace keyed seatWith lowestClear capacityOf isZero markNames lastEnds placeOf P.letterPlace statusPlace heldOf entryRight tallyRight isDesk keyTried requestTried openTried opens step seatTried labelTried replyTried replies meets fates afterAll howMany
 counts-small = refl
 
 text-small : listText kept four

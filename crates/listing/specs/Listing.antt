@@ -12,6 +12,7 @@ use Rattle.desk.specs.declared.capture.Counts.{Counts}
 use Rattle.desk.specs.Limits.{seatCount}
 use Rattle.desk.specs.Memory.{Memory, heldBy}
 use Rattle.desk.specs.Calls.{emptyRow}
+use Rattle.desk.specs.Tally.{emptyTally}
 use Rattle.desk.specs.Capture.{fates, afterAll, countsOf}
 use Rattle.listing.specs.declared.ListAnswer.{ListAnswer}
 use Rattle.listing.specs.declared.ListAnswer.the-variants.{Written, Room}
@@ -21,9 +22,9 @@ use Rattle.listing.specs.Text.{heading, rowsText, endText, tooLong}
 abbrev pub mostInput : ℕ
 mostInput = 32768
 
--- an emptied desk on lent cells and marks
+-- an emptied desk on lent cells and marks; its tally is not lent
 abbrev pub store : List ℕ → List ℕ → Memory
-store cells marks = record { row = emptyRow; bits = 0; count = 0; cells = cells; marks = marks }
+store cells marks = record { row = emptyRow; bits = 0; count = 0; cells = cells; marks = marks; tally = emptyTally }
 
 -- the rows of the seats below n, the lowest seat first, each seat's rows in order
 unfoldable pub seatsText : Memory → ℕ → List ℕ

@@ -10,6 +10,8 @@ use desk::limits::CELLS;
 use desk::limits::STORE;
 use desk::state::reset;
 use digits::put_bytes;
+use frames::reply::LETTERS;
+use frames::reply::STATUSES;
 use line::LONGEST_END;
 use line::LONGEST_ROW;
 use line::put_end;
@@ -76,10 +78,11 @@ pub fn list(capture: &[u8], cells: &mut [u8], marks: &mut [u32], out: &mut [u8])
 fn take(cells: &mut [u8], marks: &mut [u32], capture: &[u8]) -> Taken
     ensures { λ r. ⌜ TakenAs (now (cells .entry)) (now (marks .entry)) (now (capture .entry)) r (now (cells .exit)) (now (marks .exit)) ⌝ }
 {
-    let e = reset();
+    let mut tally = [[0u32; STATUSES]; LETTERS];
+    let e = reset(&mut tally);
     let state = e.desk;
     let row = e.row;
-    let d = take_capture(state, row, cells, marks, capture);
+    let d = take_capture(state, row, cells, marks, &mut tally, capture);
     let answer = d.answer;
     let after = d.desk;
     match answer {

@@ -6,7 +6,7 @@ use mathlib.Core.Path.{_≡_, refl, ap, _∙_}
 use Rattle.digits.specs.Refusals.{DESK}
 use Rattle.digits.specs.Told.{gives, tried}
 use Rattle.digits.specs.Digits.{digits, numberAt, numberFrom}
-use Rattle.digits.specs.Text.{oneOf}
+use Rattle.digits.specs.Text.{oneOf, placeOf}
 use Rattle.times.specs.Clock.{ticksOf}
 use Rattle.times.specs.Day.{leap, monthLength, realDay}
 use Rattle.times.specs.Net.{isNet}
@@ -16,7 +16,7 @@ use Rattle.frames.specs.Shape.{allFrom}
 use Rattle.frames.specs.Classes.{digitFrom, firstOff}
 use Rattle.frames.specs.Layout.{fieldsOf, recordWrong, write}
 use Rattle.frames.specs.Kind.{headTold, read, wrongIn, writeTried, frameOf}
-use Rattle.frames.specs.Status.{isStatus}
+use Rattle.frames.specs.Status.{isStatus, statusPlace}
 use Rattle.frames.specs.Timing.{timingKind, isSign, timed}
 use Rattle.frames.specs.Request as Q
 use Rattle.frames.specs.declared.reply.StaticReply.{StaticReply}
@@ -33,6 +33,7 @@ use Rattle.desk.specs.Hearing.{heard, ends, inPlace}
 use Rattle.desk.specs.Step.{step}
 use Rattle.desk.specs.Seats.{keyed, seatWith, lowestClear}
 use Rattle.desk.specs.Memory.{Memory, capacityOf, recordsOf}
+use Rattle.desk.specs.Tally.{heldOf, entryRight, tallyRight, looks}
 use Rattle.desk.specs.Desk.{isZero, markNames, lastEnds, isDesk}
 use Rattle.desk.specs.Calls.{keyTried, requestTried, openTried, opens, seatTried, labelTried, replyTried, replies, resets, nextHeld}
 use Rattle.desk.specs.Capture.{captures, countsOf, meets, fates, afterAll, howMany}
@@ -46,7 +47,7 @@ use Rattle.rei2.specs.declared.lent.CapturedAnswer.{CapturedAnswer}
 use Rattle.rei2.specs.Lent.{stateIn, captureAnswer, capturedOf}
 use Rattle.rei2.specs.Reply.{timingOf, leftOver, wrongInC}
 use Rattle.rei2.specs.Names.{names, nameOf}
-use Rattle.rei2.specs.Cases.{FramesFound, CellsHeld, DeskCalls, CapturesTaken, FramesRead, FramesWritten, TimingNumbered, OtherCalls, NamesWritten, Lends, Worked}
+use Rattle.rei2.specs.Cases.{FramesFound, CellsHeld, DeskCalls, CapturesTaken, FramesRead, FramesWritten, TimingNumbered, OtherCalls, NamesWritten, Looked, Lends, Worked}
 
 frames-found : FramesFound
 unfolding oneOf isLead walk piecesFrom foundFrom
@@ -57,7 +58,7 @@ unfolding first capacityOf nextHeld
 cells-held = record { first = refl; later = refl; no-more = refl; not-held = refl }
 
 desk-calls : DeskCalls
-unfolding numberAt numberFrom oneOf between upTo isAddress isRaw isRequester isOutput allFrom fieldsOf headTold read timingKind timed Q.isInformation Q.isRequestChannel Q.requestFields isStatus P.isLetter P.isReplyChannel P.leastRun P.fromBib P.replyFields allBelow countBelow first sameKey isKey heard ends inPlace keyed seatWith lowestClear capacityOf isZero markNames lastEnds isDesk keyTried requestTried openTried opens step seatTried labelTried replyTried replies resets run firstOff digitFrom
+unfolding numberAt numberFrom oneOf between upTo isAddress isRaw isRequester isOutput allFrom fieldsOf headTold read timingKind timed Q.isInformation Q.isRequestChannel Q.requestFields isStatus P.isLetter P.isReplyChannel P.leastRun P.fromBib P.replyFields allBelow countBelow first sameKey isKey heard ends inPlace keyed seatWith lowestClear capacityOf isZero markNames lastEnds placeOf P.letterPlace statusPlace heldOf entryRight tallyRight isDesk keyTried requestTried openTried opens step seatTried labelTried replyTried replies resets run firstOff digitFrom
 desk-calls = record {
   emptied = refl;
   not-emptied = refl;
@@ -116,7 +117,7 @@ unfolding oneOf isLead walk piecesFrom
 request-and-leads = refl
 
 captures-taken : CapturesTaken
-unfolding capturedBy numberAt numberFrom oneOf between upTo isAddress isRaw isRequester isOutput allFrom fieldsOf headTold read timingKind timed Q.isInformation Q.isRequestChannel Q.requestFields isStatus P.isLetter P.isReplyChannel P.leastRun P.fromBib P.replyFields D.isOrder D.isDynamicChannel D.leastPeriod D.dynamicFields ticksOf allBelow countBelow first sameKey isKey heard ends inPlace keyed seatWith lowestClear capacityOf isZero markNames lastEnds isDesk keyTried requestTried openTried opens step seatTried labelTried replyTried replies meets fates afterAll howMany firstOff digitFrom
+unfolding capturedBy numberAt numberFrom oneOf between upTo isAddress isRaw isRequester isOutput allFrom fieldsOf headTold read timingKind timed Q.isInformation Q.isRequestChannel Q.requestFields isStatus P.isLetter P.isReplyChannel P.leastRun P.fromBib P.replyFields D.isOrder D.isDynamicChannel D.leastPeriod D.dynamicFields ticksOf allBelow countBelow first sameKey isKey heard ends inPlace keyed seatWith lowestClear capacityOf isZero markNames lastEnds placeOf P.letterPlace statusPlace heldOf entryRight tallyRight isDesk keyTried requestTried openTried opens step seatTried labelTried replyTried replies meets fates afterAll howMany firstOff digitFrom
 captures-taken = record {
   asked-and-cut = captured-by bare _ _ _ request-and-leads refl;
   replied = captured-by asked _ _ _ one-reply refl;
@@ -193,6 +194,10 @@ names-written = record {
   no-bytes = λ _ _ w. w .bytes;
 }
 
+looked : Looked
+unfolding oneOf placeOf isStatus statusPlace P.isLetter P.letterPlace looks
+looked = record { first = refl; middle = refl; last = refl; request-letter = refl; lower-status = refl; no-letter = refl }
+
 lends : Lends
 unfolding widthWithin width T.columns longestRow longestEnd
 lends = record { limits-are = refl }
@@ -208,5 +213,6 @@ worked = record {
   timing-numbered = timing-numbered;
   other-calls = other-calls;
   names-written = names-written;
+  looked = looked;
   lends = lends;
 }

@@ -24,24 +24,24 @@ use Rattle.rei2.specs.Lent.{answerOf, LentCall}
 use Rattle.rei2.specs.Chain.{Chain, none, opened, replied, answersOf, ChainsRun, SortsLentCalls}
 
 -- the memory that a call leaves is that of the outcome
-left : (o : Outcome) (r : DeskAnswer) (seats : List Seat) (cells marks : List ℕ) → LentCall o r seats cells marks → memory (r .desk) seats cells marks ≡ o .after
-left o r seats cells marks h = λ i. record { row = h .seats i; bits = h .answer i .desk .bits; count = h .answer i .desk .count; cells = h .cells i; marks = h .marks i }
+left : (o : Outcome) (r : DeskAnswer) (seats : List Seat) (cells marks : List ℕ) (tally : List (List ℕ)) → LentCall o r seats cells marks tally → memory (r .desk) seats cells marks tally ≡ o .after
+left o r seats cells marks tally h = λ i. record { row = h .seats i; bits = h .answer i .desk .bits; count = h .answer i .desk .count; cells = h .cells i; marks = h .marks i; tally = h .tally i }
 
 -- one more call in front
-module _ (o : Outcome) (r : DeskAnswer) (seats : List Seat) (cells marks : List ℕ) (h : LentCall o r seats cells marks) where
-  one-more : (es : List Event) (rs : List DeskAnswer) (m : Memory) → (m ≡ run (memory (r .desk) seats cells marks) es) × (rs ≡ answersOf (memory (r .desk) seats cells marks) es)
+module _ (o : Outcome) (r : DeskAnswer) (seats : List Seat) (cells marks : List ℕ) (tally : List (List ℕ)) (h : LentCall o r seats cells marks tally) where
+  one-more : (es : List Event) (rs : List DeskAnswer) (m : Memory) → (m ≡ run (memory (r .desk) seats cells marks tally) es) × (rs ≡ answersOf (memory (r .desk) seats cells marks tally) es)
       → (m ≡ run (o .after) es) × (r ∷ rs ≡ answerOf o ∷ answersOf (o .after) es)
   one-more es rs m k =
-      let e = left o r seats cells marks h in
+      let e = left o r seats cells marks tally h in
       (k .0 ∙ ap (λ (x : Memory). run x es) e, λ i. h .answer i ∷ (k .1 ∙ ap (λ (x : Memory). answersOf x es) e) i)
 
 chain-runs : {m m′ : Memory} {es : List Event} {rs : List DeskAnswer} → Chain m es rs m′ → (m′ ≡ run m es) × (rs ≡ answersOf m es)
 unfolding run answersOf
 chain-runs none = (refl, refl)
-chain-runs (opened {seats = seats} {desk = desk} {cells = cells} {marks = marks} {frame = frame} {es = es} h c) =
-    one-more (opens (memory desk seats cells marks) frame) _ _ _ _ h es _ _ (chain-runs c)
-chain-runs (replied {seats = seats} {desk = desk} {cells = cells} {marks = marks} {frame = frame} {es = es} h c) =
-    one-more (replies (memory desk seats cells marks) frame) _ _ _ _ h es _ _ (chain-runs c)
+chain-runs (opened {seats = seats} {desk = desk} {cells = cells} {marks = marks} {frame = frame} {tally = tally} {es = es} h c) =
+    one-more (opens (memory desk seats cells marks tally) frame) _ _ _ _ _ h es _ _ (chain-runs c)
+chain-runs (replied {seats = seats} {desk = desk} {cells = cells} {marks = marks} {frame = frame} {tally = tally} {es = es} h c) =
+    one-more (replies (memory desk seats cells marks tally) frame) _ _ _ _ _ h es _ _ (chain-runs c)
 
 pub chains-run : ChainsRun
 chains-run m m′ es rs c = chain-runs c
@@ -67,13 +67,13 @@ run-parts m (g ∷ before) after f = run-parts (opens m g .after) before after f
 -- ---- mixed replies
 
 pub sorts-lent-calls : SortsLentCalls
-sorts-lent-calls seats desk cells marks empty seats₀ hr z before after rs₁ rs₂ desk₁ seats₁ cells₁ marks₁ c₁ f r answer seats₂ ho zo reads m c₂ es rs m′ c₃ st room =
-    let w : Memory = memory desk seats cells marks in
-    let x : Memory = memory desk₁ seats₁ cells₁ marks₁ in
-    let e₀ : memory (empty .desk) seats₀ cells marks ≡ emptied w =
-    left (resets w) empty seats₀ cells marks (hr cells marks) ∙ reset-done w (sym (ap (λ (a : DeskAnswer). a .refusal) (hr cells marks .answer)) ∙ z) in
+sorts-lent-calls seats desk cells marks tally empty seats₀ tally₀ hr z before after rs₁ rs₂ desk₁ seats₁ cells₁ marks₁ tally₁ c₁ f r answer seats₂ ho zo reads m c₂ es rs m′ c₃ st room =
+    let w : Memory = memory desk seats cells marks tally in
+    let x : Memory = memory desk₁ seats₁ cells₁ marks₁ tally₁ in
+    let e₀ : memory (empty .desk) seats₀ cells marks tally₀ ≡ emptied w =
+    left (resets w) empty seats₀ cells marks tally₀ (hr cells marks) ∙ reset-done w (sym (ap (λ (a : DeskAnswer). a .refusal) (hr cells marks .answer)) ∙ z) in
     let e₁ : x ≡ run (emptied w) (openings before) = chain-runs c₁ .0 ∙ ap (λ (y : Memory). run y (openings before)) e₀ in
-    let e₂ : m ≡ run (opens x f .after) (openings after) = chain-runs c₂ .0 ∙ ap (λ (y : Memory). run y (openings after)) (left (opens x f) answer seats₂ cells₁ marks₁ ho) in
+    let e₂ : m ≡ run (opens x f .after) (openings after) = chain-runs c₂ .0 ∙ ap (λ (y : Memory). run y (openings after)) (left (opens x f) answer seats₂ cells₁ marks₁ tally₁ ho) in
     let e : run (emptied w) (openings (before ++ f ∷ after)) ≡ m =
     run-parts (emptied w) before after f ∙ ap (λ (y : Memory). run (opens y f .after) (openings after)) (sym e₁) ∙ sym e₂ in
     let s : opens x f .answer ≡ gives (answer .seat) =

@@ -45,15 +45,15 @@ module _ (m : Memory) where
   capture-kept s n = is-refusal (captures m s .answer) n (D.refused-keeps .capture m s)
 
 -- if the memory is as it was, so is all that is lent
-lent-kept : {A : Type 0} {says r : A} {after : Memory} {seats : List Seat} {cells marks : List ℕ} (m : Memory) → Lent says after r seats cells marks → after ≡ m
-    → (seats ≡ m .row) × ((cells ≡ m .cells) × (marks ≡ m .marks))
+lent-kept : {A : Type 0} {says r : A} {after : Memory} {seats : List Seat} {cells marks : List ℕ} {tally : List (List ℕ)} (m : Memory) → Lent says after r seats cells marks tally → after ≡ m
+    → (seats ≡ m .row) × ((cells ≡ m .cells) × ((marks ≡ m .marks) × (tally ≡ m .tally)))
 lent-kept m h e =
-    (h .seats ∙ ap (λ (x : Memory). x .row) e, (h .cells ∙ ap (λ (x : Memory). x .cells) e, h .marks ∙ ap (λ (x : Memory). x .marks) e))
+    (h .seats ∙ ap (λ (x : Memory). x .row) e, (h .cells ∙ ap (λ (x : Memory). x .cells) e, (h .marks ∙ ap (λ (x : Memory). x .marks) e, h .tally ∙ ap (λ (x : Memory). x .tally) e)))
 
 call-kept : (o : Outcome) (m : Memory) → (Refusing (numberIn (o .answer)) → o .after ≡ m)
-    → (r : DeskAnswer) (seats : List Seat) (cells marks : List ℕ) → LentCall o r seats cells marks → Refusing (r .refusal)
-    → (r .desk ≡ stateIn m) × ((seats ≡ m .row) × ((cells ≡ m .cells) × (marks ≡ m .marks)))
-call-kept o m keeps r seats cells marks h n =
+    → (r : DeskAnswer) (seats : List Seat) (cells marks : List ℕ) (tally : List (List ℕ)) → LentCall o r seats cells marks tally → Refusing (r .refusal)
+    → (r .desk ≡ stateIn m) × ((seats ≡ m .row) × ((cells ≡ m .cells) × ((marks ≡ m .marks) × (tally ≡ m .tally))))
+call-kept o m keeps r seats cells marks tally h n =
     let e : o .after ≡ m = keeps (λ z. n (ap (λ (x : DeskAnswer). x .refusal) (h .answer) ∙ z)) in
     (ap (λ (x : DeskAnswer). x .desk) (h .answer) ∙ ap stateIn e, lent-kept m h e)
 
@@ -69,17 +69,17 @@ module _ (cells marks s out : List ℕ) where
 
 pub refused-keeps : RefusedKeeps
 refused-keeps = record {
-  reset = λ seats desk r seats′ h n.
-      let m = memory desk seats [] [] in
-      let k = call-kept (resets m) m (reset-kept m) r seats′ [] [] (h [] []) n in (k .0, k .1 .0);
-  opening = λ seats desk cells marks frame r seats′ h n.
-      let m = memory desk seats cells marks in
-      let k = call-kept (opens m frame) m (opening-kept m frame) r seats′ cells marks h n in (k .0, k .1 .0);
-  reply = λ seats desk cells marks frame.
-      let m = memory desk seats cells marks in
+  reset = λ seats desk tally r seats′ tally′ h n.
+      let m = memory desk seats [] [] tally in
+      let k = call-kept (resets m) m (reset-kept m) r seats′ [] [] tally′ (h [] []) n in (k .0, (k .1 .0, k .1 .1 .1 .1));
+  opening = λ seats desk cells marks tally frame r seats′ h n.
+      let m = memory desk seats cells marks tally in
+      let k = call-kept (opens m frame) m (opening-kept m frame) r seats′ cells marks tally h n in (k .0, k .1 .0);
+  reply = λ seats desk cells marks tally frame.
+      let m = memory desk seats cells marks tally in
       call-kept (replies m frame) m (reply-kept m frame);
-  capture = λ seats desk cells marks capture r seats′ cells′ marks′ h n.
-      let m = memory desk seats cells marks in
+  capture = λ seats desk cells marks tally capture r seats′ cells′ marks′ tally′ h n.
+      let m = memory desk seats cells marks tally in
       let e : captures m capture .after ≡ m = capture-kept m capture (λ z. n (ap (λ (x : CapturedAnswer). x .refusal) (h .answer) ∙ z)) in
       (ap (λ (x : CapturedAnswer). x .desk) (h .answer) ∙ ap stateIn e, lent-kept m h e);
   writing = λ k r out answer out′ h n.

@@ -15,6 +15,7 @@ use Rattle.desk.specs.Memory.{Memory, memory}
 use Rattle.desk.specs.Desk.{isDesk}
 use Rattle.desk.specs.Calls.{Outcome, resets, opens, openTried, replies, replyTried}
 use Rattle.desk.proofs.KeepsLaws.{keeps-memory}
+use Rattle.desk.proofs.LookLaws.{looks-are-right}
 use Rattle.rei2.specs.declared.lent.DeskAnswer.{DeskAnswer}
 use Rattle.rei2.specs.declared.lent.CapturedAnswer.{CapturedAnswer}
 use Rattle.rei2.specs.declared.lent.Out.{Out}
@@ -54,9 +55,14 @@ module _ (m : Memory) (f : List ℕ) (e : isDesk m ≡ false) where
 
 -- ---- a reset looks at neither cells nor marks, and leaves them
 
-reset-looks-at-none : (row : List Seat) (d : Desk) (cells marks : List ℕ) → outOf (resets (memory d row [] [])) ≡ outOf (resets (memory d row cells marks))
-unfolding resets
-reset-looks-at-none row d cells marks = by-test (eqb (length row) seatCount) (λ b. rw b) (λ b. rw b)
+module _ (row : List Seat) (d : Desk) (tally : List (List ℕ)) (cells marks : List ℕ) where
+  reset-looks-at-none : outOf (resets (memory d row [] [] tally)) ≡ outOf (resets (memory d row cells marks tally))
+  unfolding resets
+  reset-looks-at-none = by-test (eqb (length row) seatCount) (λ b. rw b) (λ b. rw b)
+
+  reset-tally : resets (memory d row [] [] tally) .after .tally ≡ resets (memory d row cells marks tally) .after .tally
+  unfolding resets
+  reset-tally = by-test (eqb (length row) seatCount) (λ b. rw b) (λ b. rw b)
 
 module _ (m : Memory) where
   reset-cells : m .cells ≡ resets m .after .cells
@@ -70,38 +76,47 @@ module _ (m : Memory) where
 -- ---- the promises
 
 module _ (v-seats : List Seat) (v-desk : Desk) where
-  pub done-reset : (r : Out) → CoreReset v-seats v-desk r → ResetLent v-seats v-desk (r .answer) (r .row)
-  done-reset r e cells marks =
-      let same : r ≡ outOf (resets (memory v-desk v-seats cells marks)) = e ∙ reset-looks-at-none v-seats v-desk cells marks in
-      record { answer = λ i. same i .answer; seats = λ i. same i .row; cells = reset-cells (memory v-desk v-seats cells marks); marks = reset-marks (memory v-desk v-seats cells marks) }
+  module _ (v-tally : List (List ℕ)) where
+    pub done-reset : (r : Out) (tally′ : List (List ℕ)) → CoreReset v-seats v-desk v-tally r tally′ → ResetLent v-seats v-desk v-tally (r .answer) (r .row) tally′
+    done-reset r tally′ e cells marks =
+        let same : r ≡ outOf (resets (memory v-desk v-seats cells marks v-tally)) = e .0 ∙ reset-looks-at-none v-seats v-desk v-tally cells marks in
+        record {
+          answer = λ i. same i .answer;
+          seats = λ i. same i .row;
+          cells = reset-cells (memory v-desk v-seats cells marks v-tally);
+          marks = reset-marks (memory v-desk v-seats cells marks v-tally);
+          tally = e .1 ∙ reset-tally v-seats v-desk v-tally cells marks;
+        }
 
-  pub refused-reset : eqb (length v-seats) seatCount ≡ false → ResetLent v-seats v-desk (refusal-reset v-desk) v-seats
-  unfolding resets
-  refused-reset e cells marks = rw e (record { answer = refl; seats = refl; cells = refl; marks = refl })
+    pub refused-reset : eqb (length v-seats) seatCount ≡ false → ResetLent v-seats v-desk v-tally (refusal-reset v-desk) v-seats v-tally
+    unfolding resets
+    refused-reset e cells marks = rw e (record { answer = refl; seats = refl; cells = refl; marks = refl; tally = refl })
 
-  module _ (v-cells v-marks v-frame : List ℕ) where
-    pub done-open : (r : One) → CoreOpen v-seats v-desk v-cells v-marks v-frame r → OpenLent v-seats v-desk v-cells v-marks v-frame (r .answer) (set v-seats (r .at) (r .seat))
-    done-open r e = record { answer = e .answer; seats = e .seats; cells = sym (keeps-memory .opening-cells _ v-frame); marks = sym (keeps-memory .opening-marks _ v-frame) }
+  module _ (v-cells v-marks : List ℕ) (v-tally : List (List ℕ)) (v-frame : List ℕ) where
+    abbrev M : Memory
+    M = memory v-desk v-seats v-cells v-marks v-tally
 
-    pub refused-open : eqb (length v-seats) seatCount ≡ false → OpenLent v-seats v-desk v-cells v-marks v-frame (refusal-open v-desk) v-seats
+    pub done-open : (r : One) → CoreOpen v-seats v-desk v-cells v-marks v-tally v-frame r → OpenLent v-seats v-desk v-cells v-marks v-tally v-frame (r .answer) (set v-seats (r .at) (r .seat))
+    done-open r e =
+        record { answer = e .answer; seats = e .seats; cells = sym (keeps-memory .opening-cells M v-frame); marks = sym (keeps-memory .opening-marks M v-frame); tally = sym (looks-are-right .after-opening M v-frame) }
+
+    pub refused-open : eqb (length v-seats) seatCount ≡ false → OpenLent v-seats v-desk v-cells v-marks v-tally v-frame (refusal-open v-desk) v-seats
     refused-open e =
-        let m : Memory = memory v-desk v-seats v-cells v-marks in
-        subst (λ (o : Outcome). LentCall o (refusal-open v-desk) v-seats v-cells v-marks) (sym (not-opened m v-frame (no-desk m e)))
-        (record { answer = refl; seats = refl; cells = refl; marks = refl })
+        subst (λ (o : Outcome). LentCall o (refusal-open v-desk) v-seats v-cells v-marks v-tally) (sym (not-opened M v-frame (no-desk M e)))
+        (record { answer = refl; seats = refl; cells = refl; marks = refl; tally = refl })
 
-    pub done-reply : (r : One) (cells′ marks′ : List ℕ) → CoreReply v-seats v-desk v-cells v-marks v-frame r cells′ marks′ → ReplyLent v-seats v-desk v-cells v-marks v-frame (r .answer) (set v-seats (r .at) (r .seat)) cells′ marks′
-    done-reply r cells′ marks′ e = record { answer = e .0 .answer; seats = e .0 .seats; cells = e .1 .0; marks = e .1 .1 }
+    pub done-reply : (r : One) (cells′ marks′ : List ℕ) (tally′ : List (List ℕ)) → CoreReply v-seats v-desk v-cells v-marks v-tally v-frame r cells′ marks′ tally′
+        → ReplyLent v-seats v-desk v-cells v-marks v-tally v-frame (r .answer) (set v-seats (r .at) (r .seat)) cells′ marks′ tally′
+    done-reply r cells′ marks′ tally′ e = record { answer = e .0 .answer; seats = e .0 .seats; cells = e .1 .0; marks = e .1 .1 .0; tally = e .1 .1 .1 }
 
-    pub refused-reply : eqb (length v-seats) seatCount ≡ false → ReplyLent v-seats v-desk v-cells v-marks v-frame (refusal-reply v-desk) v-seats v-cells v-marks
+    pub refused-reply : eqb (length v-seats) seatCount ≡ false → ReplyLent v-seats v-desk v-cells v-marks v-tally v-frame (refusal-reply v-desk) v-seats v-cells v-marks v-tally
     refused-reply e =
-        let m : Memory = memory v-desk v-seats v-cells v-marks in
-        subst (λ (o : Outcome). LentCall o (refusal-reply v-desk) v-seats v-cells v-marks) (sym (not-replied m v-frame (no-desk m e)))
-        (record { answer = refl; seats = refl; cells = refl; marks = refl })
+        subst (λ (o : Outcome). LentCall o (refusal-reply v-desk) v-seats v-cells v-marks v-tally) (sym (not-replied M v-frame (no-desk M e)))
+        (record { answer = refl; seats = refl; cells = refl; marks = refl; tally = refl })
 
-    pub done-capture : (r : Captured) (cells′ marks′ : List ℕ) → CoreCapture v-seats v-desk v-cells v-marks v-frame r cells′ marks′ → CaptureLent v-seats v-desk v-cells v-marks v-frame (r .answer) (r .row) cells′ marks′
-    done-capture r cells′ marks′ e = record { answer = λ i. e .0 i .answer; seats = λ i. e .0 i .row; cells = e .1 .0; marks = e .1 .1 }
+    pub done-capture : (r : Captured) (cells′ marks′ : List ℕ) (tally′ : List (List ℕ)) → CoreCapture v-seats v-desk v-cells v-marks v-tally v-frame r cells′ marks′ tally′
+        → CaptureLent v-seats v-desk v-cells v-marks v-tally v-frame (r .answer) (r .row) cells′ marks′ tally′
+    done-capture r cells′ marks′ tally′ e = record { answer = λ i. e .0 i .answer; seats = λ i. e .0 i .row; cells = e .1 .0; marks = e .1 .1 .0; tally = e .1 .1 .1 }
 
-    pub refused-capture : eqb (length v-seats) seatCount ≡ false → CaptureLent v-seats v-desk v-cells v-marks v-frame (refusal-capture v-desk) v-seats v-cells v-marks
-    refused-capture e =
-        let m : Memory = memory v-desk v-seats v-cells v-marks in
-        rw (no-desk m e) (record { answer = refl; seats = refl; cells = refl; marks = refl })
+    pub refused-capture : eqb (length v-seats) seatCount ≡ false → CaptureLent v-seats v-desk v-cells v-marks v-tally v-frame (refusal-capture v-desk) v-seats v-cells v-marks v-tally
+    refused-capture e = rw (no-desk M e) (record { answer = refl; seats = refl; cells = refl; marks = refl; tally = refl })

@@ -5,7 +5,7 @@ use mathlib.Core.Path.{_≡_, refl, sym, ap, _∙_}
 use native.Mathlib.Omega.{arith}
 use native.Mathlib.Nat.{zero-add}
 use mathlib.Core.Bool.{Bool, true, _&&_, and-eq-true-iff}
-use lib.ListN.{length, getD, set, drop, length-append}
+use lib.ListN.{length, getD, set, drop, length-append, List·getD-eq-default}
 use lib.Seq.{sets, sets-eq}
 use lib.Dec.{ltb}
 use borrow.Author.Tests.{ltb-true, lt-ltb, le-ltb}
@@ -13,12 +13,6 @@ use Rattle.digits.specs.Refusals.{ROOM}
 use Rattle.digits.specs.Text.{codes}
 use Rattle.rei2.specs.declared.request.WrittenAnswer.{WrittenAnswer}
 use Rattle.rei2.specs.Names.{names, nameOf, NamesTell, NamedLent, nameSize, NamesFit}
-
--- past the end of a table, `getD` is the default
-past : (table : List (List ℕ)) (n : ℕ) (other : List ℕ) → length table ≤ n → getD table n other ≡ other
-past [] n other l = refl
-past (x ∷ xs) zero other l = absurd (omega (arith, l))
-past (x ∷ xs) (suc n) other l = past xs n other (omega (arith, l))
 
 pub names-tell : NamesTell
 unfolding nameOf names
@@ -40,7 +34,8 @@ names-tell = record {
   ended = refl;
   out-of-place = refl;
   full = refl;
-  others = λ n l. past names n (codes "UNKNOWN") l;
+  no-such = refl;
+  others = λ n l. List·getD-eq-default names (codes "UNKNOWN") l;
 }
 
 -- a number that is not one of the first k

@@ -17,14 +17,14 @@ use Rattle.desk.specs.declared.state.Desk.{Desk}
 use Rattle.desk.specs.declared.capture.CaptureAnswer.{CaptureAnswer}
 use Rattle.desk.specs.Limits.{seatCount}
 use Rattle.desk.specs.Memory.{Memory, memory}
-use Rattle.desk.specs.Calls.{Outcome, placeIn, Did, Changed, opens, replies, resets, emptyRow, emptyState}
+use Rattle.desk.specs.Calls.{Outcome, placeIn, Did, Changed, ResetDid, opens, replies, resets}
 use Rattle.desk.specs.Capture.{captureTold, captures, TookCapture}
 use Rattle.desk.proofs.StepLaws.{by-opening, by-reply}
-use Rattle.rei2.specs.declared.lent.Out.{Out}
+use Rattle.desk.specs.declared.state.Emptied.{Emptied}
 use Rattle.rei2.specs.declared.lent.Captured.{Captured}
 use Rattle.rei2.specs.declared.reply.ReplyAnswer.{ReplyAnswer}
 use Rattle.rei2.specs.Lent.{stateIn, deskAnswer, captureAnswer}
-use Rattle.rei2.specs.inside.Core.{outOf, OneSeat}
+use Rattle.rei2.specs.inside.Core.{OneSeat, CoreReset}
 use Rattle.rei2.specs.Reply.{shown, replyAnswer}
 
 -- ---- the reply
@@ -50,16 +50,16 @@ module _ (m : Memory) (f : List ℕ) where
 pub step-place : (o : Outcome) (at : ℕ) (s : Seat) (t : Told ℕ) (after : Memory) → placeIn (o .answer) ≤ seatCount → Changed o at s × Did t after o → (at ≤ seatCount) × (at ≡ placeIn t)
 step-place o at s t after l h = (subst (λ (n : ℕ). n ≤ seatCount) (sym (h .0 .place)) l, h .0 .place ∙ ap placeIn (sym (h .1 .answer)))
 
-pub one-seat-is : (row : List Seat) (d : Desk) (cells marks : List ℕ) (at : ℕ) (s : Seat) (t : Told ℕ) (o : Outcome) → Did t (memory d (set row at s) cells marks) o
+pub one-seat-is : (row : List Seat) (d : Desk) (cells marks : List ℕ) (tally : List (List ℕ)) (at : ℕ) (s : Seat) (t : Told ℕ) (o : Outcome) → Did t (memory d (set row at s) cells marks tally) o
     → OneSeat row o (record { at = at; seat = s; answer = deskAnswer d t })
-one-seat-is row d cells marks at s t o h = record { answer = λ i. deskAnswer (stateIn (h .memory i)) (h .answer i); seats = λ i. h .memory i .row }
+one-seat-is row d cells marks tally at s t o h = record { answer = λ i. deskAnswer (stateIn (h .memory i)) (h .answer i); seats = λ i. h .memory i .row }
 
 pub captured-is : (m m′ : Memory) (s : List ℕ) (a : CaptureAnswer) → TookCapture m s a m′
     → _≡_ {A = Captured} (record { row = m′ .row; answer = captureAnswer (stateIn m′) (captureTold a) })
     (record { row = captures m s .after .row; answer = captureAnswer (stateIn (captures m s .after)) (captures m s .answer) })
 captured-is m m′ s a h = λ i. record { row = h .memory i .row; answer = captureAnswer (stateIn (h .memory i)) (h .told i) }
 
-pub reset-is : (row row′ : List Seat) (d d′ : Desk) → length row ≡ seatCount → d′ ≡ emptyState → row′ ≡ emptyRow
-    → _≡_ {A = Out} (record { row = row′; answer = deskAnswer d′ (gives 0) }) (outOf (resets (memory d row [] [])))
+pub reset-is : (row : List Seat) (d : Desk) (tally : List (List ℕ)) (r : Emptied) (tally′ : List (List ℕ)) → length row ≡ seatCount → ResetDid r tally′
+    → CoreReset row d tally (record { row = r .row; answer = deskAnswer (r .desk) (gives 0) }) tally′
 unfolding resets
-reset-is row row′ d d′ l e e′ = rw (eq-eqb (length row) seatCount l) (λ i. record { row = e′ i; answer = deskAnswer (e i) (gives 0) })
+reset-is row d tally r tally′ l h = rw (eq-eqb (length row) seatCount l) (λ i. record { row = h .empty i .row; answer = deskAnswer (h .empty i .desk) (gives 0) }, h .zero)

@@ -31,6 +31,8 @@ use Rattle.rei2.specs.Frames.{requestAnswer, dynamicAnswer, WroteLent}
 use Rattle.rei2.specs.Reply.{numbersOf, replyAnswer, wrongInC, WroteReplyLent}
 use Rattle.rei2.specs.Calls.{frameAnswer, cellAnswer, runningAnswer, listAnswer}
 use Rattle.rei2.specs.Names.{nameOf, NamedLent}
+use Rattle.desk.specs.Tally.{looks}
+use Rattle.rei2.specs.Look.{lookAnswer}
 use Rattle.rei2.specs.Limits.{limits}
 
 -- ---- frames in a capture: a whole one, one cut by the end, one cut by a lead byte
@@ -61,7 +63,7 @@ answering bits count refusal offset spoiled seat = record { desk = record { bits
 
 -- no seats, and a state that is not empty
 abbrev pub noDesk : Memory
-noDesk = memory (record { bits = 5; count = 7 }) [] [] []
+noDesk = memory (record { bits = 5; count = 7 }) [] [] [] []
 
 pub record DeskCalls : Type 0 where
   pub emptied : answerOf (resets asked) ≡ answering 0 0 0 0 0 0
@@ -203,10 +205,24 @@ pub record NamesWritten : Type 0 where
   pub no-room : Answers (NamedLent (nameOf 13) (replicate 5 1)) (record { refusal = 7; offset = 0; size = 0 })
   pub no-bytes : Leaves (NamedLent (nameOf 13) (replicate 5 1)) (1 ∷ 1 ∷ 1 ∷ 1 ∷ 1 ∷ [])
 
+-- ---- a look at a tally whose first, middle and last number are known: letter 0 with R, letter P with E, letter X with Z
+
+abbrev pub known : List (List ℕ)
+known = (11 ∷ 0 ∷ 0 ∷ []) ∷ (replicate 11 (replicate 3 0) ++ (0 ∷ 22 ∷ 0 ∷ []) ∷ (replicate 19 (replicate 3 0) ++ (0 ∷ 0 ∷ 33 ∷ []) ∷ []))
+
+pub record Looked : Type 0 where
+  pub first : lookAnswer (looks known 48 82) ≡ record { refusal = 0; held = 11 }
+  pub middle : lookAnswer (looks known 80 69) ≡ record { refusal = 0; held = 22 }
+  pub last : lookAnswer (looks known 88 90) ≡ record { refusal = 0; held = 33 }
+  -- L is a letter of requests only, and a status is a capital letter
+  pub request-letter : lookAnswer (looks known 76 82) ≡ record { refusal = 17; held = 0 }
+  pub lower-status : lookAnswer (looks known 80 114) ≡ record { refusal = 17; held = 0 }
+  pub no-letter : lookAnswer (looks known 0 82) ≡ record { refusal = 17; held = 0 }
+
 -- ---- what a host must lend
 
 pub record Lends : Type 0 where
-  pub limits-are : limits ≡ record { seats = 16; cells = 13056; marks = 256; «cell_size» = 51; «most_input» = 32768; «longest_list» = 14687 }
+  pub limits-are : limits ≡ record { seats = 16; cells = 13056; marks = 256; «cell_size» = 51; letters = 33; statuses = 3; «most_input» = 32768; «longest_list» = 14687 }
 
 pub record Worked : Type 0 where
   pub frames-found : FramesFound
@@ -218,4 +234,5 @@ pub record Worked : Type 0 where
   pub timing-numbered : TimingNumbered
   pub other-calls : OtherCalls
   pub names-written : NamesWritten
+  pub looked : Looked
   pub lends : Lends

@@ -21,12 +21,12 @@ use Rattle.rei2.specs.Lent.{answerOf, ResetLent, OpenLent, ReplyLent}
 -- each call is given the state and lent memory that the last one left: the events, the answers, and the memory after the last call
 pub data Chain : Memory → List Event → List DeskAnswer → Memory → Type 0 where
   none : {m : Memory} → Chain m [] [] m
-  opened : {seats seats′ : List Seat} {desk : Desk} {cells marks frame : List ℕ} {r : DeskAnswer} {es : List Event} {rs : List DeskAnswer} {m : Memory}
-      → OpenLent seats desk cells marks frame r seats′ → Chain (memory (r .desk) seats′ cells marks) es rs m
-      → Chain (memory desk seats cells marks) (toOpen frame ∷ es) (r ∷ rs) m
-  replied : {seats seats′ : List Seat} {desk : Desk} {cells marks cells′ marks′ frame : List ℕ} {r : DeskAnswer} {es : List Event} {rs : List DeskAnswer} {m : Memory}
-      → ReplyLent seats desk cells marks frame r seats′ cells′ marks′ → Chain (memory (r .desk) seats′ cells′ marks′) es rs m
-      → Chain (memory desk seats cells marks) (toReply frame ∷ es) (r ∷ rs) m
+  opened : {seats seats′ : List Seat} {desk : Desk} {cells marks frame : List ℕ} {tally : List (List ℕ)} {r : DeskAnswer} {es : List Event} {rs : List DeskAnswer} {m : Memory}
+      → OpenLent seats desk cells marks tally frame r seats′ → Chain (memory (r .desk) seats′ cells marks tally) es rs m
+      → Chain (memory desk seats cells marks tally) (toOpen frame ∷ es) (r ∷ rs) m
+  replied : {seats seats′ : List Seat} {desk : Desk} {cells marks cells′ marks′ frame : List ℕ} {tally tally′ : List (List ℕ)} {r : DeskAnswer} {es : List Event} {rs : List DeskAnswer} {m : Memory}
+      → ReplyLent seats desk cells marks tally frame r seats′ cells′ marks′ tally′ → Chain (memory (r .desk) seats′ cells′ marks′ tally′) es rs m
+      → Chain (memory desk seats cells marks tally) (toReply frame ∷ es) (r ∷ rs) m
 
 -- the answers of the desk's calls, each with the state that its call left
 unfoldable pub answersOf : Memory → List Event → List DeskAnswer
@@ -49,14 +49,14 @@ pub record SortedLent (m m′ : Memory) (es : List Event) (rs : List DeskAnswer)
 -- a reset, openings, then replies, strays and damaged frames with enough cells: each opened request is sorted, at the seat that its opening returned
 abbrev pub SortsLentCalls : Type 0
 SortsLentCalls =
-    (seats : List Seat) (desk : Desk) (cells marks : List ℕ) (emptied : DeskAnswer) (seats₀ : List Seat)
-    → ResetLent seats desk emptied seats₀ → emptied .refusal ≡ 0
+    (seats : List Seat) (desk : Desk) (cells marks : List ℕ) (tally : List (List ℕ)) (emptied : DeskAnswer) (seats₀ : List Seat) (tally₀ : List (List ℕ))
+    → ResetLent seats desk tally emptied seats₀ tally₀ → emptied .refusal ≡ 0
     -- openings, then the opening of the request r, then other openings
-    → (before after : List Frame) (rs₁ rs₂ : List DeskAnswer) (desk₁ : Desk) (seats₁ : List Seat) (cells₁ marks₁ : List ℕ)
-    → Chain (memory (emptied .desk) seats₀ cells marks) (openings before) rs₁ (memory desk₁ seats₁ cells₁ marks₁)
+    → (before after : List Frame) (rs₁ rs₂ : List DeskAnswer) (desk₁ : Desk) (seats₁ : List Seat) (cells₁ marks₁ : List ℕ) (tally₁ : List (List ℕ))
+    → Chain (memory (emptied .desk) seats₀ cells marks tally₀) (openings before) rs₁ (memory desk₁ seats₁ cells₁ marks₁ tally₁)
     → (f : Frame) (r : StaticRequest) (answer : DeskAnswer) (seats₂ : List Seat)
-    → OpenLent seats₁ desk₁ cells₁ marks₁ f answer seats₂ → answer .refusal ≡ 0 → read request f ≡ gives r
-    → (m : Memory) → Chain (memory (answer .desk) seats₂ cells₁ marks₁) (openings after) rs₂ m
+    → OpenLent seats₁ desk₁ cells₁ marks₁ tally₁ f answer seats₂ → answer .refusal ≡ 0 → read request f ≡ gives r
+    → (m : Memory) → Chain (memory (answer .desk) seats₂ cells₁ marks₁ tally₁) (openings after) rs₂ m
     -- the replies
     → (es : List Event) (rs : List DeskAnswer) (m′ : Memory) → Chain m es rs m′ → Stretch es → repliesTo m es ≤ capacityOf (length cells) (length marks)
     → SortedLent m m′ es rs (answer .seat) (record { address = r .address; requester = r .requester; number = r .number })

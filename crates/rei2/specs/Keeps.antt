@@ -1,4 +1,4 @@
--- A refused call changes nothing: the state is returned as it was given, and every seat, cell, mark and byte that is lent to be written stays as it was.
+-- A refused call changes nothing: the state is returned as it was given, and every seat, cell, mark, number of the tally and byte that is lent to be written stays as it was.
 use Prim.Native.Nat.{ℕ}
 use mathlib.Core.List.{List}
 use mathlib.Core.Path.{_≡_}
@@ -21,32 +21,34 @@ abbrev pub Refusing : ℕ → Type 0
 Refusing number = number ≡ 0 → ⊥
 
 module _ (seats : List Seat) (desk : Desk) where
-  abbrev pub ResetKeeps : Type 0
-  ResetKeeps = (r : DeskAnswer) (seats′ : List Seat) → ResetLent seats desk r seats′ → Refusing (r .refusal) → (r .desk ≡ desk) × (seats′ ≡ seats)
+  abbrev pub ResetKeeps : List (List ℕ) → Type 0
+  ResetKeeps tally =
+      (r : DeskAnswer) (seats′ : List Seat) (tally′ : List (List ℕ)) → ResetLent seats desk tally r seats′ tally′ → Refusing (r .refusal)
+      → (r .desk ≡ desk) × ((seats′ ≡ seats) × (tally′ ≡ tally))
 
-  module _ (cells marks : List ℕ) where
+  module _ (cells marks : List ℕ) (tally : List (List ℕ)) where
     abbrev pub OpenKeeps : List ℕ → Type 0
     OpenKeeps frame =
-        (r : DeskAnswer) (seats′ : List Seat) → OpenLent seats desk cells marks frame r seats′ → Refusing (r .refusal) → (r .desk ≡ desk) × (seats′ ≡ seats)
+        (r : DeskAnswer) (seats′ : List Seat) → OpenLent seats desk cells marks tally frame r seats′ → Refusing (r .refusal) → (r .desk ≡ desk) × (seats′ ≡ seats)
 
     abbrev pub ReplyKeeps : List ℕ → Type 0
     ReplyKeeps frame =
-        (r : DeskAnswer) (seats′ : List Seat) (cells′ marks′ : List ℕ) → ReplyLent seats desk cells marks frame r seats′ cells′ marks′ → Refusing (r .refusal)
-        → (r .desk ≡ desk) × ((seats′ ≡ seats) × ((cells′ ≡ cells) × (marks′ ≡ marks)))
+        (r : DeskAnswer) (seats′ : List Seat) (cells′ marks′ : List ℕ) (tally′ : List (List ℕ)) → ReplyLent seats desk cells marks tally frame r seats′ cells′ marks′ tally′ → Refusing (r .refusal)
+        → (r .desk ≡ desk) × ((seats′ ≡ seats) × ((cells′ ≡ cells) × ((marks′ ≡ marks) × (tally′ ≡ tally))))
 
     abbrev pub CaptureKeeps : List ℕ → Type 0
     CaptureKeeps capture =
-        (r : CapturedAnswer) (seats′ : List Seat) (cells′ marks′ : List ℕ) → CaptureLent seats desk cells marks capture r seats′ cells′ marks′ → Refusing (r .refusal)
-        → (r .desk ≡ desk) × ((seats′ ≡ seats) × ((cells′ ≡ cells) × (marks′ ≡ marks)))
+        (r : CapturedAnswer) (seats′ : List Seat) (cells′ marks′ : List ℕ) (tally′ : List (List ℕ)) → CaptureLent seats desk cells marks tally capture r seats′ cells′ marks′ tally′ → Refusing (r .refusal)
+        → (r .desk ≡ desk) × ((seats′ ≡ seats) × ((cells′ ≡ cells) × ((marks′ ≡ marks) × (tally′ ≡ tally))))
 
 abbrev pub WriteKeeps : (List ℕ → WrittenAnswer → List ℕ → Type 0) → Type 0
 WriteKeeps Promised = (out : List ℕ) (answer : WrittenAnswer) (out′ : List ℕ) → Promised out answer out′ → Refusing (answer .refusal) → out′ ≡ out
 
 pub record RefusedKeeps : Type 1 where
-  pub reset : (seats : List Seat) (desk : Desk) → ResetKeeps seats desk
-  pub opening : (seats : List Seat) (desk : Desk) (cells marks frame : List ℕ) → OpenKeeps seats desk cells marks frame
-  pub reply : (seats : List Seat) (desk : Desk) (cells marks frame : List ℕ) → ReplyKeeps seats desk cells marks frame
-  pub capture : (seats : List Seat) (desk : Desk) (cells marks capture : List ℕ) → CaptureKeeps seats desk cells marks capture
+  pub reset : (seats : List Seat) (desk : Desk) (tally : List (List ℕ)) → ResetKeeps seats desk tally
+  pub opening : (seats : List Seat) (desk : Desk) (cells marks : List ℕ) (tally : List (List ℕ)) (frame : List ℕ) → OpenKeeps seats desk cells marks tally frame
+  pub reply : (seats : List Seat) (desk : Desk) (cells marks : List ℕ) (tally : List (List ℕ)) (frame : List ℕ) → ReplyKeeps seats desk cells marks tally frame
+  pub capture : (seats : List Seat) (desk : Desk) (cells marks : List ℕ) (tally : List (List ℕ)) (capture : List ℕ) → CaptureKeeps seats desk cells marks tally capture
   -- of a request, and of a dynamic request
   pub writing : {R : Type 0} (k : Kind R) (r : R) → WriteKeeps (WroteLent k r)
   pub writing-reply : (c : ReplyRecord) → WriteKeeps (WroteReplyLent c)

@@ -37,29 +37,30 @@ capturedOf o = captureAnswer (stateIn (o .after)) (o .answer)
 
 -- ---- what is promised: the answer, and everything that is lent, are as after the call by value
 
-pub record Lent {A : Type 0} (says : A) (after : Memory) (r : A) (seats′ : List Seat) (cells′ marks′ : List ℕ) : Type 0 where
+pub record Lent {A : Type 0} (says : A) (after : Memory) (r : A) (seats′ : List Seat) (cells′ marks′ : List ℕ) (tally′ : List (List ℕ)) : Type 0 where
   pub answer : r ≡ says
   pub seats : seats′ ≡ after .row
   pub cells : cells′ ≡ after .cells
   pub marks : marks′ ≡ after .marks
+  pub tally : tally′ ≡ after .tally
 
-abbrev pub LentCall : Outcome → DeskAnswer → List Seat → List ℕ → List ℕ → Type 0
+abbrev pub LentCall : Outcome → DeskAnswer → List Seat → List ℕ → List ℕ → List (List ℕ) → Type 0
 LentCall o = Lent (answerOf o) (o .after)
 
 module _ (seats : List Seat) (desk : Desk) where
   -- cells and marks are not lent to a reset: whatever they hold stays
-  abbrev pub ResetLent : DeskAnswer → List Seat → Type 0
-  ResetLent r seats′ = (cells marks : List ℕ) → LentCall (resets (memory desk seats cells marks)) r seats′ cells marks
+  abbrev pub ResetLent : List (List ℕ) → DeskAnswer → List Seat → List (List ℕ) → Type 0
+  ResetLent tally r seats′ tally′ = (cells marks : List ℕ) → LentCall (resets (memory desk seats cells marks tally)) r seats′ cells marks tally′
 
-  module _ (cells marks : List ℕ) where
-    -- cells and marks are lent only to be read
+  module _ (cells marks : List ℕ) (tally : List (List ℕ)) where
+    -- cells, marks and tally are lent only to be read
     abbrev pub OpenLent : List ℕ → DeskAnswer → List Seat → Type 0
-    OpenLent frame r seats′ = LentCall (opens (memory desk seats cells marks) frame) r seats′ cells marks
+    OpenLent frame r seats′ = LentCall (opens (memory desk seats cells marks tally) frame) r seats′ cells marks tally
 
-    abbrev pub ReplyLent : List ℕ → DeskAnswer → List Seat → List ℕ → List ℕ → Type 0
-    ReplyLent frame = LentCall (replies (memory desk seats cells marks) frame)
+    abbrev pub ReplyLent : List ℕ → DeskAnswer → List Seat → List ℕ → List ℕ → List (List ℕ) → Type 0
+    ReplyLent frame = LentCall (replies (memory desk seats cells marks tally) frame)
 
-    abbrev pub CaptureLent : List ℕ → CapturedAnswer → List Seat → List ℕ → List ℕ → Type 0
+    abbrev pub CaptureLent : List ℕ → CapturedAnswer → List Seat → List ℕ → List ℕ → List (List ℕ) → Type 0
     CaptureLent capture =
-        let o = captures (memory desk seats cells marks) capture in
+        let o = captures (memory desk seats cells marks tally) capture in
         Lent (capturedOf o) (o .after)

@@ -1,5 +1,6 @@
 pub mod Numbers
 pub mod Lent
+pub mod Look
 pub mod Frames
 pub mod Reply
 pub mod Calls

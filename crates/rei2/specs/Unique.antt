@@ -20,13 +20,13 @@ use Rattle.rei2.specs.Calls.{ListLent}
 use Rattle.rei2.specs.Names.{NamedLent}
 
 pub record OneOutcome : Type 0 where
-  pub rei2-reset : (seats : List Seat) (desk : Desk) → Once λ (o : DeskAnswer × List Seat). ResetLent seats desk (o .0) (o .1)
-  pub rei2-open : (seats : List Seat) (desk : Desk) (cells marks frame : List ℕ)
-      → Once λ (o : DeskAnswer × List Seat). OpenLent seats desk cells marks frame (o .0) (o .1)
-  pub rei2-reply : (seats : List Seat) (desk : Desk) (cells marks frame : List ℕ)
-      → Once λ (o : DeskAnswer × (List Seat × (List ℕ × List ℕ))). ReplyLent seats desk cells marks frame (o .0) (o .1 .0) (o .1 .1 .0) (o .1 .1 .1)
-  pub rei2-capture : (seats : List Seat) (desk : Desk) (cells marks capture : List ℕ)
-      → Once λ (o : CapturedAnswer × (List Seat × (List ℕ × List ℕ))). CaptureLent seats desk cells marks capture (o .0) (o .1 .0) (o .1 .1 .0) (o .1 .1 .1)
+  pub rei2-reset : (seats : List Seat) (desk : Desk) (tally : List (List ℕ)) → Once λ (o : DeskAnswer × (List Seat × List (List ℕ))). ResetLent seats desk tally (o .0) (o .1 .0) (o .1 .1)
+  pub rei2-open : (seats : List Seat) (desk : Desk) (cells marks : List ℕ) (tally : List (List ℕ)) (frame : List ℕ)
+      → Once λ (o : DeskAnswer × List Seat). OpenLent seats desk cells marks tally frame (o .0) (o .1)
+  pub rei2-reply : (seats : List Seat) (desk : Desk) (cells marks : List ℕ) (tally : List (List ℕ)) (frame : List ℕ)
+      → Once λ (o : DeskAnswer × (List Seat × (List ℕ × (List ℕ × List (List ℕ))))). ReplyLent seats desk cells marks tally frame (o .0) (o .1 .0) (o .1 .1 .0) (o .1 .1 .1 .0) (o .1 .1 .1 .1)
+  pub rei2-capture : (seats : List Seat) (desk : Desk) (cells marks : List ℕ) (tally : List (List ℕ)) (capture : List ℕ)
+      → Once λ (o : CapturedAnswer × (List Seat × (List ℕ × (List ℕ × List (List ℕ))))). CaptureLent seats desk cells marks tally capture (o .0) (o .1 .0) (o .1 .1 .0) (o .1 .1 .1 .0) (o .1 .1 .1 .1)
   pub rei2-write-request : (r : StaticRequest) (out : List ℕ) → Once λ (o : WrittenAnswer × List ℕ). WroteLent request r out (o .0) (o .1)
   pub rei2-write-reply : (c : ReplyRecord) (out : List ℕ) → Once λ (o : WrittenAnswer × List ℕ). WroteReplyLent c out (o .0) (o .1)
   pub rei2-write-dynamic : (r : DynamicRequest) (out : List ℕ) → Once λ (o : WrittenAnswer × List ℕ). WroteLent dynamic r out (o .0) (o .1)

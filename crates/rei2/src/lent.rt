@@ -14,6 +14,8 @@ use desk::state::Desk;
 use desk::state::Seat;
 use desk::state::reset;
 use digits::refusal as table;
+use frames::reply::LETTERS;
+use frames::reply::STATUSES;
 ghost use mathlib.Core.Path.{_≡_};
 ghost use Prim.Native.Nat.{_≤_};
 ghost use lib.ListN.{length, set};
@@ -193,10 +195,14 @@ fn captured_answer(desk: Desk, answer: CaptureAnswer) -> CapturedAnswer
 
 // ---- the calls by value
 
-pub(crate) fn reset_row(row: [Seat; SEATS], desk: Desk) -> Out
-    ensures { λ r. ⌜ CoreReset row desk r ⌝ }
+pub(crate) fn reset_row(
+    row: [Seat; SEATS],
+    desk: Desk,
+    tally: &mut [[u32; STATUSES]; LETTERS],
+) -> Out
+    ensures { λ r. ⌜ CoreReset row desk (now (tally .entry)) r (now (tally .exit)) ⌝ }
 {
-    let emptied = reset();
+    let emptied = reset(tally);
     let empty = emptied.desk;
     let row = emptied.row;
     Out {
@@ -216,11 +222,12 @@ pub(crate) fn open_seat(
     desk: Desk,
     cells: &[u8],
     marks: &[u32],
+    tally: &[[u32; STATUSES]; LETTERS],
     frame: &[u8],
 ) -> One
-    ensures { λ r. ⌜ CoreOpen row desk (now (cells .entry)) (now (marks .entry)) (now (frame .entry)) r ⌝ }
+    ensures { λ r. ⌜ CoreOpen row desk (now (cells .entry)) (now (marks .entry)) (now (tally .entry)) (now (frame .entry)) r ⌝ }
 {
-    let opened = open_step(desk, row, cells, marks, frame);
+    let opened = open_step(desk, row, cells, marks, tally, frame);
     let after = opened.desk;
     let answer = opened.answer;
     let at = opened.at;
@@ -238,11 +245,12 @@ pub(crate) fn reply_seat(
     desk: Desk,
     cells: &mut [u8],
     marks: &mut [u32],
+    tally: &mut [[u32; STATUSES]; LETTERS],
     frame: &[u8],
 ) -> One
-    ensures { λ r. ⌜ CoreReply row desk (now (cells .entry)) (now (marks .entry)) (now (frame .entry)) r (now (cells .exit)) (now (marks .exit)) ⌝ }
+    ensures { λ r. ⌜ CoreReply row desk (now (cells .entry)) (now (marks .entry)) (now (tally .entry)) (now (frame .entry)) r (now (cells .exit)) (now (marks .exit)) (now (tally .exit)) ⌝ }
 {
-    let taken = reply_step(desk, row, cells, marks, frame);
+    let taken = reply_step(desk, row, cells, marks, tally, frame);
     let after = taken.desk;
     let answer = taken.answer;
     let at = taken.at;
@@ -260,11 +268,12 @@ pub(crate) fn capture_row(
     desk: Desk,
     cells: &mut [u8],
     marks: &mut [u32],
+    tally: &mut [[u32; STATUSES]; LETTERS],
     capture: &[u8],
 ) -> Captured
-    ensures { λ r. ⌜ CoreCapture row desk (now (cells .entry)) (now (marks .entry)) (now (capture .entry)) r (now (cells .exit)) (now (marks .exit)) ⌝ }
+    ensures { λ r. ⌜ CoreCapture row desk (now (cells .entry)) (now (marks .entry)) (now (tally .entry)) (now (capture .entry)) r (now (cells .exit)) (now (marks .exit)) (now (tally .exit)) ⌝ }
 {
-    let done = take_capture(desk, row, cells, marks, capture);
+    let done = take_capture(desk, row, cells, marks, tally, capture);
     let after = done.desk;
     let answer = done.answer;
     let said = captured_answer(after, answer);
@@ -275,14 +284,18 @@ pub(crate) fn capture_row(
 // ---- the calls on a lent row
 
 #[no_mangle]
-pub extern "C" fn rei2_reset(seats: &mut [Seat], desk: Desk) -> DeskAnswer
-    ensures { λ r. ⌜ ResetLent (now (seats .entry)) desk r (now (seats .exit)) ⌝ }
+pub extern "C" fn rei2_reset(
+    seats: &mut [Seat],
+    desk: Desk,
+    tally: &mut [[u32; STATUSES]; LETTERS],
+) -> DeskAnswer
+    ensures { λ r. ⌜ ResetLent (now (seats .entry)) desk (now (tally .entry)) r (now (seats .exit)) (now (tally .exit)) ⌝ }
 {
     if seats.len() != SEATS {
         return no_desk(desk);
     }
     let row = load(seats);
-    let out = reset_row(row, desk);
+    let out = reset_row(row, desk, tally);
     store(seats, out.row);
     out.answer
 }
@@ -293,15 +306,16 @@ pub extern "C" fn rei2_open(
     desk: Desk,
     cells: &[u8],
     marks: &[u32],
+    tally: &[[u32; STATUSES]; LETTERS],
     frame: &[u8],
 ) -> DeskAnswer
-    ensures { λ r. ⌜ OpenLent (now (seats .entry)) desk (now (cells .entry)) (now (marks .entry)) (now (frame .entry)) r (now (seats .exit)) ⌝ }
+    ensures { λ r. ⌜ OpenLent (now (seats .entry)) desk (now (cells .entry)) (now (marks .entry)) (now (tally .entry)) (now (frame .entry)) r (now (seats .exit)) ⌝ }
 {
     if seats.len() != SEATS {
         return no_desk(desk);
     }
     let row = load(seats);
-    let out = open_seat(row, desk, cells, marks, frame);
+    let out = open_seat(row, desk, cells, marks, tally, frame);
     put_seat(seats, out.at, out.seat);
     out.answer
 }
@@ -312,15 +326,16 @@ pub extern "C" fn rei2_reply(
     desk: Desk,
     cells: &mut [u8],
     marks: &mut [u32],
+    tally: &mut [[u32; STATUSES]; LETTERS],
     frame: &[u8],
 ) -> DeskAnswer
-    ensures { λ r. ⌜ ReplyLent (now (seats .entry)) desk (now (cells .entry)) (now (marks .entry)) (now (frame .entry)) r (now (seats .exit)) (now (cells .exit)) (now (marks .exit)) ⌝ }
+    ensures { λ r. ⌜ ReplyLent (now (seats .entry)) desk (now (cells .entry)) (now (marks .entry)) (now (tally .entry)) (now (frame .entry)) r (now (seats .exit)) (now (cells .exit)) (now (marks .exit)) (now (tally .exit)) ⌝ }
 {
     if seats.len() != SEATS {
         return no_desk(desk);
     }
     let row = load(seats);
-    let out = reply_seat(row, desk, cells, marks, frame);
+    let out = reply_seat(row, desk, cells, marks, tally, frame);
     put_seat(seats, out.at, out.seat);
     out.answer
 }
@@ -331,15 +346,16 @@ pub extern "C" fn rei2_capture(
     desk: Desk,
     cells: &mut [u8],
     marks: &mut [u32],
+    tally: &mut [[u32; STATUSES]; LETTERS],
     capture: &[u8],
 ) -> CapturedAnswer
-    ensures { λ r. ⌜ CaptureLent (now (seats .entry)) desk (now (cells .entry)) (now (marks .entry)) (now (capture .entry)) r (now (seats .exit)) (now (cells .exit)) (now (marks .exit)) ⌝ }
+    ensures { λ r. ⌜ CaptureLent (now (seats .entry)) desk (now (cells .entry)) (now (marks .entry)) (now (tally .entry)) (now (capture .entry)) r (now (seats .exit)) (now (cells .exit)) (now (marks .exit)) (now (tally .exit)) ⌝ }
 {
     if seats.len() != SEATS {
         return no_captured(desk);
     }
     let row = load(seats);
-    let out = capture_row(row, desk, cells, marks, capture);
+    let out = capture_row(row, desk, cells, marks, tally, capture);
     store(seats, out.row);
     out.answer
 }

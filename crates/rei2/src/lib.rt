@@ -5,6 +5,7 @@ pub mod held;
 pub mod lent;
 pub mod limits;
 pub mod listed;
+pub mod look;
 pub mod names;
 pub mod reply;
 pub mod request;

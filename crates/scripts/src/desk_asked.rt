@@ -11,6 +11,7 @@ use crate::memory::copy_marks;
 use crate::memory::mark_at;
 use crate::script::Script;
 use crate::script::with;
+use crate::tally_asked;
 use desk::held::Held;
 use desk::held::next_held;
 use desk::limits::SEATS;
@@ -21,16 +22,24 @@ use desk::state::Seat;
 use desk::state::reset;
 use desk::state::seats_in_use;
 use digits::put_bytes;
+use frames::reply::LETTERS;
+use frames::reply::STATUSES;
 use spelling::line;
 use spelling::print;
 use spelling::told::print_told;
 
-// Cells and marks are lent to an opening only to be read: only state and seats can differ. So it is with a reset.
-pub fn opening(script: Script, s: &[u8], cells: &[u8], marks: &[u32]) -> Script {
+// Cells, marks and tally are lent to an opening only to be read: only state and seats can differ.
+pub fn opening(
+    script: Script,
+    s: &[u8],
+    cells: &[u8],
+    marks: &[u32],
+    tally: &[[u32; STATUSES]; LETTERS],
+) -> Script {
     let mut frame = [0u8; 100];
     let n = line::bytes(s, 1, &mut frame);
     let row = script.row;
-    let a = open(script.desk, row, cells, marks, &frame[0..n]);
+    let a = open(script.desk, row, cells, marks, tally, &frame[0..n]);
     let answer = a.answer;
     let desk_after = a.desk;
     let row_after = a.row;
@@ -40,26 +49,36 @@ pub fn opening(script: Script, s: &[u8], cells: &[u8], marks: &[u32]) -> Script 
     with(script, desk_after, row_after)
 }
 
-pub fn resetting(script: Script) -> Script {
+// Cells and marks are not lent to a reset.
+pub fn resetting(script: Script, tally: &mut [[u32; STATUSES]; LETTERS]) -> Script {
     let row = script.row;
-    let a = reset();
+    let tally_before = *tally;
+    let a = reset(tally);
     let desk_after = a.desk;
     let row_after = a.row;
     print_said(done_with(0), desk_after);
     print_seats(row, row_after);
+    tally_asked::print_changes(tally_before, tally);
     print::end_line();
     with(script, desk_after, row_after)
 }
 
-pub fn replying(script: Script, s: &[u8], cells: &mut [u8], marks: &mut [u32]) -> Script {
+pub fn replying(
+    script: Script,
+    s: &[u8],
+    cells: &mut [u8],
+    marks: &mut [u32],
+    tally: &mut [[u32; STATUSES]; LETTERS],
+) -> Script {
     let mut frame = [0u8; 100];
     let n = line::bytes(s, 1, &mut frame);
     let mut cells_before = [0u8; MOST_BYTES];
     put_bytes(&mut cells_before, 0, cells);
     let mut marks_before = [0u32; MOST_MARKS];
     copy_marks(&mut marks_before, marks);
+    let tally_before = *tally;
     let row = script.row;
-    let a = reply(script.desk, row, cells, marks, &frame[0..n]);
+    let a = reply(script.desk, row, cells, marks, tally, &frame[0..n]);
     let answer = a.answer;
     let desk_after = a.desk;
     let row_after = a.row;
@@ -67,6 +86,7 @@ pub fn replying(script: Script, s: &[u8], cells: &mut [u8], marks: &mut [u32]) -
     print_seats(row, row_after);
     print_cells(&cells_before, cells);
     print_marks(&marks_before, marks);
+    tally_asked::print_changes(tally_before, tally);
     print::end_line();
     with(script, desk_after, row_after)
 }

@@ -4,6 +4,8 @@ use crate::memory::mark_at;
 use desk::limits::SEATS;
 use desk::state::Seat;
 use digits::byte_at;
+use frames::reply::LETTERS;
+use frames::reply::STATUSES;
 
 pub const START: u64 = 1;
 
@@ -53,6 +55,18 @@ pub fn take_marks(digest: u64, marks: &[u32]) -> u64 {
     let mut i = 0;
     while i < marks.len() {
         sum = take_small(sum, mark_at(marks, i));
+        i += 1;
+    }
+    sum
+}
+
+// The numbers of the tally, row by row.
+pub fn take_tally(digest: u64, tally: &[[u32; STATUSES]; LETTERS]) -> u64 {
+    let mut sum = digest;
+    let mut i: usize = 0;
+    while i < LETTERS {
+        let two = take_small(take_small(sum, tally[i][0]), tally[i][1]);
+        sum = take_small(two, tally[i][2]);
         i += 1;
     }
     sum

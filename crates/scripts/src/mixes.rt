@@ -13,6 +13,8 @@ use desk::state::reset;
 use digits::byte_at;
 use digits::put_byte;
 use digits::put_number;
+use frames::reply::LETTERS;
+use frames::reply::STATUSES;
 use spelling::line;
 use spelling::print;
 ghost use Prim.Native.Nat.{_≤_};
@@ -151,18 +153,33 @@ fn play(s: &[u8], apart: Apart, n: usize, m: u32, sum: u64) -> u64
 {
     let mut cells = [FRESH_BYTE; MIX_BYTES];
     let mut marks = [FRESH_MARK; MIX_MARKS];
-    let mut x = both_opened(apart, sum, &cells, &marks);
+    let mut tally = [[0u32; STATUSES]; LETTERS];
+    let mut x = both_opened(apart, sum, &cells, &marks, &mut tally);
     let mut i: usize = 0;
     while i < n {
-        let next = play_reply(x, s, apart, (m >> i) % 2 == 1, &mut cells, &mut marks);
+        let next = play_reply(
+            x,
+            s,
+            apart,
+            (m >> i) % 2 == 1,
+            &mut cells,
+            &mut marks,
+            &mut tally,
+        );
         x = next;
         i += 1;
     }
-    take_mix(x, &cells, &marks)
+    take_mix(x, &cells, &marks, &tally)
 }
 
-fn both_opened(apart: Apart, sum: u64, cells: &[u8], marks: &[u32]) -> Mix {
-    let empty = reset();
+fn both_opened(
+    apart: Apart,
+    sum: u64,
+    cells: &[u8],
+    marks: &[u32],
+    tally: &mut [[u32; STATUSES]; LETTERS],
+) -> Mix {
+    let empty = reset(tally);
     let desk = empty.desk;
     let row = empty.row;
     let x = Mix {
@@ -172,15 +189,21 @@ fn both_opened(apart: Apart, sum: u64, cells: &[u8], marks: &[u32]) -> Mix {
         b: 0,
         sum,
     };
-    let y = opened(x, &REQUEST_A, cells, marks);
+    let y = opened(x, &REQUEST_A, cells, marks, tally);
     let mut request_b = REQUEST_A;
     put_byte(&mut request_b, apart.asked_at, apart.of_b);
-    opened(y, &request_b, cells, marks)
+    opened(y, &request_b, cells, marks, tally)
 }
 
-fn opened(x: Mix, frame: &[u8], cells: &[u8], marks: &[u32]) -> Mix {
+fn opened(
+    x: Mix,
+    frame: &[u8],
+    cells: &[u8],
+    marks: &[u32],
+    tally: &[[u32; STATUSES]; LETTERS],
+) -> Mix {
     let row = x.row;
-    let done = open(x.desk, row, cells, marks, frame);
+    let done = open(x.desk, row, cells, marks, tally, frame);
     let answer = done.answer;
     let desk_after = done.desk;
     let row_after = done.row;
@@ -201,16 +224,17 @@ fn play_reply(
     of_b: bool,
     cells: &mut [u8],
     marks: &mut [u32],
+    tally: &mut [[u32; STATUSES]; LETTERS],
 ) -> Mix {
     let a = x.a % 8;
     let b = x.b % 8;
     if of_b {
         let mut frame = reply_with(letter(s, 2, b), (30 - b) as u64);
         put_byte(&mut frame, apart.told_at, apart.of_b);
-        return play_three(counted(x, a, b + 1), apart, frame, cells, marks);
+        return play_three(counted(x, a, b + 1), apart, frame, cells, marks, tally);
     }
     let frame = reply_with(letter(s, 1, a), (40 - a) as u64);
-    play_three(counted(x, a + 1, b), apart, frame, cells, marks)
+    play_three(counted(x, a + 1, b), apart, frame, cells, marks, tally)
 }
 
 fn counted(x: Mix, a: usize, b: usize) -> Mix {
@@ -233,19 +257,32 @@ fn reply_with(status: u8, bib: u64) -> [u8; 51] {
 }
 
 // Plays a stray, a damaged frame, and the reply itself.
-fn play_three(x: Mix, apart: Apart, frame: [u8; 51], cells: &mut [u8], marks: &mut [u32]) -> Mix {
+fn play_three(
+    x: Mix,
+    apart: Apart,
+    frame: [u8; 51],
+    cells: &mut [u8],
+    marks: &mut [u32],
+    tally: &mut [[u32; STATUSES]; LETTERS],
+) -> Mix {
     let mut stray = frame;
     put_byte(&mut stray, apart.told_at, apart.of_stray);
     let mut damaged = frame;
     put_byte(&mut damaged, 50, 0);
-    let y = replied(x, &stray, cells, marks);
-    let z = replied(y, &damaged, cells, marks);
-    replied(z, &frame, cells, marks)
+    let y = replied(x, &stray, cells, marks, tally);
+    let z = replied(y, &damaged, cells, marks, tally);
+    replied(z, &frame, cells, marks, tally)
 }
 
-fn replied(x: Mix, frame: &[u8], cells: &mut [u8], marks: &mut [u32]) -> Mix {
+fn replied(
+    x: Mix,
+    frame: &[u8],
+    cells: &mut [u8],
+    marks: &mut [u32],
+    tally: &mut [[u32; STATUSES]; LETTERS],
+) -> Mix {
     let row = x.row;
-    let done = reply(x.desk, row, cells, marks, frame);
+    let done = reply(x.desk, row, cells, marks, tally, frame);
     let answer = done.answer;
     let desk_after = done.desk;
     let row_after = done.row;
@@ -259,10 +296,11 @@ fn replied(x: Mix, frame: &[u8], cells: &mut [u8], marks: &mut [u32]) -> Mix {
 }
 
 // The digest with all that a mix leaves.
-fn take_mix(x: Mix, cells: &[u8], marks: &[u32]) -> u64 {
+fn take_mix(x: Mix, cells: &[u8], marks: &[u32], tally: &[[u32; STATUSES]; LETTERS]) -> u64 {
     let desk = x.desk;
     let row = x.row;
     let state = digest::take_small(digest::take(x.sum, desk.bits), desk.count);
     let seats = digest::take_row(state, row);
-    digest::take_marks(digest::take_bytes(seats, cells), marks)
+    let lent = digest::take_marks(digest::take_bytes(seats, cells), marks);
+    digest::take_tally(lent, tally)
 }

@@ -9,6 +9,8 @@ use desk::state::Desk;
 use desk::state::Seat;
 use desk::state::capacity;
 use digits::put_bytes;
+use frames::reply::LETTERS;
+use frames::reply::STATUSES;
 use spelling::line;
 use spelling::print;
 
@@ -37,18 +39,30 @@ pub fn empty(cell_bytes: usize, mark_count: usize) -> Script {
     }
 }
 
-pub fn lend(cell_bytes: usize, mark_count: usize, cells: &mut [u8], marks: &mut [u32]) -> Script {
+pub fn lend(
+    cell_bytes: usize,
+    mark_count: usize,
+    cells: &mut [u8],
+    marks: &mut [u32],
+    tally: &mut [[u32; STATUSES]; LETTERS],
+) -> Script {
     fill_bytes(cells, FRESH_BYTE);
     fill_marks(marks, FRESH_MARK);
+    *tally = [[0u32; STATUSES]; LETTERS];
     empty(cell_bytes, mark_count)
 }
 
-pub fn lending(s: &[u8], cells: &mut [u8], marks: &mut [u32]) -> Script {
+pub fn lending(
+    s: &[u8],
+    cells: &mut [u8],
+    marks: &mut [u32],
+    tally: &mut [[u32; STATUSES]; LETTERS],
+) -> Script {
     let cell_bytes = line::small(s, 1) as usize;
     let mark_count = line::small(s, 2) as usize;
     print::decimal(capacity(cell_bytes, mark_count) as u64);
     print::end_line();
-    lend(cell_bytes, mark_count, cells, marks)
+    lend(cell_bytes, mark_count, cells, marks, tally)
 }
 
 // The same memory with another state and other seats.

@@ -230,6 +230,9 @@ impl Digest {
         for &mark in &desk.marks {
             self.take(mark.into());
         }
+        for &number in desk.tally.0.iter().flatten() {
+            self.take(number.into());
+        }
     }
 }
 
@@ -354,6 +357,7 @@ mod tests {
             numbers.extend([0; 2 + 5 * 14]);
             numbers.extend([0xee; 408]);
             numbers.extend([0xeeee_eeee; 8]);
+            numbers.extend([0; 99]);
             assert_eq!(pair.play(b"", b""), (1, digest_of(&numbers)));
         }
     }
@@ -377,6 +381,10 @@ mod tests {
             numbers.extend([0xee; 357]);
             numbers.push(1);
             numbers.extend([0xeeee_eeee; 7]);
+            // One E of the letter P, which has row 12.
+            numbers.extend([0; 12 * 3 + 1]);
+            numbers.push(1);
+            numbers.extend([0; 1 + 20 * 3]);
             assert_eq!(pair.play(b"", b"E"), (1, digest_of(&numbers)));
         }
     }

@@ -5,7 +5,7 @@ use super::tally::{Outcomes, Tally};
 use std::time::Instant;
 
 /// The names of the refusals, by number, from 1 on.
-const NAMES: [&str; 16] = [
+const NAMES: [&str; 17] = [
     "KIND",
     "LENGTH",
     "END",
@@ -22,6 +22,7 @@ const NAMES: [&str; 16] = [
     "ENDED",
     "OUT OF PLACE",
     "FULL",
+    "NO SUCH",
 ];
 
 pub struct Report {

@@ -2,7 +2,7 @@
 //! `second`.
 
 /// One count for done and one for each refusal number.
-const OUTCOMES: usize = 17;
+const OUTCOMES: usize = 18;
 
 pub type Outcomes = [u64; OUTCOMES];
 

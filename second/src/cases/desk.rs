@@ -13,6 +13,7 @@ mod random;
 mod replies;
 mod script;
 mod spoiled;
+mod tally;
 
 use super::Cases;
 use crate::random::Random;
@@ -25,6 +26,7 @@ pub fn add_all(cases: &mut Cases, seed: u64) {
     clauses::add_all(cases);
     memory::add_all(cases);
     looks::add_all(cases);
+    tally::add_all(cases);
     spoiled::add_all(cases, &mut Random::new(seed, "desk spoiled"));
     random::add_all(cases, &mut Random::new(seed, "desk"));
     mixes::add_all(cases);

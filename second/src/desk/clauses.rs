@@ -1,13 +1,13 @@
-//! What makes a desk: one function for each clause, in the order of the scope paper. The clause of the
-//! sixteen seats is missing, because the type of the row fixes it. Every function takes any state
-//! and any memory.
+//! What makes a desk: one function for each clause, in the order of the scope paper, and last the
+//! clause of the tally. The clause of the sixteen seats is missing, because the type of the row
+//! fixes it. Every function takes any state and any memory.
 
-use super::{Desk, Key, Seat, CELL};
+use super::{Desk, Key, Seat, Tally, CELL};
 use crate::frame::{is_address, is_requester, Kind};
 use crate::reply::{at, Reply, LAST_RECORD, NOT_AVAILABLE};
 use crate::request;
 
-const CLAUSES: [fn(&Desk) -> bool; 10] = [
+const CLAUSES: [fn(&Desk) -> bool; 11] = [
     no_bit_is_above_the_seats,
     used_keys_are_a_requests,
     no_two_used_seats_share_a_key,
@@ -18,6 +18,7 @@ const CLAUSES: [fn(&Desk) -> bool; 10] = [
     held_is_how_many_marks_name_the_seat,
     only_the_last_is_e_or_z_and_z_is_alone,
     ended_says_whether_the_last_is_e_or_z,
+    the_tally_is_the_count_over_the_cells_held,
 ];
 
 pub fn make_a_desk(desk: &Desk) -> bool {
@@ -94,6 +95,10 @@ fn ended_says_whether_the_last_is_e_or_z(desk: &Desk) -> bool {
     })
 }
 
+fn the_tally_is_the_count_over_the_cells_held(desk: &Desk) -> bool {
+    desk.tally == Tally::counted(desk)
+}
+
 fn is_an_end(status: u8) -> bool {
     matches!(status, LAST_RECORD | NOT_AVAILABLE)
 }
@@ -142,6 +147,7 @@ mod tests {
     const HELD: usize = 7;
     const ORDER: usize = 8;
     const ENDED: usize = 9;
+    const TALLY: usize = 10;
 
     /// Seat 0 holds R, R, E, seat 1 an R, seat 2 nothing and seat 3 a Z. One cell is free.
     fn mixed() -> Desk {
@@ -166,8 +172,17 @@ mod tests {
         desk.cells[first..first + text.len()].copy_from_slice(text);
     }
 
-    /// Checks that exactly these clauses no longer hold once the desk is spoiled.
+    /// Checks that exactly these clauses no longer hold once the desk is spoiled. The tally goes
+    /// along with the cells.
     fn check(expected: &[usize], spoil: impl FnOnce(&mut Desk)) {
+        check_as_it_is(expected, |desk| {
+            spoil(desk);
+            desk.tally = Tally::counted(desk);
+        });
+    }
+
+    /// The same, but the tally stays as it is.
+    fn check_as_it_is(expected: &[usize], spoil: impl FnOnce(&mut Desk)) {
         let mut desk = mixed();
         assert!(make_a_desk(&desk));
         spoil(&mut desk);
@@ -310,6 +325,7 @@ mod tests {
         for count in [MOST_CELLS, MOST_CELLS + 1] {
             desk.count = count as u32;
             desk.seats[0].held = count as u32;
+            desk.tally.0[P][0] = count as u32;
             assert_eq!(make_a_desk(&desk), count == MOST_CELLS);
         }
     }
@@ -447,6 +463,78 @@ mod tests {
             put(desk, 5, 0, &addressed(b'3', reply(b'Z', b'1', 7)));
         });
         check(&[], |desk| put(desk, 5, 50, b"\0"));
+    }
+
+    /// The row of the letter that the records have.
+    const P: usize = 12;
+
+    #[test]
+    fn each_number_of_the_tally() {
+        for (row, column) in Tally::places() {
+            for more in [1, 2, 256, 65_536, 1 << 31, u32::MAX] {
+                check_as_it_is(&[TALLY], |desk| {
+                    let number = &mut desk.tally.0[row][column];
+                    *number = number.wrapping_add(more);
+                });
+            }
+        }
+    }
+
+    #[test]
+    fn sums_of_the_tally_are_not_enough() {
+        let wrong: [[[u32; 3]; 2]; 4] = [
+            [[2, 2, 1], [0, 0, 0]],
+            [[3, 0, 1], [0, 1, 0]],
+            [[2, 1, 1], [0, 0, 1]],
+            [[2, 1, 2], [1, 0, u32::MAX]],
+        ];
+        for [of_p, of_next] in wrong {
+            check_as_it_is(&[TALLY], |desk| {
+                assert_eq!(desk.tally.0[P], [3, 1, 1]);
+                (desk.tally.0[P], desk.tally.0[P + 1]) = (of_p, of_next);
+            });
+        }
+    }
+
+    #[test]
+    fn the_tally_goes_along_with_letters_and_statuses() {
+        let change: fn(&mut Desk) = |desk| put(desk, 1, at::INFORMATION, b"X");
+        check_as_it_is(&[TALLY], change);
+        check(&[], change);
+        let change: fn(&mut Desk) = |desk| put(desk, 4, at::STATUS, b"E");
+        check_as_it_is(&[TALLY], change);
+        check(&[], change);
+        // Other fields do not matter.
+        check_as_it_is(&[], |desk| put(desk, 1, at::BIB, b"59999"));
+    }
+
+    /// Only the cells below the count are in the tally.
+    #[test]
+    fn the_tally_leaves_free_cells_out() {
+        let put_free = |desk: &mut Desk| put(desk, 5, 0, &reply(b'R', b'A', 12));
+        check_as_it_is(&[], put_free);
+        check_as_it_is(&[TALLY], |desk| {
+            put_free(desk);
+            desk.tally.0[P][0] += 1;
+        });
+        let take = |desk: &mut Desk| {
+            put_free(desk);
+            (desk.marks[5], desk.count, desk.seats[1].held) = (1, 6, 2);
+        };
+        check_as_it_is(&[TALLY], take);
+        check_as_it_is(&[], |desk| {
+            take(desk);
+            desk.tally.0[P][0] += 1;
+        });
+        let free = |desk: &mut Desk| {
+            desk.count = 4;
+            (desk.seats[3].held, desk.seats[3].ended) = (0, 0);
+        };
+        check_as_it_is(&[TALLY], free);
+        check_as_it_is(&[], |desk| {
+            free(desk);
+            desk.tally.0[P][2] = 0;
+        });
     }
 
     #[test]

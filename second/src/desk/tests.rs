@@ -114,7 +114,7 @@ fn an_opening_fills_its_seat_alone() {
 }
 
 #[test]
-fn a_taken_reply_changes_next_cell_mark_seat_and_count() {
+fn a_taken_reply_changes_next_cell_mark_seat_count_and_tally() {
     let mut desk = opened(3, &[(b'1', 7), (b'A', 12)]);
     assert_eq!(desk.reply(&reply(R, b'1', 7)), Ok(0));
     let mut expected = desk.clone();
@@ -125,6 +125,7 @@ fn a_taken_reply_changes_next_cell_mark_seat_and_count() {
     expected.seats[1].held = 1;
     expected.seats[1].ended = 1;
     expected.count = 2;
+    expected.tally.0[12][1] = 1;
     assert_eq!(desk, expected);
 }
 
@@ -408,6 +409,7 @@ fn a_reset_takes_any_state_and_leaves_cells_and_marks() {
     let mut desk = Desk {
         bits: u64::MAX,
         count: u32::MAX,
+        tally: Tally([[u32::MAX; 3]; 33]),
         seats: [seat; SEATS],
         cells: vec![1, 2, 3],
         marks: vec![4, 5],
@@ -456,4 +458,111 @@ fn no_cell_past_256_is_held() {
     assert_eq!(desk.next_held(3, 0), Some(255));
     desk.count = 255;
     assert_eq!(desk.next_held(3, 0), None);
+}
+
+/// A reply with this letter, and with a time and a date that suit it.
+fn reply_for(status: u8, requester: u8, number: u32, letter: u8) -> Vec<u8> {
+    let timed: &[u8; 18] = match letter {
+        b'0' | b'K' | b'S' | b's' | b'a' => b"235959999929022024",
+        b'1' | b'2' | b'3' => b"0000000001-0000000",
+        _ => b" --:--.---no date!",
+    };
+    let mut frame = reply(status, requester, number);
+    frame[29] = letter;
+    frame[30..48].copy_from_slice(timed);
+    frame
+}
+
+const LETTERS: &[u8; 33] = b"0123456789AQPaSsTKRGHhIiJjpkugWwX";
+
+#[test]
+fn a_taken_reply_is_counted_once_at_its_letter_and_status() {
+    for (row, &letter) in LETTERS.iter().enumerate() {
+        for (column, status) in [R, E, Z].into_iter().enumerate() {
+            let mut desk = opened(2, &[(b'1', 7), (b'A', 7)]);
+            assert_eq!(desk.reply(&reply_for(status, b'1', 7, letter)), Ok(0));
+            let mut expected = Tally::default();
+            expected.0[row][column] = 1;
+            assert_eq!(desk.tally, expected);
+            assert_eq!(desk.look(letter, status), Ok(1));
+            assert_eq!(desk.reply(&reply_for(status, b'A', 7, letter)), Ok(1));
+            assert_eq!(desk.look(letter, status), Ok(2));
+        }
+    }
+}
+
+#[test]
+fn looks_count_the_cells_held() {
+    let mut desk = opened(6, &[(b'1', 7), (b'A', 7), (b'z', 0)]);
+    for (status, requester, number, letter) in [
+        (R, b'1', 7, b'P'),
+        (R, b'A', 7, b'K'),
+        (R, b'1', 7, b'P'),
+        (E, b'1', 7, b'P'),
+        (Z, b'z', 0, b'K'),
+    ] {
+        let frame = reply_for(status, requester, number, letter);
+        assert!(desk.reply(&frame).is_ok());
+    }
+    let numbers = |letter| [R, E, Z].map(|status| desk.look(letter, status));
+    assert_eq!(numbers(b'P'), [Ok(2), Ok(1), Ok(0)]);
+    assert_eq!(numbers(b'K'), [Ok(1), Ok(0), Ok(1)]);
+    assert_eq!(numbers(b'X'), [Ok(0); 3]);
+    assert_eq!(desk.tally, Tally::counted(&desk));
+}
+
+#[test]
+fn looks_outside_the_lists() {
+    let mut desk = desk_of(0);
+    for code in 0..=u8::MAX {
+        for (letter, status) in [(code, R), (b'P', code)] {
+            let known = LETTERS.contains(&letter) && [R, E, Z].contains(&status);
+            let expected = if known { Ok(0) } else { Err(Refusal::NoSuch) };
+            assert_eq!(desk.look(letter, status), expected);
+        }
+    }
+    // It need not be a desk. The number is what the table has.
+    desk.bits = u64::MAX;
+    desk.tally.0[12][0] = u32::MAX;
+    assert_eq!(desk.look(b'P', R), Ok(u32::MAX));
+    for letter in *b"Lt*lbcdq" {
+        assert_eq!(desk.look(letter, R), Err(Refusal::NoSuch));
+        assert_eq!(desk.look(letter, b'X'), Err(Refusal::NoSuch));
+    }
+    assert_eq!(Refusal::NoSuch.number(), 17);
+    assert_eq!(
+        (Refusal::NoSuch.offset(), Refusal::NoSuch.spoiled()),
+        (0, 0)
+    );
+}
+
+#[test]
+fn a_wrong_tally_is_no_desk() {
+    let mut desk = opened(2, &[(b'1', 7)]);
+    assert_eq!(desk.reply(&reply(R, b'1', 7)), Ok(0));
+    for (row, column, number) in [(12, 0, 0), (12, 0, 2), (12, 1, 1), (0, 0, 1), (32, 2, 1)] {
+        let mut wrong = desk.clone();
+        wrong.tally.0[row][column] = number;
+        check_refused(&wrong, Refusal::Desk, |desk| desk.open(&request(b'A', 7)));
+        check_refused(&wrong, Refusal::Desk, |desk| desk.reply(&reply(R, b'1', 7)));
+        check_refused(&wrong, Refusal::Desk, |desk| desk.open(&[]));
+    }
+    assert_eq!(desk.open(&request(b'A', 7)), Ok(1));
+    assert_eq!(desk.reply(&reply(R, b'1', 7)), Ok(0));
+    assert_eq!(desk.look(b'P', R), Ok(2));
+}
+
+#[test]
+fn after_a_reset_counting_begins_at_zero() {
+    let mut desk = opened(3, &[(b'1', 7)]);
+    for status in [R, R, E] {
+        assert_eq!(desk.reply(&reply(status, b'1', 7)), Ok(0));
+    }
+    desk.reset();
+    // The cells still hold the old records.
+    assert_eq!(desk.look(b'P', R), Ok(0));
+    assert_eq!(desk.open(&request(b'A', 7)), Ok(0));
+    assert_eq!(desk.reply(&reply_for(R, b'A', 7, b'X')), Ok(0));
+    assert_eq!((desk.look(b'X', R), desk.look(b'P', R)), (Ok(1), Ok(0)));
+    assert_eq!(desk.look(b'P', E), Ok(0));
 }

@@ -84,7 +84,7 @@ fn a_line_is_watched_while_it_is_recorded() {
 
     // A line for each frame, before the line ends, with the reason for the one that is refused.
     let expected = text_of("examples/watch/expected");
-    let frames: String = expected.lines().take(6).map(|line| format!("{line}\n")).collect();
+    let frames: String = expected.lines().take(9).map(|line| format!("{line}\n")).collect();
     assert!(frames.ends_with("201 reply refused, 14 ENDED\n"));
     let so_far = || fs::read_to_string(room.join("printed")).expect("text");
     wait_for(|| so_far().len() >= frames.len());

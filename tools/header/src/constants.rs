@@ -9,10 +9,12 @@ use std::path::Path;
 /// Each constant of `enum rei2_limit`, and the two places below the crates that have its number. The first is a constant of
 /// a source. The second is in a file of specs: a definition, a field of a definition, or a case, which is
 /// `NAME ≡ NUMBER` or `NAME ≡ record { FIELD = NUMBER }`.
-const LIMITS: [(&str, [(&str, &str); 2]); 12] = [
+const LIMITS: [(&str, [(&str, &str); 2]); 14] = [
     ("REI2_SEATS", [("desk/src/limits.rt", "SEATS"), ("desk/specs/Limits.antt", "seatCount")]),
     ("REI2_CELLS", [("desk/src/limits.rt", "CELLS"), ("desk/specs/Limits.antt", "mostCells")]),
     ("REI2_CELL_SIZE", [("desk/src/limits.rt", "CELL_SIZE"), ("rei2/specs/Cases.antt", "limits ≡ .cell_size")]),
+    ("REI2_LETTERS", [("frames/src/reply.rt", "LETTERS"), ("desk/specs/Tally.antt", "letterCount")]),
+    ("REI2_STATUSES", [("frames/src/reply.rt", "STATUSES"), ("desk/specs/Tally.antt", "statusCount")]),
     ("REI2_REQUEST_SIZE", [("frames/src/request.rt", "REQUEST_SIZE"), ("frames/specs/Request.antt", "request .size")]),
     ("REI2_REPLY_SIZE", [("frames/src/reply.rt", "REPLY_SIZE"), ("frames/specs/Reply.antt", "reply .size")]),
     ("REI2_DYNAMIC_SIZE", [("frames/src/dynamic.rt", "DYNAMIC_SIZE"), ("frames/specs/Dynamic.antt", "dynamic .size")]),

@@ -1,6 +1,6 @@
 //! What C sees: functions, structs and constants, with the names of types that C uses.
 
-/// A parameter or a field. Its type is spelled like `size_t`, `const uint8_t *` or `uint8_t[10]`.
+/// A parameter or a field. Its type is spelled like `size_t`, `const uint8_t *`, `uint8_t[10]` or `uint32_t[33][3]`.
 #[derive(Clone, PartialEq)]
 pub struct Part {
     pub name: String,

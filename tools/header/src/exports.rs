@@ -71,7 +71,8 @@ impl Reader<'_> {
         Ok(())
     }
 
-    /// The C parameters of `name: type`. A slice has two.
+    /// The C parameters of `name: type`. A slice has two. An array of arrays has one, which is never const, because C11 has
+    /// no conversion from an array of arrays to one of const elements.
     fn parameter(&mut self, source: &Source, function: &str, tokens: &[Token]) -> Result<Vec<Part>, String> {
         let texts: Vec<&str> = tokens.iter().map(|token| token.text.as_str()).collect();
         let (name, mutable, kind) = match texts.as_slice() {
@@ -83,8 +84,13 @@ impl Reader<'_> {
                 return Ok(Vec::new());
             }
         };
-        let kind = self.plain(source, function, kind)?;
         let part = |name: String, kind: String| Part { name, kind };
+        if let Some((element, lengths)) = table(kind).filter(|_| mutable.is_some()) {
+            let element = self.plain(source, function, element)?;
+            let kind = self.lengths(source, function, lengths).map(|lengths| element + &lengths);
+            return Ok(kind.into_iter().map(|kind| part(name.to_string(), kind)).collect());
+        }
+        let kind = self.plain(source, function, kind)?;
         Ok(match mutable {
             None => vec![part(name.to_string(), kind)],
             Some(mutable) => {
@@ -92,6 +98,18 @@ impl Reader<'_> {
                 vec![part(name.to_string(), pointer), part(format!("{name}_len"), "size_t".to_string())]
             }
         })
+    }
+
+    /// The lengths of an array of arrays in C: `[rows][columns]`, in numbers.
+    fn lengths(&mut self, source: &Source, user: &str, lengths: [&[Token]; 2]) -> Option<String> {
+        match lengths.map(|length| source.value(length)) {
+            [Some(rows), Some(columns)] => Some(format!("[{rows}][{columns}]")),
+            _ => {
+                let [rows, columns] = lengths.map(lex::shown);
+                self.fault(user, &format!("a length is not read: {rows} or {columns}"));
+                None
+            }
+        }
     }
 
     /// The C type of a number or a struct. A struct is read too.
@@ -162,6 +180,16 @@ pub fn c_name(name: &str) -> String {
         snake.extend(c.to_lowercase());
     }
     format!("{PREFIX}{snake}")
+}
+
+/// The element and the two lengths, rows first, of an array of arrays `[element; columns]; rows`. It is given without its
+/// outer brackets.
+fn table(tokens: &[Token]) -> Option<(&[Token], [&[Token]; 2])> {
+    let end = lex::last_mark(tokens, &[";"])?;
+    let (row, rows) = (&tokens[..end], &tokens[end + 1..]);
+    let inside = row.first().filter(|token| token.text == "[").map(|_| lex::group(row))?;
+    let end = lex::last_mark(inside, &[";"])?;
+    Some((&inside[..end], [rows, &inside[end + 1..]]))
 }
 
 fn ends_with(tokens: &[Token], words: &[&str]) -> bool {

@@ -67,7 +67,7 @@ fn read_item(item: &[Token], found: &mut Declared) -> bool {
             found.asserted.push(Asserted { name: name.to_string(), field: Some(field.to_string()) });
             true
         }
-        _ => function(body).map(|function| found.add_function(function)).is_some(),
+        _ => function(body, &found.constants).map(|function| found.add_function(function)).is_some(),
     }
 }
 
@@ -96,7 +96,7 @@ fn field(tokens: &[Token]) -> Option<Part> {
 }
 
 /// A function `type name(type name, ..)`.
-fn function(tokens: &[Token]) -> Option<Function> {
+fn function(tokens: &[Token], constants: &[Constant]) -> Option<Function> {
     let open = tokens.iter().position(|token| token.text == "(")?;
     let (before, rest) = tokens.split_at(open);
     let [.., close] = rest else { return None };
@@ -108,18 +108,28 @@ fn function(tokens: &[Token]) -> Option<Function> {
     let parameters = if lex::shown(list) == "void" {
         Vec::new()
     } else {
-        list.split(|token| token.text == ",").map(parameter).collect::<Option<Vec<Part>>>()?
+        let parameters = list.split(|token| token.text == ",");
+        parameters.map(|tokens| parameter(tokens, constants)).collect::<Option<Vec<Part>>>()?
     };
     Some(Function { name: name.text.clone(), result: result.text.clone(), parameters })
 }
 
-/// A parameter `type name`, `type *name` or `const type *name`.
-fn parameter(tokens: &[Token]) -> Option<Part> {
+/// A parameter `type name`, `type *name`, `const type *name`, or an array of arrays `type name[33][3]`. A length is a number or
+/// one of the constants.
+fn parameter(tokens: &[Token], constants: &[Constant]) -> Option<Part> {
+    let length = |word: &str| {
+        let constant = constants.iter().find(|had| had.name == word).map(|had| had.value);
+        lex::number(word).or(constant)
+    };
     let texts: Vec<&str> = tokens.iter().map(|token| token.text.as_str()).collect();
     let (name, kind) = match texts.as_slice() {
         [kind, name] => (name, kind.to_string()),
         [kind, "*", name] => (name, format!("{kind} *")),
         ["const", kind, "*", name] => (name, format!("const {kind} *")),
+        [before @ .., kind, name, "[", rows, "]", "[", columns, "]"] if before.is_empty() || before == ["const"] => {
+            let lengths = format!("[{}][{}]", length(rows)?, length(columns)?);
+            (name, format!("{}{kind}{lengths}", if before.is_empty() { "" } else { "const " }))
+        }
         _ => return None,
     };
     lex::is_word(name).then(|| Part { name: name.to_string(), kind })

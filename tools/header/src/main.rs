@@ -7,6 +7,7 @@
 //! - the header asserts each struct's size and offsets;
 //! - each constant of the header's enums has the same number as in sources and definitions;
 //! - each refusal and each kind has a constant;
+//! - the strings with the order of letters and statuses have the order of the sources;
 //! - the arrays that the programs lend have the lengths that follow from these constants;
 //! - the symbol index of the archive names exactly the exported functions.
 //!
@@ -20,6 +21,7 @@ mod declared;
 mod exports;
 mod header;
 mod lex;
+mod orders;
 mod source;
 mod spec;
 
@@ -61,6 +63,7 @@ fn compared(crates: &str, header: &str, archive: Option<&String>) -> Result<Comp
     let header = header::declared(&text);
     let mut found = compare::differences(&source, &header);
     found.extend(constants::differences(Path::new(crates), &header)?);
+    found.extend(orders::differences(Path::new(crates), &text)?);
     if let Some(path) = archive {
         let bytes = fs::read(path).map_err(|e| unreadable(path, e.to_string()))?;
         let symbols = archive::symbols(&bytes).map_err(|e| unreadable(path, e))?;

@@ -6,7 +6,7 @@ use std::sync::atomic::{AtomicUsize, Ordering};
 use std::{env, fs, process};
 
 /// The files without differences, each with its path and its text.
-const FILES: [(&str, &str); 25] = [
+const FILES: [(&str, &str); 26] = [
     ("crates/rei2/src/lib.rt", "pub mod calls;\n"),
     ("crates/rei2/src/calls.rt", CALLS),
     ("crates/rei2/src/names.rt", "pub const NAME_SIZE: usize = 14;\n"),
@@ -16,6 +16,7 @@ const FILES: [(&str, &str); 25] = [
     ("crates/desk/src/limits.rt", SIZES),
     ("rei2.h", HEADER),
     ("crates/desk/specs/Limits.antt", LIMITS),
+    ("crates/desk/specs/Tally.antt", "abbrev pub letterCount : ℕ\nletterCount = 4\n\nstatusCount = 2\n"),
     ("crates/frames/src/request.rt", "pub const REQUEST_LEAD: u8 = 0x11;\npub const REQUEST_SIZE: usize = 24;\n"),
     ("crates/frames/src/reply.rt", REPLY),
     ("crates/frames/src/dynamic.rt", DYNAMIC),
@@ -52,6 +53,30 @@ const LENT: &str = "pub record Lends : Type 0 where
 const REPLY: &str = "pub const REPLY_LEAD: u8 = 18;
 pub const REPLY_SIZE: usize = CELL_SIZE;
 const CELL_SIZE: usize = 5_1;
+pub const LETTERS: usize = 4;
+pub const STATUSES: usize = 2;
+pub const STATUS_R: u8 = b'R';
+pub const STATUS_E: u8 = b'E';
+
+pub fn letter_place(letter: u8) -> usize
+    ensures { λ r. ⌜ r ≡ letterPlace letter ⌝ }
+{
+    match letter {
+        b'0' => 0,
+        b'X' => 1,
+        b'a' => 2,
+        b'A' => 3,
+        _ => LETTERS,
+    }
+}
+
+pub fn status_place(status: u8) -> usize {
+    match status {
+        STATUS_R => 0,
+        STATUS_E => 1,
+        _ => STATUSES,
+    }
+}
 ";
 
 const REQUEST_KIND: &str = "abbrev pub request : Kind R
@@ -169,6 +194,8 @@ const CALLS: &str = r#"// Calls with `#[no_mangle] pub extern "C" fn rei2_in_a_c
 use crate::lib::Unused;
 use desk::state::Desk;
 use desk::state::Seat;
+use frames::reply::LETTERS;
+use frames::reply::STATUSES;
 ghost use mathlib.Core.Path.{_≡_};
 
 #[repr(C)]
@@ -190,7 +217,7 @@ pub extern "C" fn rei2_take(
 }
 
 #[no_mangle]
-pub extern "C" fn rei2_look(desk: Desk, at: i64) -> u32 {
+pub extern "C" fn rei2_look(desk: Desk, at: i64, tally: &[[u32; STATUSES]; LETTERS]) -> u32 {
     0
 }
 
@@ -226,11 +253,15 @@ const HEADER: &str = r#"/* A small header; void rei2_in_a_comment(void); */
 #include <stdint.h>
 #define REI2_LONG(x) \
     int rei2_in_a_macro(x);
+#define REI2_LETTER_ORDER "0XaA"
+#define REI2_STATUS_ORDER "RE"
 
 enum rei2_limit {
     REI2_SEATS = 16, /* seats */
     REI2_CELLS = 256,
     REI2_CELL_SIZE = 51,
+    REI2_LETTERS = 4,
+    REI2_STATUSES = 2,
     REI2_REQUEST_SIZE = 24,
     REI2_REPLY_SIZE = 51,
     REI2_DYNAMIC_SIZE = 46,
@@ -278,7 +309,7 @@ extern "C" {
 
 rei2_desk_answer rei2_take(rei2_seat *seats, size_t seats_len, rei2_desk desk,
                            const uint8_t *frame, size_t frame_len);
-uint32_t rei2_look(rei2_desk desk, int64_t at);
+uint32_t rei2_look(rei2_desk desk, int64_t at, uint32_t tally[REI2_LETTERS][REI2_STATUSES]);
 void rei2_nothing(void);
 
 #ifdef __cplusplus
@@ -287,7 +318,7 @@ void rei2_nothing(void);
 #endif
 "#;
 
-const RIGHT: &str = "header: 3 functions, 3 structs, 22 constants, 0 differences\n";
+const RIGHT: &str = "header: 3 functions, 3 structs, 24 constants, 0 differences\n";
 
 /// A folder for one test, which is removed at its end.
 struct Folder(PathBuf);
@@ -380,7 +411,7 @@ fn the_right_header_passes() {
 
 #[test]
 fn order_of_declarations_and_blanks_do_not_matter() {
-    let look = "uint32_t rei2_look(rei2_desk desk, int64_t at);\n";
+    let look = "uint32_t rei2_look(rei2_desk desk, int64_t at, uint32_t tally[REI2_LETTERS][REI2_STATUSES]);\n";
     let folder = Folder::edited("rei2.h", look, "");
     let text = fs::read_to_string(folder.0.join("rei2.h")).expect("the header is read");
     let moved = text.replace("void rei2_nothing(void);\n", &format!("void\nrei2_nothing( void ) ;\n{look}"));
@@ -480,6 +511,104 @@ fn a_parameter_too_many() {
     differs("rei2_nothing(void)", "rei2_nothing(int of)", &wanted);
 }
 
+// An array of arrays.
+
+const TALLY: &str = "uint32_t tally[REI2_LETTERS][REI2_STATUSES]";
+
+#[test]
+fn an_array_of_arrays_by_numbers() {
+    differs(TALLY, "uint32_t tally[4][0x2]", &[]);
+    differs_in("crates/rei2/src/calls.rt", "[[u32; STATUSES]; LETTERS]", "[[u32; 2]; 2 * STATUSES]", &[]);
+}
+
+#[test]
+fn an_array_of_arrays_that_may_change_is_declared_alike() {
+    differs_in("crates/rei2/src/calls.rt", "tally: &[[", "tally: &mut [[", &[]);
+}
+
+#[test]
+fn an_array_of_arrays_is_declared_otherwise() {
+    for (other, shown) in [
+        ("uint32_t tally[REI2_STATUSES][REI2_LETTERS]", "uint32_t tally[2][4]"),
+        ("uint32_t tally[REI2_LETTERS][3]", "uint32_t tally[4][3]"),
+        ("uint64_t tally[REI2_LETTERS][REI2_STATUSES]", "uint64_t tally[4][2]"),
+        ("uint32_t counts[REI2_LETTERS][REI2_STATUSES]", "uint32_t counts[4][2]"),
+        ("const uint32_t tally[REI2_LETTERS][REI2_STATUSES]", "const uint32_t tally[4][2]"),
+        ("uint32_t *tally", "uint32_t *tally"),
+    ] {
+        let wanted = format!("rei2_look: parameter 3 is `uint32_t tally[4][2]`, in the header `{shown}`");
+        differs(TALLY, other, &[&wanted]);
+    }
+}
+
+#[test]
+fn an_array_of_arrays_changes_in_the_source() {
+    for (other, shown) in [
+        ("[[u32; LETTERS]; STATUSES]", "uint32_t tally[2][4]"),
+        ("[[u8; STATUSES]; LETTERS]", "uint8_t tally[4][2]"),
+        ("[[u32; STATUSES]; LETTERS + 1]", "uint32_t tally[5][2]"),
+    ] {
+        let wanted = format!("rei2_look: parameter 3 is `{shown}`, in the header `uint32_t tally[4][2]`");
+        differs_in("crates/rei2/src/calls.rt", "[[u32; STATUSES]; LETTERS]", other, &[&wanted]);
+    }
+    let wanted = [
+        "rei2_look: parameter 3 is `uint32_t tally[9][2]`, in the header `uint32_t tally[4][2]`",
+        "REI2_LETTERS: 9 in frames/src/reply.rt (LETTERS), 4 in the header",
+    ];
+    differs_in("crates/frames/src/reply.rt", "LETTERS: usize = 4", "LETTERS: usize = 9", &wanted);
+}
+
+#[test]
+fn an_array_of_arrays_that_is_not_read_is_told() {
+    let wanted = [
+        "header, line 63: not read: uint32_t rei2_look ( rei2_desk desk , int64_t at , uint32_t tally [",
+        "rei2_look: the header lacks this function",
+    ];
+    for other in ["uint32_t tally[ROWS][2]", "uint32_t tally[4]", "uint32_t tally[4][2][1]", "uint32_t tally[][2]"] {
+        differs(TALLY, other, &wanted);
+    }
+    let wanted = [
+        "rei2_look: a length is not read: ROWS or STATUSES",
+        "rei2_look: parameter 3 is `nothing`, in the header `uint32_t tally[4][2]`",
+    ];
+    differs_in("crates/rei2/src/calls.rt", "; LETTERS]", "; ROWS]", &wanted);
+}
+
+// Orders.
+
+#[test]
+fn an_order_differs_in_the_header() {
+    let wanted = ["REI2_LETTER_ORDER: \"0XaA\" in frames/src/reply.rt (letter_place), \"0XAa\" in the header"];
+    differs("\"0XaA\"", "\"0XAa\"", &wanted);
+    let wanted = ["REI2_STATUS_ORDER: \"RE\" in frames/src/reply.rt (status_place), \"REZ\" in the header"];
+    differs("\"RE\"", "\"REZ\"", &wanted);
+    let wanted = ["REI2_STATUS_ORDER: the header defines no such string"];
+    differs("#define REI2_STATUS_ORDER \"RE\"\n", "", &wanted);
+    differs("REI2_STATUS_ORDER \"RE\"", "REI2_STATUS_ORDER RE", &wanted);
+}
+
+#[test]
+fn an_order_differs_in_the_source() {
+    let wanted = ["REI2_LETTER_ORDER: \"0YaA\" in frames/src/reply.rt (letter_place), \"0XaA\" in the header"];
+    differs_in("crates/frames/src/reply.rt", "b'X' =>", "b'Y' =>", &wanted);
+    let wanted = ["REI2_STATUS_ORDER: \"RZ\" in frames/src/reply.rt (status_place), \"RE\" in the header"];
+    differs_in("crates/frames/src/reply.rt", "STATUS_E: u8 = b'E'", "STATUS_E: u8 = b'Z'", &wanted);
+}
+
+#[test]
+fn an_order_that_is_not_read_is_told() {
+    let wanted =
+        ["REI2_LETTER_ORDER: no letters with the places 0, 1, 2 and so on in frames/src/reply.rt (letter_place)"];
+    for (old, new) in [
+        ("b'a' => 2", "b'a' => 3"),
+        ("b'a' => 2", "b'a' | b'b' => 2"),
+        ("b'a' => 2", "LETTER => 2"),
+        ("fn letter_place(", "fn letter_index("),
+    ] {
+        differs_in("crates/frames/src/reply.rt", old, new, &wanted);
+    }
+}
+
 // Structs.
 
 #[test]
@@ -539,10 +668,10 @@ fn an_assertion_is_missing() {
 
 #[test]
 fn what_is_not_read_is_told() {
-    let wanted = ["header, line 59: not read: extern int rei2_errors ;"];
+    let wanted = ["header, line 63: not read: extern int rei2_errors ;"];
     differs("uint32_t rei2_look", "extern int rei2_errors;\nuint32_t rei2_look", &wanted);
     let wanted = [
-        "header, line 26: not read: typedef struct rei2_seat { uint32_t requester ; uint32_t held , more ;",
+        "header, line 30: not read: typedef struct rei2_seat { uint32_t requester ; uint32_t held , more ;",
         "rei2_seat: the header lacks this struct",
     ];
     differs("uint32_t held;", "uint32_t held, more;", &wanted);
@@ -729,7 +858,7 @@ fn a_constant_that_is_not_read_is_told() {
     for other in ["REI2_NOTHING,", "REI2_NOTHING = 1 - 1,", "REI2_NOTHING = ZERO,"] {
         let (status, printed, _) = Folder::edited("rei2.h", "REI2_NOTHING = 0,", other).run(&["crates", "rei2.h"]);
         let lines: Vec<&str> = printed.lines().collect();
-        assert!(lines[0].starts_with("header, line 24: not read: enum rei2_found { REI2_NOTHING "), "{}", lines[0]);
+        assert!(lines[0].starts_with("header, line 28: not read: enum rei2_found { REI2_NOTHING "), "{}", lines[0]);
         assert_eq!(lines[1..3], [lacks("ON_THE_WAY"), lacks("NOTHING")]);
         assert_eq!((status, lines.len()), (1, 4));
     }
@@ -881,5 +1010,5 @@ fn nothing_exported_is_no_success() {
     let constants = HEADER.find("typedef").expect("the structs come behind the constants");
     fs::write(folder.0.join("rei2.h"), &HEADER[..constants]).expect("the header is written");
     let (status, printed, _) = folder.run(&["crates", "rei2.h"]);
-    assert_eq!((status, printed.as_str()), (1, "header: 0 functions, 0 structs, 22 constants, 0 differences\n"));
+    assert_eq!((status, printed.as_str()), (1, "header: 0 functions, 0 structs, 24 constants, 0 differences\n"));
 }

@@ -3,7 +3,7 @@ use Prim.Native.Nat.{ℕ, _<_}
 use mathlib.Core.List.{List}
 use mathlib.Core.Bool.{Bool, true, false, cond, _&&_}
 use mathlib.Core.Path.{_≡_}
-use lib.Dec.{eqb}
+use lib.Dec.{eqb, ltb}
 use lib.ListN.{length, getD}
 use Rattle.digits.specs.Told.{Told, gives, refuses}
 use Rattle.frames.specs.declared.reply.ReplyLabel.{ReplyLabel}
@@ -16,7 +16,7 @@ use Rattle.desk.specs.Hearing.{heard, statusIn}
 use Rattle.desk.specs.Step.{advanced, step, goes}
 use Rattle.desk.specs.Memory.{cellAt, markAt}
 use Rattle.desk.specs.Seats.{seatAt, usedBit}
-use Rattle.desk.specs.Desk.{isZero, markGood}
+use Rattle.desk.specs.Desk.{isZero}
 use Rattle.desk.specs.Replay.{replayed, takenAt}
 use Rattle.desk.specs.inside.Columns.{keyNumber}
 
@@ -36,9 +36,9 @@ hasNumber key (refuses f) = false
 unfoldable pub turnOf : Progress → ℕ → Told ReplyLabel → Turn
 turnOf p key got = record { good = hasNumber key got && goes (step p true (statusIn got)); progress = advanced p (statusIn got) }
 
--- row i, with the keys as a column
-abbrev pub rowTaken : List ℕ → ℕ → List ℕ → List ℕ → ℕ → Bool
-rowTaken keys bits cells marks i = markGood bits marks i && (hasNumber (getD keys (markAt marks i) 0) (heard (cellAt cells i)) && takenAt cells marks i)
+-- row i, with the keys as a column: a seat that is not in use has the key 0, which no reply has
+abbrev pub rowTaken : List ℕ → List ℕ → List ℕ → ℕ → Bool
+rowTaken keys cells marks i = ltb (markAt marks i) seatCount && (hasNumber (getD keys (markAt marks i) 0) (heard (cellAt cells i)) && takenAt cells marks i)
 
 -- the columns are what the first n rows bring each seat to
 pub record Tracks (cells marks : List ℕ) (n : ℕ) (held ended : List ℕ) : Type 0 where

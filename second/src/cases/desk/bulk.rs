@@ -12,6 +12,7 @@ use super::frames::{
     patched, random_minus_zero, random_reply, random_request, reply_with_bib, Key, E, R,
     REPLY_DAMAGES, REQUEST_DAMAGES, Z,
 };
+use super::random::tally;
 use super::script::Script;
 use crate::cases::frames::{befall_at_random, random_address};
 use crate::cases::spoiled::{self, change_field};
@@ -154,12 +155,22 @@ fn with_another_number(random: &mut Random, (address, requester, number): Key) -
     (address, requester, number)
 }
 
-/// Asks for the seats in use, or for the next held cell of some seat from some place on.
+/// Asks for the seats in use, for a number of the tally, or for the next held cell. Sometimes asks
+/// for the whole tally.
 fn add_look(script: &mut Script, random: &mut Random) {
-    if random.once_in(4) {
-        script.used();
-        return;
+    match random.below(40) {
+        0 => script.looks(),
+        1..=12 => {
+            let (letter, status) = tally::look(script.desk(), random);
+            script.look(letter, status);
+        }
+        13..=19 => script.used(),
+        _ => add_look_for_a_cell(script, random),
     }
+}
+
+/// Asks for the next held cell of some seat from some place on.
+fn add_look_for_a_cell(script: &mut Script, random: &mut Random) {
     let seat = match random.below(8) {
         0 => random.pick(&[16, 17, 256, 0xeeee_eeee, u32::MAX]),
         _ => random.below(6) as u32,
@@ -241,7 +252,15 @@ mod tests {
         for number in [1, 2, 3, 4, 5, 9, 10, 11, 12, 13, 14, 15, 16] {
             assert!(tally.calls[number] > 3, "{number} {:?}", tally.calls);
         }
-        assert_eq!([6, 7, 8].map(|number| tally.calls[number]), [0; 3]);
+        assert_eq!([6, 7, 8, 17].map(|number| tally.calls[number]), [0; 4]);
+        let looks = lines.iter().zip(&answers);
+        let looks = looks.filter(|(line, _)| line.starts_with("look "));
+        let (found, refused): (Vec<_>, Vec<_>) =
+            looks.partition(|(_, answer)| answer[0].starts_with("0 0 0 "));
+        let not_zero = found.iter().filter(|(_, answer)| answer[0] != "0 0 0 0");
+        assert!(not_zero.count() > 20);
+        assert!(refused.len() > 20);
+        assert!(refused.iter().all(|(_, answer)| answer[0] == "17 0 0 0"));
     }
 
     #[test]

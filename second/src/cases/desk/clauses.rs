@@ -1,9 +1,9 @@
-//! Scripts about what makes a desk. Each clause is broken in turn and both calls are tried. Then
-//! the clause is mended and both calls are tried again.
+//! Scripts about what makes a desk. Each clause but that of the tally is broken in turn and both
+//! calls are tried. Then the clause is mended and both calls are tried again.
 
 mod changes;
 
-use super::frames::{patched, reply, reply_with_bib, request, request_for, R, Z};
+use super::frames::{patched, reply, reply_with_bib, request, request_for, R, ROW_OF_P, Z};
 use super::script::{seat_of, Script};
 use crate::cases::Cases;
 use crate::desk::CELL;
@@ -29,12 +29,13 @@ fn lay(cases: &mut Cases) -> Script<'_> {
 }
 
 /// For each break: the desk is spoiled, asked, mended and asked again. Then it is spoiled once more
-/// and reset.
+/// and reset. When the spoiled desk is asked, its tally agrees with its cells.
 fn add_breaks(cases: &mut Cases) {
     let mut script = lay(cases);
     let good = script.desk().clone();
     for (number, spoils) in breaks().iter().enumerate() {
         script.change_all(spoils);
+        script.mend_tally();
         ask(&mut script, number);
         script.used();
         script.put_back(&good);
@@ -57,6 +58,7 @@ fn add_harmless(cases: &mut Cases) {
     let good = script.desk().clone();
     for (number, changes) in harmless().iter().enumerate() {
         script.change_all(changes);
+        script.mend_tally();
         ask(&mut script, number);
         script.put_back(&good);
     }
@@ -103,7 +105,8 @@ fn add_no_desk_and_more(cases: &mut Cases) {
 }
 
 /// A count above the capacity, because the third cell or the third mark is not lent whole. Records
-/// held is tried as 2 and as 3. With one of the two, nothing else is wrong.
+/// held and the number in the tally are tried as 2 and as 3. With one of the four, nothing else is
+/// wrong.
 fn add_short_memory(cases: &mut Cases) {
     for (bytes, marks) in [(102, 4), (152, 4), (204, 2)] {
         let mut script = Script::lend(cases, bytes, marks);
@@ -122,8 +125,9 @@ fn add_short_memory(cases: &mut Cases) {
             script.change(&put(2, (0, &third[..there])));
         }
         script.change(&Change::Count(3));
-        for held in [2, 3] {
+        for (held, counted) in [(2, 2), (3, 2), (3, 3), (2, 3)] {
             script.change(&Change::Seat(0, seat_of(KEYS[0], held, 0)));
+            script.change(&Change::Tally(ROW_OF_P, 0, counted));
             script.open(&request(NEW_KEY));
             script.reply(&third);
         }
@@ -196,6 +200,21 @@ mod tests {
         }
     }
 
+    /// The tally is never the reason for a refusal.
+    #[test]
+    fn the_tally_of_a_broken_desk_is_right() {
+        use crate::desk::tally::Tally;
+        let mut cases = Cases::default();
+        let mut script = lay(&mut cases);
+        let good = script.desk().clone();
+        for spoils in breaks() {
+            script.change_all(&spoils);
+            script.mend_tally();
+            assert_eq!(script.desk().tally, Tally::counted(script.desk()));
+            script.put_back(&good);
+        }
+    }
+
     #[test]
     fn harmless_changes_are_not_minded() {
         let calls = calls(add_harmless);
@@ -220,11 +239,11 @@ mod tests {
     #[test]
     fn short_memory_is_no_desk() {
         let calls = calls(add_short_memory);
-        for script in calls.chunks(9) {
+        for script in calls.chunks(13) {
             let answers: Vec<&str> = script.iter().map(|(_, answer)| answer.as_str()).collect();
             assert_eq!(answers[..3], ["0 0 0 0"; 3]);
-            assert_eq!(answers[3..7], ["9 0 0 0"; 4]);
-            assert_eq!(answers[7..], ["0 0 0 1", "16 0 0 0"]);
+            assert_eq!(answers[3..11], ["9 0 0 0"; 8]);
+            assert_eq!(answers[11..], ["0 0 0 1", "16 0 0 0"]);
         }
     }
 

@@ -42,6 +42,22 @@ pub fn reply_with_bib(status: u8, (address, requester, number): Key, bib: usize)
     frame
 }
 
+/// The row of the tally for the letter that most of these frames have.
+pub const ROW_OF_P: usize = 12;
+
+/// A reply with this letter, and with a time and a date that suit it.
+pub fn reply_for(status: u8, key: Key, letter: u8) -> Vec<u8> {
+    let date: &[u8; 8] = match letter {
+        letter if reply::CLOCK_LETTERS.contains(&letter) => b"01012000",
+        letter if reply::NET_LETTERS.contains(&letter) => b"+0000000",
+        _ => b"00000000",
+    };
+    let mut frame = reply(status, key);
+    frame[reply::at::INFORMATION] = letter;
+    frame[reply::at::DATE..reply::at::SPARE].copy_from_slice(date);
+    frame
+}
+
 /// A reply with this status to this key. All its other fields are random.
 pub fn random_reply(random: &mut Random, status: u8, key: Key) -> Vec<u8> {
     let mut record = iter::repeat_with(|| cases::reply::random_record(random))
@@ -165,6 +181,18 @@ mod tests {
             assert_eq!(record.address, address);
             assert_eq!((record.requester, record.number), (b'a', 99_999));
             assert_eq!((record.status, record.bib), (status, 59_999));
+        }
+    }
+
+    #[test]
+    fn every_letter_has_a_good_reply() {
+        assert_eq!(reply::INFORMATION[ROW_OF_P], b'P');
+        for &letter in reply::INFORMATION {
+            for status in [R, E, Z] {
+                let frame = reply_for(status, (b' ', b'1', 7), letter);
+                let record = Reply::read(&frame).expect("a reply");
+                assert_eq!((record.status, record.information), (status, letter));
+            }
         }
     }
 

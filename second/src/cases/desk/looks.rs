@@ -1,4 +1,4 @@
-//! Scripts that only look: seats in use and held cells.
+//! Scripts that only look: seats in use and held cells. Looks at the tally are in `tally`.
 
 use super::frames::{reply_with_bib, Key, E, R};
 use super::script::Script;

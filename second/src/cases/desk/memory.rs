@@ -1,9 +1,10 @@
 //! Scripts about what is lent: nothing, little, much, and a desk that is full.
 
-use super::frames::{patched, reply, reply_with_bib, request, request_for, Key, E, R, Z};
+use super::frames::{patched, reply, reply_with_bib, request, request_for, Key, E, R, ROW_OF_P, Z};
 use super::script::{seat_of, Script};
 use crate::cases::Cases;
 use crate::desk::{Desk, CELL, MOST_CELLS};
+use crate::reply::at;
 use crate::script::Change;
 
 const KEYS: [Key; 3] = [(b' ', b'1', 7), (b' ', b'A', 7), (b' ', b'z', 0)];
@@ -14,6 +15,8 @@ pub fn add_nothing_lent(cases: &mut Cases) {
     script.used();
     script.held(0, 0);
     script.held(0, u32::MAX as usize);
+    script.look(b'P', R);
+    script.look(b'L', R);
     script.reset();
     script.open(&[]);
     script.reply(&reply(R, KEYS[0]));
@@ -92,7 +95,7 @@ fn record_of(cell: usize) -> (u8, Key) {
 }
 
 /// More is lent than a desk has cells. The desk is filled to its last cell. One more record past
-/// that, good in itself, makes it no desk.
+/// that, good in itself, makes it no desk. Then all its records have the same letter and status.
 fn add_filled_desk(cases: &mut Cases) {
     let mut script = Script::lend(cases, 15_300, 300);
     script.open_all(&KEYS);
@@ -123,6 +126,7 @@ fn add_filled_desk(cases: &mut Cases) {
         Change::Seat(0, seat_of(KEYS[0], held, 0)),
         Change::Count(257),
     ]);
+    script.mend_tally();
     script.open(&request((b' ', b'b', 1)));
     script.reply(&last);
     script.held(0, 256);
@@ -136,10 +140,28 @@ fn add_filled_desk(cases: &mut Cases) {
         script.change(&Change::Cell(cell * CELL + 50, vec![0x0d]));
     }
     script.reply(&last);
+    add_256_alike(&mut script);
     script.reset();
     script.held(0, 0);
     script.open_all(&KEYS[..1]);
     script.reply(&last);
+}
+
+/// The E and the Z of the full desk become R too. The tally has 256 in one place then, which is
+/// more than a byte can hold.
+fn add_256_alike(script: &mut Script) {
+    for (seat, cell) in [(1, 253), (2, 20)] {
+        let held = script.desk().seats[seat].held;
+        script.change(&Change::Cell(cell * CELL + at::STATUS, vec![R]));
+        script.change(&Change::Seat(seat, seat_of(KEYS[seat], held, 0)));
+    }
+    script.mend_tally();
+    for number in [256, 0, 255, 257, 65_792, 256] {
+        script.change(&Change::Tally(ROW_OF_P, 0, number));
+        script.look(b'P', R);
+        script.open(&request(KEYS[0]));
+        script.reply(&reply(R, KEYS[1]));
+    }
 }
 
 fn add_refusals_of_full_desk(script: &mut Script) {
@@ -164,9 +186,9 @@ mod tests {
     #[test]
     fn a_desk_without_cells() {
         let expected = [
-            "0", "none", "none", "0 0 0 0", "1 0 0 0", "13 0 0 0", "0 0 0 0", "11 0 0 0",
-            "10 0 0 0", "16 0 0 0", "16 0 0 0", "16 0 0 0", "5 5 5 0", "1", "set", "none",
-            "9 0 0 0", "9 0 0 0", "set", "0 0 0 1", "0 0 0 0", "0",
+            "0", "none", "none", "0 0 0 0", "17 0 0 0", "0 0 0 0", "1 0 0 0", "13 0 0 0",
+            "0 0 0 0", "11 0 0 0", "10 0 0 0", "16 0 0 0", "16 0 0 0", "16 0 0 0", "5 5 5 0", "1",
+            "set", "none", "9 0 0 0", "9 0 0 0", "set", "0 0 0 1", "0 0 0 0", "0",
         ];
         assert_eq!(outcomes(add_nothing_lent), expected);
     }
@@ -205,13 +227,30 @@ mod tests {
             rest[7..16],
             ["0", "3", "254", "255", "none", "253", "none", "20", "none"]
         );
-        assert_eq!(rest[20..23], ["9 0 0 0", "9 0 0 0", "none"]);
+        assert_eq!(rest[21..24], ["9 0 0 0", "9 0 0 0", "none"]);
         assert_eq!(
-            rest[25..],
+            rest[27..36],
             [
                 "0 0 0 3", "16 0 0 0", "set", "9 0 0 0", "set", "set", "9 0 0 0", "set",
-                "16 0 0 0", "0 0 0 0", "none", "0 0 0 0", "0 0 0 0",
+                "16 0 0 0",
             ]
         );
+        assert_eq!(rest[67..], ["0 0 0 0", "none", "0 0 0 0", "0 0 0 0"]);
+    }
+
+    #[test]
+    fn a_number_of_256_in_the_tally() {
+        let answers = outcomes(add_filled_desk);
+        let alike = &answers[4 + MOST_CELLS + 36..][..7 + 6 * 4];
+        assert_eq!(alike[..7], ["set"; 7]);
+        let numbers = [256, 0, 255, 257, 65_792, 256];
+        for (number, lines) in numbers.into_iter().zip(alike[7..].chunks(4)) {
+            let calls = match number {
+                256 => ["11 0 0 0", "16 0 0 0"],
+                _ => ["9 0 0 0", "9 0 0 0"],
+            };
+            assert_eq!(lines[..2], ["set".to_string(), format!("0 0 0 {number}")]);
+            assert_eq!(lines[2..], calls);
+        }
     }
 }

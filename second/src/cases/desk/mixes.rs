@@ -31,8 +31,10 @@ fn add_desk_afterwards(cases: &mut Cases) {
     const LENT_MARK: u32 = 4_008_636_142;
     let mut script = Script::go_on(cases, script::lend(408, 8));
     script.used();
+    script.look(b'P', R);
     script.open(&request(KEY));
     script.reply(&reply(R, KEY));
+    script.look(b'P', R);
     script.change(&Change::Count(9));
     for place in [0, 7, 8] {
         script.held(LENT_MARK, place);
@@ -102,7 +104,7 @@ mod tests {
                 add_desk_afterwards(cases);
             });
             let expected = [
-                "0", "0 0 0 0", "0 0 0 0", "set", "1", "7", "none", "0 0 0 0",
+                "0", "0 0 0 0", "0 0 0 0", "0 0 0 0", "0 0 0 1", "set", "1", "7", "none", "0 0 0 0",
             ];
             assert_eq!(answers[2..], expected);
         }

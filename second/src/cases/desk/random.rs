@@ -1,9 +1,11 @@
 //! Random scripts on small desks. All refusals occur often, and answers stay short.
 
+pub mod tally;
+
 use super::frames::{reply_with_bib, request, request_for, Key, E, R, Z};
 use super::script::{seat_of, Script};
 use crate::cases::frames::befall_at_random;
-use crate::cases::{reply, request as requests, Cases};
+use crate::cases::{replaced, reply, request as requests, Cases};
 use crate::desk::{Desk, Seat, CELL};
 use crate::random::Random;
 use crate::reply::at;
@@ -79,7 +81,9 @@ fn add_call(script: &mut Script, random: &mut Random) {
 
 fn good_reply(random: &mut Random) -> Vec<u8> {
     let status = random.pick(&[R, R, R, R, E, Z, Z]);
-    reply_with_bib(status, random.pick(&KEYS), random.place(60_000))
+    let frame = reply_with_bib(status, random.pick(&KEYS), random.place(60_000));
+    // Letters whose time and date are raw.
+    replaced(&frame, at::INFORMATION, &[random.pick(b"PPPAXp")])
 }
 
 /// A request that no answer is due to, or one with a random change.
@@ -93,10 +97,12 @@ fn random_request(random: &mut Random) -> Vec<u8> {
     frame
 }
 
-/// A stray, or a reply with a random change.
+/// A stray, a reply with a random change, or a frame of another kind.
 fn random_reply(random: &mut Random) -> Vec<u8> {
-    if random.once_in(3) {
-        return reply_with_bib(R, stray_key(random), 1);
+    match random.below(12) {
+        0..=3 => return reply_with_bib(R, stray_key(random), 1),
+        4 => return request(random.pick(&KEYS)),
+        _ => {}
     }
     let mut frame = good_reply(random);
     befall_at_random(&mut frame, &reply::NUMBERS, random);
@@ -116,6 +122,11 @@ fn stray_key(random: &mut Random) -> Key {
 }
 
 fn add_look(script: &mut Script, random: &mut Random) {
+    if random.once_in(3) {
+        let (letter, status) = tally::look(script.desk(), random);
+        script.look(letter, status);
+        return;
+    }
     let seat = random.pick(&[0, 0, 1, 1, 2, 3, 16, 0xeeee_eeee]);
     script.held(seat, random.place(6));
 }
@@ -124,9 +135,17 @@ fn add_look(script: &mut Script, random: &mut Random) {
 /// reset.
 fn add_spoils(script: &mut Script, random: &mut Random) {
     let kept = script.desk().clone();
-    for _ in 0..1 + random.below(2) {
-        let change = random_change(script.desk(), random);
-        script.change(&change);
+    if random.once_in(6) {
+        script.change(&tally::change(&kept, random));
+    } else {
+        for _ in 0..1 + random.below(2) {
+            let change = random_change(script.desk(), random);
+            script.change(&change);
+        }
+        // Most of the time the tally agrees with what the cells hold now.
+        if !random.once_in(8) {
+            script.mend_tally();
+        }
     }
     for _ in 0..1 + random.below(2) {
         add_call(script, random);
@@ -138,7 +157,7 @@ fn add_spoils(script: &mut Script, random: &mut Random) {
     }
 }
 
-/// A change that usually leaves no desk.
+/// A change that usually leaves no desk. The tally stays.
 pub fn random_change(desk: &Desk, random: &mut Random) -> Change {
     match random.below(10) {
         0 | 1 if !desk.marks.is_empty() => {
@@ -219,11 +238,11 @@ mod tests {
 
     /// The numbers that the answers to these calls begin with.
     fn numbers(text: &str, call: &str) -> BTreeSet<u32> {
-        let answers = answers::file(text.as_bytes()).expect("cases");
-        let calls = text.lines().zip(answers.lines());
+        let answers = answers::by_case(text.as_bytes()).expect("cases");
+        let calls = text.lines().zip(&answers);
         calls
             .filter(|(line, _)| line.starts_with(call))
-            .filter_map(|(_, answer)| answer.split(' ').next()?.parse().ok())
+            .filter_map(|(_, answer)| answer.first()?.split(' ').next()?.parse().ok())
             .collect()
     }
 
@@ -235,5 +254,6 @@ mod tests {
         let replies = BTreeSet::from([0, 1, 2, 3, 4, 5, 9, 13, 14, 15, 16]);
         assert_eq!(numbers(&text, "reply "), replies);
         assert_eq!(numbers(&text, "reset"), BTreeSet::from([0]));
+        assert_eq!(numbers(&text, "look "), BTreeSet::from([0, 17]));
     }
 }

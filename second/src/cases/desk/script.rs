@@ -3,6 +3,7 @@
 
 use super::frames::{request, Key};
 use crate::cases::Cases;
+use crate::desk::tally::Tally;
 use crate::desk::{Desk, Seat, CELL};
 use crate::script::{self, Change};
 use crate::spelling::{bytes_text, MOST_BYTES};
@@ -80,6 +81,15 @@ impl<'a> Script<'a> {
         self.line(&format!("held {seat} {place}"));
     }
 
+    pub fn look(&mut self, letter: u8, status: u8) {
+        self.line(&format!("look {letter} {status}"));
+    }
+
+    /// A look for every letter and every status. Its answer is long.
+    pub fn looks(&mut self) {
+        self.line("looks");
+    }
+
     pub fn change(&mut self, change: &Change) {
         self.line(&change.text());
         change
@@ -91,6 +101,12 @@ impl<'a> Script<'a> {
         for change in changes {
             self.change(change);
         }
+    }
+
+    /// Sets the tally to the count over the cells held.
+    pub fn mend_tally(&mut self) {
+        let counted = Tally::counted(&self.desk);
+        self.change_all(&tally_changes(&self.desk.tally, &counted));
     }
 
     /// Makes the desk what it was before, except its free cells and marks.
@@ -110,6 +126,14 @@ pub fn seat_of((address, requester, number): Key, held: u32, ended: u32) -> Seat
         held,
         ended,
     }
+}
+
+/// The changes that lead from one tally to another.
+pub fn tally_changes(from: &Tally, to: &Tally) -> Vec<Change> {
+    Tally::places()
+        .filter(|&place| from.number(place) != to.number(place))
+        .map(|(row, column)| Change::Tally(row, column, to.number((row, column))))
+        .collect()
 }
 
 /// The changes that lead from one desk back to another. Both have the same amount lent.
@@ -133,6 +157,7 @@ fn changes_back(from: &Desk, to: &Desk) -> Vec<Change> {
         }
     }
     changes.extend((0..taken).filter_map(|cell| cell_back(from, to, cell)));
+    changes.extend(tally_changes(&from.tally, &to.tally));
     changes
 }
 
@@ -152,13 +177,14 @@ pub mod tests {
     use crate::answers;
     use crate::cases::desk::frames::{reply, R};
 
-    /// The answers to these cases. Of calls only the refusal, which is three numbers, and the seat.
+    /// The answers to these cases, one for each. Of calls only the refusal, which is three numbers,
+    /// and the seat. Of several lines only the first.
     pub fn outcomes(add: impl FnOnce(&mut Cases)) -> Vec<String> {
         let mut cases = Cases::default();
         add(&mut cases);
-        let answers = answers::file(cases.text.as_bytes()).expect("cases");
-        let outcome = |line: &str| line.split(' ').take(4).collect::<Vec<_>>().join(" ");
-        answers.lines().map(outcome).collect()
+        let answers = answers::by_case(cases.text.as_bytes()).expect("cases");
+        let outcome = |line: &String| line.split(' ').take(4).collect::<Vec<_>>().join(" ");
+        answers.iter().map(|lines| outcome(&lines[0])).collect()
     }
 
     #[test]
@@ -184,14 +210,18 @@ pub mod tests {
             Change::Seat(15, seat_of((b' ', b'2', 8), 3, 4)),
             Change::Mark(0, 5),
             Change::Cell(6, vec![1, 2]),
+            Change::Tally(12, 0, 2),
+            Change::Tally(0, 1, 3),
         ]);
         assert_ne!(script.desk(), &kept);
         script.put_back(&kept);
         assert_eq!(script.desk(), &kept);
-        let last_five: Vec<&str> = cases.text.lines().rev().take(5).collect();
+        let last_seven: Vec<&str> = cases.text.lines().rev().take(7).collect();
         assert_eq!(
-            last_five,
+            last_seven,
             [
+                "tally 12 0 1",
+                "tally 0 1 0",
                 "cell 6 3130",
                 "mark 0 0",
                 "seat 15 0 0 0 0 0",
@@ -199,6 +229,21 @@ pub mod tests {
                 "bits 1"
             ]
         );
+    }
+
+    #[test]
+    fn a_tally_is_mended_by_its_cells() {
+        let mut cases = Cases::default();
+        let mut script = Script::lend_cells(&mut cases, 2);
+        script.open_all(&[(b' ', b'1', 7)]);
+        script.reply(&reply(R, (b' ', b'1', 7)));
+        script.mend_tally();
+        assert_eq!(script.lines(), 3);
+        script.change(&Change::Cell(5, b"E".to_vec()));
+        script.mend_tally();
+        script.mend_tally();
+        assert_eq!(script.lines(), 6);
+        assert!(cases.text.ends_with("tally 12 0 0\ntally 12 1 1\n"));
     }
 
     #[test]

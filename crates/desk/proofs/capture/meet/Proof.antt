@@ -31,9 +31,9 @@ same-length-5 c = search needs
 
 returns : tie.Need-returns
 returns c =
-    let a = c .before .before .before .before .before .before .before .before .before .before .before .before .before .before .before .before .args in
-    let m = memory (a .desk) (rowOf (now (a .keys)) (now (a .held)) (now (a .ended))) (now (a .cells)) (now (a .marks)) in
-    meets-request m (now (a .frame)) _ _ (sym (c .before .before .before .before .before .before .before .before .before .byte-at .ensures) ∙ c .before .before .before .before .before .before .before .before .if1 .taken) (c .before .before .meet-request .ensures)
+    let a = c .before .before .before .before .before .before .before .before .before .before .before .before .before .before .before .before .before .args in
+    let m = memory (a .desk) (rowOf (now (a .keys)) (now (a .held)) (now (a .ended))) (now (a .cells)) (now (a .marks)) (now (a .tally)) in
+    meets-request m (now (a .frame)) _ _ (sym (c .before .before .before .before .before .before .before .before .before .before .byte-at .ensures) ∙ c .before .before .before .before .before .before .before .before .before .if1 .taken) (c .before .before .meet-request .ensures)
 
 meet-reply-requires : tie.Need-meet-reply-requires
 meet-reply-requires c κs = search needs
@@ -55,9 +55,9 @@ same-length-10 c = search needs
 
 returns-2 : tie.Need-returns-2
 returns-2 c =
-    let a = c .before .before .before .before .before .before .before .before .before .before .before .before .before .before .before .before .before .before .before .before .before .before .before .args in
-    let m = memory (a .desk) (rowOf (now (a .keys)) (now (a .held)) (now (a .ended))) (now (a .cells)) (now (a .marks)) in
-    meets-reply m (now (a .frame)) _ _ (λ e. c .before .before .before .before .before .before .before .before .before .before .before .before .before .before .before .if1 .left (c .before .before .before .before .before .before .before .before .before .before .before .before .before .before .before .before .byte-at .ensures ∙ e)) (sym (c .before .before .before .before .before .before .before .before .before .before .before .before .before .before .before .before .byte-at .ensures) ∙ c .before .before .before .before .before .before .before .before .before .before .before .before .before .before .if2 .taken) (c .before .before .before .before .before .before .before .before .meet-reply .ensures)
+    let a = c .before .before .before .before .before .before .before .before .before .before .before .before .before .before .before .before .before .before .before .before .before .before .before .before .args in
+    let m = memory (a .desk) (rowOf (now (a .keys)) (now (a .held)) (now (a .ended))) (now (a .cells)) (now (a .marks)) (now (a .tally)) in
+    meets-reply m (now (a .frame)) _ _ (λ e. c .before .before .before .before .before .before .before .before .before .before .before .before .before .before .before .before .if1 .left (c .before .before .before .before .before .before .before .before .before .before .before .before .before .before .before .before .before .byte-at .ensures ∙ e)) (sym (c .before .before .before .before .before .before .before .before .before .before .before .before .before .before .before .before .before .byte-at .ensures) ∙ c .before .before .before .before .before .before .before .before .before .before .before .before .before .before .before .if2 .taken) (c .before .before .before .before .before .before .before .before .meet-reply .ensures)
 
 dynamic-fate-requires : tie.Need-dynamic-fate-requires
 dynamic-fate-requires c κs = search needs
@@ -65,7 +65,7 @@ dynamic-fate-requires c κs = search needs
 returns-3 : tie.Need-returns-3
 returns-3 c =
     let a = c .before .before .before .before .before .before .before .before .before .before .args in
-    let m = memory (a .desk) (rowOf (now (a .keys)) (now (a .held)) (now (a .ended))) (now (a .cells)) (now (a .marks)) in
+    let m = memory (a .desk) (rowOf (now (a .keys)) (now (a .held)) (now (a .ended))) (now (a .cells)) (now (a .marks)) (now (a .tally)) in
     meets-other m (now (a .frame)) _ _ (λ e. c .before .before .if1 .left (c .before .before .before .byte-at .ensures ∙ e)) (λ e. c .before .if2 .left (c .before .before .before .byte-at .ensures ∙ e)) (c .dynamic-fate .ensures) refl
 
 pub meet-spec : {M : Type 1} → statement M

@@ -1,12 +1,13 @@
 -- `desk::capture::meet_reply` meets its contract. Assumes nothing.
 use mathlib.Core.List.{List}
-use mathlib.Core.Path.{_≡_, refl, sym, ap, _∙_}
+use mathlib.Core.Path.{_≡_, refl, sym, ap, ap₂, _∙_}
 use native.Mathlib.Omega.{arith}
 use Prim.Native.Nat.{ℕ}
 use denote.Ref.{now}
 use lib.ListN.{set}
 use Rattle.digits.specs.Told.{gives, refuses}
 use Rattle.desk.specs.Memory.{Memory, memory}
+use Rattle.desk.specs.Tally.{counted}
 use Rattle.desk.specs.inside.Columns.{rowOf}
 use Rattle.desk.specs.declared.state.Seat.{Seat}
 use Rattle.desk.specs.declared.step.Progress.{Progress}
@@ -14,7 +15,7 @@ use Rattle.desk.specs.declared.capture.Fate.the-variants.{Collected}
 use Rattle.desk.specs.Calls.{replyTried, replies, replyRefused}
 use Rattle.desk.specs.inside.Judging.{replyJudged}
 use Rattle.desk.proofs.ColumnLaws.{seat-at}
-use Rattle.desk.proofs.StepLaws.{took, Room, took-room}
+use Rattle.desk.proofs.StepLaws.{took, Room, took-room, took-countable}
 use Rattle.desk.proofs.OutcomeLaws.{reply-done, not-taken}
 use Rattle.desk.proofs.JudgeLaws.{reply-by-columns, grown-columns}
 use Rattle.desk.proofs.CaptureLaws.{met-by}
@@ -23,7 +24,7 @@ use Rattle.desk.proofs.capture.meet_reply.Statement.{statement}
 use Rattle.desk.proofs.capture.meet_reply.Tie as tie
 
 abbrev M : tie.After-judged → Memory
-M c = memory (c .before .before .before .before .before .before .before .before .before .before .before .args .desk) (rowOf (now (c .before .before .before .before .before .before .before .before .before .before .before .args .keys)) (now (c .before .before .before .before .before .before .before .before .before .before .before .args .held)) (now (c .before .before .before .before .before .before .before .before .before .before .before .args .ended))) (now (c .before .before .before .before .before .before .before .before .before .before .before .args .cells)) (now (c .before .before .before .before .before .before .before .before .before .before .before .args .marks))
+M c = memory (c .before .before .before .before .before .before .before .before .before .before .before .args .desk) (rowOf (now (c .before .before .before .before .before .before .before .before .before .before .before .args .keys)) (now (c .before .before .before .before .before .before .before .before .before .before .before .args .held)) (now (c .before .before .before .before .before .before .before .before .before .before .before .args .ended))) (now (c .before .before .before .before .before .before .before .before .before .before .before .args .cells)) (now (c .before .before .before .before .before .before .before .before .before .before .before .args .marks)) (now (c .before .before .before .before .before .before .before .before .before .before .before .args .tally))
 
 abbrev F : tie.After-judged → List ℕ
 F c = now (c .before .before .before .before .before .before .before .before .before .before .before .args .frame)
@@ -32,7 +33,7 @@ tried : (c : tie.After-judged) → replyJudged (c .judged .result) ≡ replyTrie
 tried c =
     let a = c .before .before .before .before .before .before .before .before .before .before .before .args in
     let p = c .before .before .before .before .before .before .before .before .before .before .before .pre in
-    rw (c .before .before .before .capacity .ensures) at (c .judged .ensures) ∙ reply-by-columns (a .desk) (now (a .keys)) (now (a .held)) (now (a .ended)) (now (a .cells)) (now (a .marks)) (p .0) (p .1) (F c)
+    rw (c .before .before .before .capacity .ensures) at (c .judged .ensures) ∙ reply-by-columns (a .desk) (now (a .keys)) (now (a .held)) (now (a .ended)) (now (a .cells)) (now (a .marks)) (now (a .tally)) (p .0) (p .1) (F c)
 
 judged-takes : (c : tie.After-taking) → gives (c .taking .given .0 .0) ≡ replyTried (M (c .before .before)) (F (c .before .before))
 judged-takes c = rw (c .taking .given .1) at (tried (c .before .before))
@@ -54,17 +55,17 @@ judged-requires c κs = search needs
 enum-known-taking : tie.Need-enum-known-taking
 enum-known-taking c = search needs
 
-mul-t23 : tie.Need-mul-t23
-mul-t23 c = let r = room (c .before) in omega (arith, r .seat)
+mul-t24 : tie.Need-mul-t24
+mul-t24 c = let r = room (c .before) in omega (arith, r .seat)
 
-slice-read-t25 : tie.Need-slice-read-t25
-slice-read-t25 c = let r = room (c .before .before) in let z = c .before .before .before .before .before .before .before .before .before .before .before .before .before .before .before .pre .0 .all-held in omega (arith, r .seat, z)
+slice-read-t26 : tie.Need-slice-read-t26
+slice-read-t26 c = let r = room (c .before .before) in let z = c .before .before .before .before .before .before .before .before .before .before .before .before .before .before .before .pre .0 .all-held in omega (arith, r .seat, z)
 
-mul-t26 : tie.Need-mul-t26
-mul-t26 c = let r = room (c .before .before) in omega (arith, r .seat)
+mul-t27 : tie.Need-mul-t27
+mul-t27 c = let r = room (c .before .before) in omega (arith, r .seat)
 
-slice-read-t28 : tie.Need-slice-read-t28
-slice-read-t28 c = let r = room (c .before .before .before) in let z = c .before .before .before .before .before .before .before .before .before .before .before .before .before .before .before .before .pre .0 .all-ended in omega (arith, r .seat, z)
+slice-read-t29 : tie.Need-slice-read-t29
+slice-read-t29 c = let r = room (c .before .before .before) in let z = c .before .before .before .before .before .before .before .before .before .before .before .before .before .before .before .before .pre .0 .all-ended in omega (arith, r .seat, z)
 
 advanced-requires : tie.Need-advanced-requires
 advanced-requires c κs =
@@ -86,8 +87,18 @@ mul-ended c = let r = room (c .before .before .before .before) in omega (arith, 
 slice-write-ended : tie.Need-slice-write-ended
 slice-write-ended c = let r = room (c .before .before .before .before) in let z = c .before .before .before .before .before .before .before .before .before .before .before .before .before .before .before .before .before .pre .0 .all-ended in omega (arith, r .seat, z)
 
+byte-at-requires : tie.Need-byte-at-requires
+byte-at-requires c κs = search needs
+
+count-one-requires : tie.Need-count-one-requires
+count-one-requires c κs =
+    let t = c .before .before .before .before .before .before in
+    let w = took-countable (M (t .before .before)) (F (t .before .before)) (t .taking .given .0 .0) (took (M (t .before .before)) (F (t .before .before)) (t .taking .given .0 .0) (sym (judged-takes t))) in
+    let r = room t in
+    rw (c .byte-at .ensures) (w .letter, (w .status, omega (arith, w .few, r .count)))
+
 put-reply-requires : tie.Need-put-reply-requires
-put-reply-requires c κs = let r = room (c .before .before .before .before .before .before) in record { seat = r .seat; count = r .count; mark = r .marks; cell = r .cells; frame = r .frame }
+put-reply-requires c κs = let r = room (c .before .before .before .before .before .before .before .before .before) in record { seat = r .seat; count = r .count; mark = r .marks; cell = r .cells; frame = r .frame }
 
 enum-told : tie.Need-enum-told
 enum-told c = search needs
@@ -106,20 +117,21 @@ same-length-4 c = search needs
 
 returns : tie.Need-returns
 returns c =
-    let t = c .before .before .before .before .before .before .before .before .before .before .before in
+    let t = c .before .before .before .before .before .before .before .before .before .before .before .before .before .before in
     let j = t .before .before in
-    let a = c .before .before .before .before .before .before .before .before .before .before .before .before .before .before .before .before .before .before .before .before .before .before .before .before .args in
-    let p = c .before .before .before .before .before .before .before .before .before .before .before .before .before .before .before .before .before .before .before .before .before .before .before .before .pre in
+    let a = c .before .before .before .before .before .before .before .before .before .before .before .before .before .before .before .before .before .before .before .before .before .before .before .before .before .before .before .args in
+    let p = c .before .before .before .before .before .before .before .before .before .before .before .before .before .before .before .before .before .before .before .before .before .before .before .before .before .before .before .pre in
     let taking = t .taking .given .0 .0 in
     let w = c .before .before .before .before .put-reply .ensures in
     let keys = now (a .keys) in
     let held = now (a .held) in
     let ended = now (a .ended) in
     let row =
-    ap (λ (x : Progress). rowOf keys (set held (taking .seat) (x .held)) (set ended (taking .seat) (x .ended))) (c .before .before .before .before .before .before .before .advanced .ensures)
-    ∙ grown-columns (a .desk) keys held ended (now (a .cells)) (now (a .marks)) (p .0) (p .1) (taking .seat) (taking .status) in
+    ap (λ (x : Progress). rowOf keys (set held (taking .seat) (x .held)) (set ended (taking .seat) (x .ended))) (c .before .before .before .before .before .before .before .before .before .before .advanced .ensures)
+    ∙ grown-columns (a .desk) keys held ended (now (a .cells)) (now (a .marks)) (now (a .tally)) (p .0) (p .1) (taking .seat) (taking .status) in
+    let tally = c .before .before .before .before .before .before .before .count-one .ensures ∙ ap₂ (counted (now (a .tally))) (c .before .before .before .before .before .before .before .before .byte-at .ensures) (took-countable (M j) (F j) taking (took (M j) (F j) taking (sym (judged-takes t))) .same) in
     met-by (M j) (F j) _ _ (replies (M j) (F j)) Collected (gives (taking .seat)) refl
-    (reply-done (M j) (F j) taking _ (judged-takes t) (λ i. record { row = row i; bits = w .bits i; count = w .count i; cells = w .cells i; marks = w .marks i }))
+    (reply-done (M j) (F j) taking _ (judged-takes t) (λ i. record { row = row i; bits = w .bits i; count = w .count i; cells = w .cells i; marks = w .marks i; tally = tally i }))
 
 same-length-5 : tie.Need-same-length-5
 same-length-5 c = search needs
@@ -141,15 +153,17 @@ meet-reply-spec =
     capacity-requires
     judged-requires
     enum-known-taking
-    mul-t23
-    slice-read-t25
-    mul-t26
-    slice-read-t28
+    mul-t24
+    slice-read-t26
+    mul-t27
+    slice-read-t29
     advanced-requires
     mul-held
     slice-write-held
     mul-ended
     slice-write-ended
+    byte-at-requires
+    count-one-requires
     put-reply-requires
     enum-told
     same-length

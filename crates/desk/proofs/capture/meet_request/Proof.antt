@@ -21,7 +21,7 @@ use Rattle.desk.proofs.capture.meet_request.Statement.{statement}
 use Rattle.desk.proofs.capture.meet_request.Tie as tie
 
 abbrev M : tie.After-judged → Memory
-M c = memory (c .before .before .before .before .before .before .before .before .args .desk) (rowOf (now (c .before .before .before .before .before .before .before .before .args .keys)) (now (c .before .before .before .before .before .before .before .before .args .held)) (now (c .before .before .before .before .before .before .before .before .args .ended))) (now (c .before .before .before .before .before .before .before .before .args .cells)) (now (c .before .before .before .before .before .before .before .before .args .marks))
+M c = memory (c .before .before .before .before .before .before .before .before .args .desk) (rowOf (now (c .before .before .before .before .before .before .before .before .args .keys)) (now (c .before .before .before .before .before .before .before .before .args .held)) (now (c .before .before .before .before .before .before .before .before .args .ended))) (now (c .before .before .before .before .before .before .before .before .args .cells)) (now (c .before .before .before .before .before .before .before .before .args .marks)) (now (c .before .before .before .before .before .before .before .before .args .tally))
 
 abbrev F : tie.After-judged → List ℕ
 F c = now (c .before .before .before .before .before .before .before .before .args .frame)
@@ -30,7 +30,7 @@ tried : (c : tie.After-judged) → openJudged (c .judged .result) ≡ openTried 
 tried c =
     let a = c .before .before .before .before .before .before .before .before .args in
     let p = c .before .before .before .before .before .before .before .before .pre in
-    c .judged .ensures ∙ open-by-columns (a .desk) (now (a .keys)) (now (a .held)) (now (a .ended)) (now (a .cells)) (now (a .marks)) (p .0) (p .1) (F c)
+    c .judged .ensures ∙ open-by-columns (a .desk) (now (a .keys)) (now (a .held)) (now (a .ended)) (now (a .cells)) (now (a .marks)) (now (a .tally)) (p .0) (p .1) (F c)
 
 judged-opens : (c : tie.After-opening) → gives (c .opening .given .0 .0) ≡ openTried (M (c .before .before)) (F (c .before .before))
 judged-opens c = rw (c .opening .given .1) at (tried (c .before .before))
@@ -76,9 +76,9 @@ returns c =
     let ended = now (a .ended) in
     let row : rowOf (set keys (o .seat) (c .before .key-number .result)) held ended ≡ set (rowOf keys held ended) (o .seat) (newSeat (o .key)) =
     ap (λ (n : ℕ). rowOf (set keys (o .seat) n) held ended) (c .before .key-number .ensures)
-    ∙ opened-columns (a .desk) keys held ended (now (a .cells)) (now (a .marks)) (p .0) (p .1) (o .seat) (o .key) (k .below) (k .clear) (legal-keyed (o .key) (k .legal)) in
+    ∙ opened-columns (a .desk) keys held ended (now (a .cells)) (now (a .marks)) (now (a .tally)) (p .0) (p .1) (o .seat) (o .key) (k .below) (k .clear) (legal-keyed (o .key) (k .legal)) in
     met-by (M j) (F j) _ _ (opens (M j) (F j)) Opened (gives (o .seat)) refl
-    (opening-done (M j) (F j) o _ (judged-opens t) (λ i. record { row = row i; bits = state .0 i; count = state .1 i; cells = now (a .cells); marks = now (a .marks) }))
+    (opening-done (M j) (F j) o _ (judged-opens t) (λ i. record { row = row i; bits = state .0 i; count = state .1 i; cells = now (a .cells); marks = now (a .marks); tally = now (a .tally) }))
 
 same-length-2 : tie.Need-same-length-2
 same-length-2 c = search needs

@@ -27,12 +27,12 @@ use Rattle.desk.proofs.capture.take_capture.Statement.{statement}
 use Rattle.desk.proofs.capture.take_capture.Tie as tie
 
 abbrev Inv-loop : tie.InvT-loop
-Inv-loop cells₀ marks₀ capture keys₀ held₀ ended₀ desk₀ counts₀ at₀ cells marks keys held ended desk counts at =
-    Going (memory desk₀ (rowOf keys₀ held₀ ended₀) cells₀ marks₀) capture at (memory desk (rowOf keys held ended) cells marks) counts
+Inv-loop cells₀ marks₀ tally₀ capture keys₀ held₀ ended₀ desk₀ counts₀ at₀ cells marks tally keys held ended desk counts at =
+    Going (memory desk₀ (rowOf keys₀ held₀ ended₀) cells₀ marks₀ tally₀) capture at (memory desk (rowOf keys held ended) cells marks tally) counts
     × ((at ≤ length capture) × (Sized keys held ended × ((length cells ≡ length cells₀) × (length marks ≡ length marks₀))))
 
 abbrev μ-loop : tie.MeasureT-loop
-μ-loop cells₀ marks₀ capture keys₀ held₀ ended₀ desk₀ counts₀ at₀ cells marks keys held ended desk counts at = length capture - at
+μ-loop cells₀ marks₀ tally₀ capture keys₀ held₀ ended₀ desk₀ counts₀ at₀ cells marks tally keys held ended desk counts at = length capture - at
 
 -- the columns, if all seats are good: they show the row
 sized : (c : tie.After-columns Inv-loop μ-loop) → Sized (c .columns .last .1 .1 .0) (c .columns .last .1 .1 .1 .0) (c .columns .last .1 .1 .1 .1 .0)
@@ -46,21 +46,21 @@ good c = ap (λ (r : List Seat). allBelow seatCount (seatGoodAt r (c .before .be
 
 -- a desk, by the columns
 abbrev Start : tie.Else2 Inv-loop μ-loop → Memory
-Start c = memory (c .before .before .before .before .before .before .before .before .before .before .before .before .before .before .before .before .before .before .args .desk) (rowOf (c .before .before .before .before .before .before .before .before .before .before .before .columns .last .1 .1 .0) (c .before .before .before .before .before .before .before .before .before .before .before .columns .last .1 .1 .1 .0) (c .before .before .before .before .before .before .before .before .before .before .before .columns .last .1 .1 .1 .1 .0)) (now (c .before .before .before .before .before .before .before .before .before .before .before .before .before .before .before .before .before .before .args .cells)) (now (c .before .before .before .before .before .before .before .before .before .before .before .before .before .before .before .before .before .before .args .marks))
+Start c = memory (c .before .before .before .before .before .before .before .before .before .before .before .before .before .before .before .before .before .before .before .args .desk) (rowOf (c .before .before .before .before .before .before .before .before .before .before .before .before .columns .last .1 .1 .0) (c .before .before .before .before .before .before .before .before .before .before .before .before .columns .last .1 .1 .1 .0) (c .before .before .before .before .before .before .before .before .before .before .before .before .columns .last .1 .1 .1 .1 .0)) (now (c .before .before .before .before .before .before .before .before .before .before .before .before .before .before .before .before .before .before .before .args .cells)) (now (c .before .before .before .before .before .before .before .before .before .before .before .before .before .before .before .before .before .before .before .args .marks)) (now (c .before .before .before .before .before .before .before .before .before .before .before .before .before .before .before .before .before .before .before .args .tally))
 
 is-start : (c : tie.Else2 Inv-loop μ-loop) → isDesk (Start c) ≡ true
 is-start c = not-left (c .before .is-desk .ensures) (c .if2 .left)
 
 -- what the answer of `next` means in a turn of the loop
-here : (c : tie.After-next Inv-loop μ-loop) → Told (now (c .before .before .before .before .before .before .before .before .before .before .before .before .before .before .before .before .before .before .before .before .args .capture)) (c .before .loop .at) (c .next .result)
+here : (c : tie.After-next Inv-loop μ-loop) → Told (now (c .before .before .before .before .before .before .before .before .before .before .before .before .before .before .before .before .before .before .before .before .before .args .capture)) (c .before .loop .at) (c .next .result)
 here c =
-    let s = now (c .before .before .before .before .before .before .before .before .before .before .before .before .before .before .before .before .before .before .before .before .args .capture) in
+    let s = now (c .before .before .before .before .before .before .before .before .before .before .before .before .before .before .before .before .before .before .before .before .before .args .capture) in
     let at = c .before .loop .at in
     subst (Told s at) (sym (c .next .ensures)) (told s at)
 
 -- a call that finds no desk
-left-alone : (m : Memory) (s : List ℕ) (r : CaptureDone) → isDesk m ≡ false → r ≡ takesNothing (record { bits = m .bits; count = m .count }) (m .row) → TookCapture m s (r .answer) (memory (r .desk) (r .row) (m .cells) (m .marks))
-left-alone m s r e is = subst (λ (x : CaptureDone). TookCapture m s (x .answer) (memory (x .desk) (x .row) (m .cells) (m .marks))) (sym is) (took-none m s e)
+left-alone : (m : Memory) (s : List ℕ) (r : CaptureDone) → isDesk m ≡ false → r ≡ takesNothing (record { bits = m .bits; count = m .count }) (m .row) → TookCapture m s (r .answer) (memory (r .desk) (r .row) (m .cells) (m .marks) (m .tally))
+left-alone m s r e is = subst (λ (x : CaptureDone). TookCapture m s (x .answer) (memory (x .desk) (x .row) (m .cells) (m .marks) (m .tally))) (sym is) (took-none m s e)
 
 slice-aggregate-columns : tie.Need-slice-aggregate-columns Inv-loop μ-loop
 slice-aggregate-columns c = search needs
@@ -80,7 +80,7 @@ no-desk-requires c κs = search needs
 returns : tie.Need-returns Inv-loop μ-loop
 returns c =
     let a = c .before .before .before .before .before .before .before .before .before .before .before .before .args in
-    let m = memory (a .desk) (a .row) (now (a .cells)) (now (a .marks)) in
+    let m = memory (a .desk) (a .row) (now (a .cells)) (now (a .marks)) (now (a .tally)) in
     left-alone m (now (a .capture)) (c .no-desk .result) (sym (no-desk m (search needs) (not-came (c .before .before .before .before .before .columns .ensures .0) (c .before .if1 .taken)))) (c .no-desk .ensures)
 
 slice-aggregate-is-desk : tie.Need-slice-aggregate-is-desk Inv-loop μ-loop
@@ -93,7 +93,7 @@ slice-aggregate-is-desk-3 : tie.Need-slice-aggregate-is-desk-3 Inv-loop μ-loop
 slice-aggregate-is-desk-3 c = search needs
 
 is-desk-requires : tie.Need-is-desk-requires Inv-loop μ-loop
-is-desk-requires c κs = (sized (c .before .before .before .before .before .before .before .before .before), good (c .before .before .before .before .before))
+is-desk-requires c κs = (sized (c .before .before .before .before .before .before .before .before .before .before), good (c .before .before .before .before .before .before))
 
 no-desk-requires-2 : tie.Need-no-desk-requires-2 Inv-loop μ-loop
 no-desk-requires-2 c κs = search needs
@@ -106,13 +106,13 @@ same-length-2 c = search needs
 
 returns-2 : tie.Need-returns-2 Inv-loop μ-loop
 returns-2 c =
-    let a = c .before .before .before .before .before .before .before .before .before .before .before .before .before .before .before .before .before .before .before .args in
-    let m = memory (a .desk) (a .row) (now (a .cells)) (now (a .marks)) in
+    let a = c .before .before .before .before .before .before .before .before .before .before .before .before .before .before .before .before .before .before .before .before .args in
+    let m = memory (a .desk) (a .row) (now (a .cells)) (now (a .marks)) (now (a .tally)) in
     left-alone m (now (a .capture)) (c .no-desk2 .result)
-    (ap (λ (r : List Seat). isDesk (memory (a .desk) r (now (a .cells)) (now (a .marks)))) (sym (shown (c .before .before .before .before .before .before .before .before))) ∙ not-came (c .before .before .is-desk .ensures) (c .before .if2 .taken)) (c .no-desk2 .ensures)
+    (ap (λ (r : List Seat). isDesk (memory (a .desk) r (now (a .cells)) (now (a .marks)) (now (a .tally)))) (sym (shown (c .before .before .before .before .before .before .before .before .before))) ∙ not-came (c .before .before .is-desk .ensures) (c .before .if2 .taken)) (c .no-desk2 .ensures)
 
 loop-holds : tie.Need-loop-holds Inv-loop μ-loop
-loop-holds c = (begins (Start c) (now (c .before .before .before .before .before .before .before .before .before .before .before .before .before .before .before .before .before .before .args .capture)) (is-start c), (search needs, (sized (c .before .before .before .before .before .before .before .before .before .before .before), (refl, refl))))
+loop-holds c = (begins (Start c) (now (c .before .before .before .before .before .before .before .before .before .before .before .before .before .before .before .before .before .before .before .args .capture)) (is-start c), (search needs, (sized (c .before .before .before .before .before .before .before .before .before .before .before .before), (refl, refl))))
 
 next-requires : tie.Need-next-requires Inv-loop μ-loop
 next-requires c κs = search needs
@@ -140,13 +140,13 @@ same-length-4 c = c .before .before .before .before .before .before .before .loo
 
 returns-3 : tie.Need-returns-3 Inv-loop μ-loop
 returns-3 c =
-    let a = c .before .before .before .before .before .before .before .before .before .before .before .before .before .before .before .before .before .before .before .before .before .before .before .before .before .before .args in
+    let a = c .before .before .before .before .before .before .before .before .before .before .before .before .before .before .before .before .before .before .before .before .before .before .before .before .before .before .before .args in
     let l = c .before .before .before .before .before .before .before in
     let d = c .before .before .before .before .before .before .before .before in
     let t = subst (Told _ _) (c .before .before .before .before .enum-told .given .1) (here (c .before .before .before .before .before .before)) in
     let took = took-all (Start d) (now (a .capture)) (l .loop .at) _ _ (is-start d) (l .loop .inv .0) t in
-    subst (λ (r : List Seat). TookCapture (memory (a .desk) r (now (a .cells)) (now (a .marks))) (now (a .capture)) (Taken (l .loop .counts)) (memory (l .loop .desk) (c .row-of .result) (l .loop .cells) (l .loop .marks))) (shown (c .before .before .before .before .before .before .before .before .before .before .before .before .before .before .before))
-    (subst (λ (r : List Seat). TookCapture (Start d) (now (a .capture)) (Taken (l .loop .counts)) (memory (l .loop .desk) r (l .loop .cells) (l .loop .marks))) (sym (c .row-of .ensures)) took)
+    subst (λ (r : List Seat). TookCapture (memory (a .desk) r (now (a .cells)) (now (a .marks)) (now (a .tally))) (now (a .capture)) (Taken (l .loop .counts)) (memory (l .loop .desk) (c .row-of .result) (l .loop .cells) (l .loop .marks) (l .loop .tally))) (shown (c .before .before .before .before .before .before .before .before .before .before .before .before .before .before .before .before))
+    (subst (λ (r : List Seat). TookCapture (Start d) (now (a .capture)) (Taken (l .loop .counts)) (memory (l .loop .desk) r (l .loop .cells) (l .loop .marks) (l .loop .tally))) (sym (c .row-of .ensures)) took)
 
 enum-known-next : tie.Need-enum-known-next Inv-loop μ-loop
 enum-known-next c = search needs
@@ -176,27 +176,27 @@ slice-aggregate-meet-3 : tie.Need-slice-aggregate-meet-3 Inv-loop μ-loop
 slice-aggregate-meet-3 c = search needs
 
 sub-meet : tie.Need-sub-meet Inv-loop μ-loop
-sub-meet c = let t = subst (Told _ _) (c .before .before .before .before .before .before .start .given .1) (here (c .before .before .before .before .before .before .before .before)) in omega (arith, t .0 .some)
+sub-meet c = let t = subst (Told _ _) (c .before .before .before .before .before .before .before .start .given .1) (here (c .before .before .before .before .before .before .before .before .before)) in omega (arith, t .0 .some)
 
 part-meet-start : tie.Need-part-meet-start Inv-loop μ-loop
-part-meet-start c = let t = subst (Told _ _) (c .before .before .before .before .before .before .start .given .1) (here (c .before .before .before .before .before .before .before .before)) in omega (arith, t .0 .some)
+part-meet-start c = let t = subst (Told _ _) (c .before .before .before .before .before .before .before .start .given .1) (here (c .before .before .before .before .before .before .before .before .before)) in omega (arith, t .0 .some)
 
 part-meet-end : tie.Need-part-meet-end Inv-loop μ-loop
-part-meet-end c = let t = subst (Told _ _) (c .before .before .before .before .before .before .start .given .1) (here (c .before .before .before .before .before .before .before .before)) in omega (arith, t .0 .within)
+part-meet-end c = let t = subst (Told _ _) (c .before .before .before .before .before .before .before .start .given .1) (here (c .before .before .before .before .before .before .before .before .before)) in omega (arith, t .0 .within)
 
 meet-requires : tie.Need-meet-requires Inv-loop μ-loop
-meet-requires c κs = let g = c .before .before .before .before .before .before .before .before .before .before .loop .inv in (g .1 .1 .0, g .0 .desk)
+meet-requires c κs = let g = c .before .before .before .before .before .before .before .before .before .before .before .loop .inv in (g .1 .1 .0, g .0 .desk)
 
 one-more-requires-2 : tie.Need-one-more-requires-2 Inv-loop μ-loop
-one-more-requires-2 c κs = let t = subst (Told _ _) (c .before .before .before .before .before .before .before .before .before .before .before .before .before .before .before .start .given .1) (here (c .before .before .before .before .before .before .before .before .before .before .before .before .before .before .before .before .before)) in let g = c .before .before .before .before .before .before .before .before .before .before .before .before .before .before .before .before .before .before .loop .inv .0 in omega (arith, g .few, t .0 .from, t .0 .some, t .0 .within)
+one-more-requires-2 c κs = let t = subst (Told _ _) (c .before .before .before .before .before .before .before .before .before .before .before .before .before .before .before .before .start .given .1) (here (c .before .before .before .before .before .before .before .before .before .before .before .before .before .before .before .before .before .before)) in let g = c .before .before .before .before .before .before .before .before .before .before .before .before .before .before .before .before .before .before .before .loop .inv .0 in omega (arith, g .few, t .0 .from, t .0 .some, t .0 .within)
 
 loop-less-2 : tie.Need-loop-less-2 Inv-loop μ-loop
-loop-less-2 c = let t = subst (Told _ _) (c .before .before .before .before .before .before .before .before .before .before .before .before .before .before .before .before .before .start .given .1) (here (c .before .before .before .before .before .before .before .before .before .before .before .before .before .before .before .before .before .before .before)) in omega (arith, t .0 .from, t .0 .some, t .0 .within, t .1)
+loop-less-2 c = let t = subst (Told _ _) (c .before .before .before .before .before .before .before .before .before .before .before .before .before .before .before .before .before .before .start .given .1) (here (c .before .before .before .before .before .before .before .before .before .before .before .before .before .before .before .before .before .before .before .before)) in omega (arith, t .0 .from, t .0 .some, t .0 .within, t .1)
 
 loop-again-2 : tie.Need-loop-again-2 Inv-loop μ-loop
 loop-again-2 c =
-    let t = subst (Told _ _) (c .before .before .before .before .before .before .before .before .before .before .before .before .before .before .before .before .before .start .given .1) (here (c .before .before .before .before .before .before .before .before .before .before .before .before .before .before .before .before .before .before .before)) in
-    let g = c .before .before .before .before .before .before .before .before .before .before .before .before .before .before .before .before .before .before .before .before .loop .inv in
+    let t = subst (Told _ _) (c .before .before .before .before .before .before .before .before .before .before .before .before .before .before .before .before .before .before .start .given .1) (here (c .before .before .before .before .before .before .before .before .before .before .before .before .before .before .before .before .before .before .before .before)) in
+    let g = c .before .before .before .before .before .before .before .before .before .before .before .before .before .before .before .before .before .before .before .before .before .loop .inv in
     let w = c .before .before .before .before .before .before .before .before .before .meet in (
       goes-whole _ _ _ _ _ (g .0) _ _ _ (omega (arith, t .0 .from, t .0 .some)) (t .0 .rest) (t .0 .some) _ _ (w .ensures) (c .before .one-more2 .ensures) _ (t .1),
       (omega (arith, t .0 .within, t .1), (record { all-keys = w .kept .1 .0 ∙ g .1 .1 .0 .all-keys; all-held = w .kept .1 .1 .0 ∙ g .1 .1 .0 .all-held; all-ended = w .kept .1 .1 .1 .0 ∙ g .1 .1 .0 .all-ended }, (w .kept .1 .1 .1 .1 .0 ∙ g .1 .1 .1 .0, w .kept .1 .1 .1 .1 .1 .0 ∙ g .1 .1 .1 .1))),

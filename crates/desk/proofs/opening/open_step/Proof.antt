@@ -40,7 +40,7 @@ good : (c : tie.Else1) → allBelow seatCount (seatGoodAt (rowOf (c .before .bef
 good c = ap (λ (r : List Seat). allBelow seatCount (seatGoodAt r (c .before .before .before .before .before .before .before .before .before .before .before .args .desk .bits))) (shown c) ∙ not-left (c .before .before .before .before .columns .ensures .0) (c .if1 .left)
 
 abbrev M : tie.After-judged → Memory
-M c = memory (c .before .before .before .before .before .before .before .before .before .before .before .before .before .before .before .before .before .before .args .desk) (c .before .before .before .before .before .before .before .before .before .before .before .before .before .before .before .before .before .before .args .row) (now (c .before .before .before .before .before .before .before .before .before .before .before .before .before .before .before .before .before .before .args .cells)) (now (c .before .before .before .before .before .before .before .before .before .before .before .before .before .before .before .before .before .before .args .marks))
+M c = memory (c .before .before .before .before .before .before .before .before .before .before .before .before .before .before .before .before .before .before .args .desk) (c .before .before .before .before .before .before .before .before .before .before .before .before .before .before .before .before .before .before .args .row) (now (c .before .before .before .before .before .before .before .before .before .before .before .before .before .before .before .before .before .before .args .cells)) (now (c .before .before .before .before .before .before .before .before .before .before .before .before .before .before .before .before .before .before .args .marks)) (now (c .before .before .before .before .before .before .before .before .before .before .before .before .before .before .before .before .before .before .args .tally))
 
 abbrev F : tie.After-judged → List ℕ
 F c = now (c .before .before .before .before .before .before .before .before .before .before .before .before .before .before .before .before .before .before .args .frame)
@@ -51,8 +51,8 @@ tried c =
     let is = c .before .before .before .is-desk .ensures in
     let row = shown (c .before .before .before .before .before .before .before) in
     c .judged .ensures
-    ∙ open-row (a .desk) (a .row) (c .before .before .before .before .before .before .before .before .before .before .before .columns .last .1 .1 .0) (c .before .before .before .before .before .before .before .before .before .before .before .columns .last .1 .1 .1 .0) (c .before .before .before .before .before .before .before .before .before .before .before .columns .last .1 .1 .1 .1 .0) (now (a .cells)) (now (a .marks)) (sized (c .before .before .before .before .before .before .before .before .before .before .before)) row
-    (ap (λ (r : List Seat). isDesk (memory (a .desk) r (now (a .cells)) (now (a .marks)))) (sym row) ∙ not-left is (c .before .before .if2 .left)) (F c)
+    ∙ open-row (a .desk) (a .row) (c .before .before .before .before .before .before .before .before .before .before .before .columns .last .1 .1 .0) (c .before .before .before .before .before .before .before .before .before .before .before .columns .last .1 .1 .1 .0) (c .before .before .before .before .before .before .before .before .before .before .before .columns .last .1 .1 .1 .1 .0) (now (a .cells)) (now (a .marks)) (now (a .tally)) (sized (c .before .before .before .before .before .before .before .before .before .before .before)) row
+    (ap (λ (r : List Seat). isDesk (memory (a .desk) r (now (a .cells)) (now (a .marks)) (now (a .tally)))) (sym row) ∙ not-left is (c .before .before .if2 .left)) (F c)
 
 judged-opens : (c : tie.After-opening) → gives (c .opening .given .0 .0) ≡ openTried (M (c .before .before)) (F (c .before .before))
 judged-opens c = rw (c .opening .given .1) at (tried (c .before .before))
@@ -78,7 +78,7 @@ not-opened-requires c κs = search needs
 returns : tie.Need-returns
 returns c =
     let a = c .before .before .before .before .before .before .before .before .before .before .before .before .args in
-    let m = memory (a .desk) (a .row) (now (a .cells)) (now (a .marks)) in
+    let m = memory (a .desk) (a .row) (now (a .cells)) (now (a .marks)) (now (a .tally)) in
     let full : length (a .row) ≡ seatCount = search needs in
     step-not-opened m (now (a .frame)) full (a .desk) refl (c .not-opened .result) open-no-desk (c .not-opened .ensures)
     (open-off m (now (a .frame)) (sym (no-desk m full (not-came (c .before .before .before .before .before .columns .ensures .0) (c .before .if1 .taken)))))
@@ -101,9 +101,9 @@ not-opened-requires-2 c κs = search needs
 returns-2 : tie.Need-returns-2
 returns-2 c =
     let a = c .before .before .before .before .before .before .before .before .before .before .before .before .before .before .before .before .before .args in
-    let m = memory (a .desk) (a .row) (now (a .cells)) (now (a .marks)) in
+    let m = memory (a .desk) (a .row) (now (a .cells)) (now (a .marks)) (now (a .tally)) in
     step-not-opened m (now (a .frame)) (full (c .before .before .before .before .before .before)) (a .desk) refl (c .not-opened2 .result) open-no-desk (c .not-opened2 .ensures)
-    (open-off m (now (a .frame)) (ap (λ (r : List Seat). isDesk (memory (a .desk) r (now (a .cells)) (now (a .marks)))) (sym (shown (c .before .before .before .before .before .before))) ∙ not-came (c .before .before .is-desk .ensures) (c .before .if2 .taken)))
+    (open-off m (now (a .frame)) (ap (λ (r : List Seat). isDesk (memory (a .desk) r (now (a .cells)) (now (a .marks)) (now (a .tally)))) (sym (shown (c .before .before .before .before .before .before))) ∙ not-came (c .before .before .is-desk .ensures) (c .before .if2 .taken)))
 
 slice-aggregate-judged : tie.Need-slice-aggregate-judged
 slice-aggregate-judged c = search needs
@@ -142,6 +142,7 @@ returns-3 c =
       count = state .1 i;
       cells = now (a .cells);
       marks = now (a .marks);
+      tally = now (a .tally);
     }) in
     (one-changed (M j) _ (opens (M j) (F j)) (full (j .before .before .before .before .before .before .before)) (opening .seat) (c .new-seat .result) (known t .below) refl did, did)
 

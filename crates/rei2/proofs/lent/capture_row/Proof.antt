@@ -17,7 +17,7 @@ same-length-2 : tie.Need-same-length-2
 same-length-2 c = search needs
 
 returns : tie.Need-returns
-returns c = let e = c .before .before .before .before .before .before .before .take-capture .ensures in (rw (c .before .captured-answer .ensures) (captured-is _ _ _ _ e), (λ i. e .memory i .cells, λ i. e .memory i .marks))
+returns c = let e = c .before .before .before .before .before .before .before .take-capture .ensures in (rw (c .before .captured-answer .ensures) (captured-is _ _ _ _ e), (λ i. e .memory i .cells, (λ i. e .memory i .marks, λ i. e .memory i .tally)))
 
 pub capture-row-spec : {M : Type 1} → statement M
 capture-row-spec =

@@ -40,7 +40,10 @@ use denote.Triple.Walked.{says, Stays, gave-slice, goes-gave-slice, stay-none, s
 use denote.Exit.{yes}
 use denote.Signature.{plain}
 use Rattle.desk.specs.Limits.{seatCount}
+use denote.Ref.{ShrRef, ptr-vals, shr-copy, shr-tells}
+use denote.Triple.Walked.{goes-none-ref, stay-none-ref}
 use lib.ListN.{length-set, set}
+use mir.Val.{vptr}
 use Rattle.desk.specs.declared.state.Desk.{Desk}
 use Rattle.desk.proofs.state.Desk as DeskD
 use Rattle.desk.proofs.state.Desk.Laws as DeskL
@@ -80,7 +83,7 @@ use Rattle.rei2.proofs.lent.rei2_open.Statement as stated
 use Rattle.rei2.proofs.lent.rei2_open.Code as code
 
 abbrev stayed : Stays (outer.ended .signature .params) (outer.ended .kept)
-stayed = (gave-slice (0 ∷ []) tt (plain (λ _. SeatD.the-row)), (stay-none (λ _. DeskD.the-row) yes, (stay-none-slice (1 ∷ []) tt (plain (λ _. u8)) yes, (stay-none-slice (2 ∷ []) tt (plain (λ _. u32)) yes, (stay-none-slice (3 ∷ []) tt (plain (λ _. u8)) yes, tt)))))
+stayed = (gave-slice (0 ∷ []) tt (plain (λ _. SeatD.the-row)), (stay-none (λ _. DeskD.the-row) yes, (stay-none-slice (1 ∷ []) tt (plain (λ _. u8)) yes, (stay-none-slice (2 ∷ []) tt (plain (λ _. u32)) yes, (stay-none-ref (3 ∷ []) tt (plain (λ _. (Array (Array u32 3) 33))) yes, (stay-none-slice (4 ∷ []) tt (plain (λ _. u8)) yes, tt))))))
 
 abbrev Core : {M : Type 1} (𝓤 : URA M) (H : Heap 𝓤) (A : Atoms 𝓤) (at-mem : Memory → SProp 𝓤) (run : Routine → Fun 𝓤) → Contract 𝓤
 Core 𝓤 H A at-mem run = tripleOf 𝓤 H A core.signature (core.spec 𝓤 H A at-mem run)
@@ -89,8 +92,8 @@ abbrev Refused : {M : Type 1} (𝓤 : URA M) (H : Heap 𝓤) (A : Atoms 𝓤) (a
 Refused 𝓤 H A at-mem run = tripleOf 𝓤 H A refuser.signature (refuser.spec 𝓤 H A at-mem run)
 
 module _ {M : Type 1} (𝓤 : URA M) (H : Heap 𝓤) (A : Atoms 𝓤) (W : Given 𝓤 H A) (at-mem : Memory → SProp 𝓤) (run : Routine → Fun 𝓤)
-    (κ-seats : Lft) (q-seats : Share) (κ-cells : Lft) (q-cells : Share) (κ-marks : Lft) (q-marks : Share) (κ-frame : Lft) (q-frame : Share)
-    (b-seats o-seats : ℕ) (γ-seats : GName) (v-seats : List Seat) (room-seats : Room SeatD.the-row (length v-seats)) (v-desk : Desk) (is-desk : Is DeskD.the-row v-desk (LL.vals DeskD.the-type DeskL.the-laws v-desk)) (b-cells o-cells : ℕ) (γ-cells : GName) (v-cells : List ℕ) (room-cells : Room u8 (length v-cells)) (b-marks o-marks : ℕ) (γ-marks : GName) (v-marks : List ℕ) (room-marks : Room u32 (length v-marks)) (b-frame o-frame : ℕ) (γ-frame : GName) (v-frame : List ℕ) (room-frame : Room u8 (length v-frame)) where
+    (κ-seats : Lft) (q-seats : Share) (κ-cells : Lft) (q-cells : Share) (κ-marks : Lft) (q-marks : Share) (κ-tally : Lft) (q-tally : Share) (κ-frame : Lft) (q-frame : Share)
+    (b-seats o-seats : ℕ) (γ-seats : GName) (v-seats : List Seat) (room-seats : Room SeatD.the-row (length v-seats)) (v-desk : Desk) (is-desk : Is DeskD.the-row v-desk (LL.vals DeskD.the-type DeskL.the-laws v-desk)) (b-cells o-cells : ℕ) (γ-cells : GName) (v-cells : List ℕ) (room-cells : Room u8 (length v-cells)) (b-marks o-marks : ℕ) (γ-marks : GName) (v-marks : List ℕ) (room-marks : Room u32 (length v-marks)) (b-tally o-tally : ℕ) (γ-tally : GName) (v-tally : List (List ℕ)) (b-frame o-frame : ℕ) (γ-frame : GName) (v-frame : List ℕ) (room-frame : Room u8 (length v-frame)) where
   abbrev s-seats : Val
   s-seats = sliceVal (b-seats, o-seats) (length v-seats)
 
@@ -121,6 +124,15 @@ module _ {M : Type 1} (𝓤 : URA M) (H : Heap 𝓤) (A : Atoms 𝓤) (W : Given
   abbrev Own-marks : Fml
   Own-marks = ShrSlice (named 2) κ-marks u32 .own (x-marks v-marks) (s-marks ∷ [])
 
+  abbrev s-tally : Val
+  s-tally = vptr b-tally o-tally
+
+  abbrev x-tally : List (List ℕ) → RefT (List (List ℕ))
+  x-tally l = record { ptr = (b-tally, o-tally); name = γ-tally; now = l }
+
+  abbrev Own-tally : Fml
+  Own-tally = ShrRef (named 3) κ-tally (Array (Array u32 3) 33) .own (x-tally v-tally) (s-tally ∷ [])
+
   abbrev s-frame : Val
   s-frame = sliceVal (b-frame, o-frame) (length v-frame)
 
@@ -128,47 +140,47 @@ module _ {M : Type 1} (𝓤 : URA M) (H : Heap 𝓤) (A : Atoms 𝓤) (W : Given
   x-frame l = record { ptr = (b-frame, o-frame); name = γ-frame; now = l }
 
   abbrev Own-frame : Fml
-  Own-frame = ShrSlice (named 3) κ-frame u8 .own (x-frame v-frame) (s-frame ∷ [])
+  Own-frame = ShrSlice (named 4) κ-frame u8 .own (x-frame v-frame) (s-frame ∷ [])
 
   abbrev Arg : Type 0
-  Arg = RefT (List Seat) × (Desk × (RefT (List ℕ) × (RefT (List ℕ) × (RefT (List ℕ) × Unit {0}))))
+  Arg = RefT (List Seat) × (Desk × (RefT (List ℕ) × (RefT (List ℕ) × (RefT (List (List ℕ)) × (RefT (List ℕ) × Unit {0})))))
 
   abbrev a : Arg
-  a = (x-seats v-seats, (v-desk, (x-cells v-cells, (x-marks v-marks, (x-frame v-frame, tt)))))
+  a = (x-seats v-seats, (v-desk, (x-cells v-cells, (x-marks v-marks, (x-tally v-tally, (x-frame v-frame, tt))))))
 
   abbrev Vals : Type 0
-  Vals = List Val × (List Val × (List Val × (List Val × (List Val × Unit {0}))))
+  Vals = List Val × (List Val × (List Val × (List Val × (List Val × (List Val × Unit {0})))))
 
   abbrev vals : Vals
-  vals = (s-seats ∷ [], (s-desk ∷ [], (s-cells ∷ [], (s-marks ∷ [], (s-frame ∷ [], tt)))))
+  vals = (s-seats ∷ [], (s-desk ∷ [], (s-cells ∷ [], (s-marks ∷ [], (s-tally ∷ [], (s-frame ∷ [], tt))))))
 
   abbrev bound : walkOf 𝓤 H A outer.ended stayed (outer.clauses 𝓤 H A at-mem run) .Ghost
-  bound = (((κ-seats, (κ-cells, (κ-marks, (κ-frame, tt)))), (q-seats, (q-cells, (q-marks, (q-frame, tt)))), tt, a, vals), tt)
+  bound = (((κ-seats, (κ-cells, (κ-marks, (κ-tally, (κ-frame, tt))))), (q-seats, (q-cells, (q-marks, (q-tally, (q-frame, tt))))), tt, a, vals), tt)
 
   abbrev Post : Val → SProp 𝓤
   Post = walkOf 𝓤 H A outer.ended stayed (outer.clauses 𝓤 H A at-mem run) .post bound
 
   abbrev tokens : Item 𝓤
-  tokens = ‵ (flft κ-seats q-seats) ⊛ ‵ (flft κ-cells q-cells) ⊛ ‵ (flft κ-marks q-marks) ⊛ ‵ (flft κ-frame q-frame) ⊛ ‵ ftrue
+  tokens = ‵ (flft κ-seats q-seats) ⊛ ‵ (flft κ-cells q-cells) ⊛ ‵ (flft κ-marks q-marks) ⊛ ‵ (flft κ-tally q-tally) ⊛ ‵ (flft κ-frame q-frame) ⊛ ‵ ftrue
 
   abbrev rows : List RattleType
-  rows = MutSlice (named 0) κ-seats SeatD.the-row ∷ DeskD.the-row ∷ ShrSlice (named 1) κ-cells u8 ∷ ShrSlice (named 2) κ-marks u32 ∷ ShrSlice (named 3) κ-frame u8 ∷ []
+  rows = MutSlice (named 0) κ-seats SeatD.the-row ∷ DeskD.the-row ∷ ShrSlice (named 1) κ-cells u8 ∷ ShrSlice (named 2) κ-marks u32 ∷ ShrRef (named 3) κ-tally (Array (Array u32 3) 33) ∷ ShrSlice (named 4) κ-frame u8 ∷ []
 
   abbrev refusal : DeskAnswer
   refusal = refusal-open v-desk
 
-  exits : (r : DeskAnswer) (v : Val) (z-seats : List Seat) (len-seats : length z-seats ≡ length v-seats) → Is DeskAnswerD.the-row r (v ∷ []) → OpenLent v-seats v-desk v-cells v-marks v-frame r z-seats
-      → ent 𝓤 (⋆ 𝓤 H A (tokens ∷ ‵ (finally SeatD.the-row γ-seats z-seats) ∷ ‵ (Own-cells) ∷ ‵ (Own-marks) ∷ ‵ (Own-frame) ∷ [])) (Post v)
+  exits : (r : DeskAnswer) (v : Val) (z-seats : List Seat) (len-seats : length z-seats ≡ length v-seats) → Is DeskAnswerD.the-row r (v ∷ []) → OpenLent v-seats v-desk v-cells v-marks v-tally v-frame r z-seats
+      → ent 𝓤 (⋆ 𝓤 H A (tokens ∷ ‵ (finally SeatD.the-row γ-seats z-seats) ∷ ‵ (Own-cells) ∷ ‵ (Own-marks) ∷ ‵ (Own-tally) ∷ ‵ (Own-frame) ∷ [])) (Post v)
   exits r v z-seats len-seats is said =
-      qed W (tokens ∷ ‵ (finally SeatD.the-row γ-seats z-seats) ∷ ‵ (Own-cells) ∷ ‵ (Own-marks) ∷ ‵ (Own-frame) ∷ []) ∵
-      suffices ! _ (ends-at 𝓤 H A outer.ended stayed (outer.clauses 𝓤 H A at-mem run) W bound v r (z-seats, (tt, (tt, (tt, (tt, tt))))) (len-seats, (tt, (tt, (tt, (tt, tt)))))) $ says ! said $ frame ! $ nothing ! $
-      move ! (4 ∷ 0 ∷ []) $ fjoin ! $ move ! (3 ∷ 0 ∷ []) $ fjoin ! $ move ! (2 ∷ 0 ∷ []) $ fjoin ! $ owned ! DeskD.the-row (Is DeskD.the-row) (LL.makes DeskD.the-type DeskL.the-plain 𝓤 H A) v-desk _ is-desk $ fjoin ! $ move ! (1 ∷ 0 ∷ []) $ fjoin ! $ frame ! $
+      qed W (tokens ∷ ‵ (finally SeatD.the-row γ-seats z-seats) ∷ ‵ (Own-cells) ∷ ‵ (Own-marks) ∷ ‵ (Own-tally) ∷ ‵ (Own-frame) ∷ []) ∵
+      suffices ! _ (ends-at 𝓤 H A outer.ended stayed (outer.clauses 𝓤 H A at-mem run) W bound v r (z-seats, (tt, (tt, (tt, (tt, (tt, tt)))))) (len-seats, (tt, (tt, (tt, (tt, (tt, tt))))))) $ says ! said $ frame ! $ nothing ! $
+      move ! (5 ∷ 0 ∷ []) $ fjoin ! $ move ! (4 ∷ 0 ∷ []) $ fjoin ! $ move ! (3 ∷ 0 ∷ []) $ fjoin ! $ move ! (2 ∷ 0 ∷ []) $ fjoin ! $ owned ! DeskD.the-row (Is DeskD.the-row) (LL.makes DeskD.the-type DeskL.the-plain 𝓤 H A) v-desk _ is-desk $ fjoin ! $ move ! (1 ∷ 0 ∷ []) $ fjoin ! $ frame ! $
       owned ! DeskAnswerD.the-row (Is DeskAnswerD.the-row) (LL.makes DeskAnswerD.the-type DeskAnswerL.the-plain 𝓤 H A) r _ is $ done !
 
   refuses : (r : DeskAnswer) (v : Val) → Is DeskAnswerD.the-row r (v ∷ []) → r ≡ refusal → Dec.eqb (length v-seats) seatCount ≡ false → ent 𝓤 (⋆ 𝓤 H A (tokens ∷ ‵ (owns rows a vals) ∷ [])) (Post v)
   refuses r v is same e =
-      qed W (tokens ∷ ‵ (owns rows a vals) ∷ []) ∵ move ! (1 ∷ []) $ fsplit ! $ move ! (1 ∷ []) $ fsplit ! $ move ! (1 ∷ []) $ fsplit ! $ move ! (1 ∷ []) $ fsplit ! $ move ! (1 ∷ []) $ fsplit ! $ move ! (1 ∷ []) $ move ! (5 ∷ []) $ use1 W (‵ (finally SeatD.the-row γ-seats v-seats)) (gives-up SeatD.the-row κ-seats κ-seats q-seats γ-seats b-seats o-seats v-seats 𝓤 H A W (named 0) (named 0)) $ keep ! (6 ∷ 0 ∷ 4 ∷ 3 ∷ 2 ∷ []) $
-      by ! (exits r v v-seats refl is (subst (λ (x : DeskAnswer). OpenLent v-seats v-desk v-cells v-marks v-frame x v-seats) (sym same) (refused-open v-seats v-desk v-cells v-marks v-frame e)))
+      qed W (tokens ∷ ‵ (owns rows a vals) ∷ []) ∵ move ! (1 ∷ []) $ fsplit ! $ move ! (1 ∷ []) $ fsplit ! $ move ! (1 ∷ []) $ fsplit ! $ move ! (1 ∷ []) $ fsplit ! $ move ! (1 ∷ []) $ fsplit ! $ move ! (1 ∷ []) $ fsplit ! $ move ! (1 ∷ []) $ move ! (6 ∷ []) $ use1 W (‵ (finally SeatD.the-row γ-seats v-seats)) (gives-up SeatD.the-row κ-seats κ-seats q-seats γ-seats b-seats o-seats v-seats 𝓤 H A W (named 0) (named 0)) $ keep ! (7 ∷ 0 ∷ 5 ∷ 4 ∷ 3 ∷ 2 ∷ []) $
+      by ! (exits r v v-seats refl is (subst (λ (x : DeskAnswer). OpenLent v-seats v-desk v-cells v-marks v-tally v-frame x v-seats) (sym same) (refused-open v-seats v-desk v-cells v-marks v-tally v-frame e)))
 
   abbrev RefusedArg : Type 0
   RefusedArg = Desk × Unit {0}
@@ -179,89 +191,90 @@ module _ {M : Type 1} (𝓤 : URA M) (H : Heap 𝓤) (A : Atoms 𝓤) (W : Given
   abbrev to-refused : Refused 𝓤 H A at-mem run .Ghost
   to-refused = ((tt, tt, tt, refused-args, (s-desk ∷ [], tt)), tt)
 
-  abbrev κs′ : Lfts 3
-  κs′ = (κ-cells, (κ-marks, (κ-frame, tt)))
+  abbrev κs′ : Lfts 4
+  κs′ = (κ-cells, (κ-marks, (κ-tally, (κ-frame, tt))))
 
   abbrev CoreArg : Type 0
-  CoreArg = List Seat × (Desk × (RefT (List ℕ) × (RefT (List ℕ) × (RefT (List ℕ) × Unit {0}))))
+  CoreArg = List Seat × (Desk × (RefT (List ℕ) × (RefT (List ℕ) × (RefT (List (List ℕ)) × (RefT (List ℕ) × Unit {0})))))
 
   abbrev args : CoreArg
-  args = (v-seats, (v-desk, (x-cells v-cells, (x-marks v-marks, (x-frame v-frame, tt)))))
+  args = (v-seats, (v-desk, (x-cells v-cells, (x-marks v-marks, (x-tally v-tally, (x-frame v-frame, tt))))))
 
   abbrev to-core : Core 𝓤 H A at-mem run .Ghost
-  to-core = ((κs′, (q-cells, (q-marks, (q-frame, tt))), tt, args, (rowVal v-seats ∷ [], (s-desk ∷ [], (s-cells ∷ [], (s-marks ∷ [], (s-frame ∷ [], tt)))))), tt)
+  to-core = ((κs′, (q-cells, (q-marks, (q-tally, (q-frame, tt)))), tt, args, (rowVal v-seats ∷ [], (s-desk ∷ [], (s-cells ∷ [], (s-marks ∷ [], (s-tally ∷ [], (s-frame ∷ [], tt))))))), tt)
 
   module _ (C : Calls 𝓤 H) (Λ : Loops 𝓤 H) (fm : FmC 𝓤 H (W .laws) C) (known-refused : Triple 𝓤 (C #refused) (Refused 𝓤 H A at-mem run)) (known-load : Triple 𝓤 (C #load) (Load 𝓤 H A at-mem run)) (known-core : Triple 𝓤 (C #core) (Core 𝓤 H A at-mem run)) (known-put : Triple 𝓤 (C #put) (Put 𝓤 H A at-mem run)) where
-    walk : ent 𝓤 (⋆ 𝓤 H A (tokens ∷ ‵ (owns rows a vals) ∷ [])) (WpFn 𝓤 H C Λ code.function (s-seats ∷ s-desk ∷ s-cells ∷ s-marks ∷ s-frame ∷ []) Post)
+    walk : ent 𝓤 (⋆ 𝓤 H A (tokens ∷ ‵ (owns rows a vals) ∷ [])) (WpFn 𝓤 H C Λ code.function (s-seats ∷ s-desk ∷ s-cells ∷ s-marks ∷ s-tally ∷ s-frame ∷ []) Post)
     walk =
-        qed W (tokens ∷ ‵ (owns rows a vals) ∷ []) ∵ enter ! C Λ code.function (s-seats ∷ s-desk ∷ s-cells ∷ s-marks ∷ s-frame ∷ []) _ $
-        alloc1 ! (λ l₀. alloc1 ! (λ l₁. alloc1 ! (λ l₂. alloc1 ! (λ l₃. alloc1 ! (λ l₄. alloc1 ! (λ l₅. alloc1 ! (λ l₆. alloc1 ! (λ l₇. alloc1 ! (λ l₈. alloc1 ! (λ l₉. alloc1 ! (λ l₁₀. alloc1 ! (λ l₁₁. alloc1 ! (λ l₁₂. alloc1 ! (λ l₁₃. alloc1 ! (λ l₁₄. alloc0 ! $ params1 ! $
-        pass1 ! (init ! 26 refl (tt, (tt, (record { fits = room-seats .0 }, tt)))) $ pass1 ! (init ! 24 refl (LL.lawful DeskD.the-type DeskL.the-laws 𝓤 H A W .typed v-desk _ is-desk .0)) $ pass1 ! (init ! 22 refl (tt, (tt, (record { fits = room-cells .0 }, tt)))) $ pass1 ! (init ! 20 refl (tt, (tt, (record { fits = room-marks .0 }, tt)))) $ pass1 ! (init ! 18 refl (tt, (tt, (record { fits = room-frame .0 }, tt)))) $ pass0 ! $
-        assigns ! (of-opd ! (load ! (from ! (fld ! refl (stop !))) (look-in ! 26 (sub ! 1 refl (whole !))))) (from ! (stop !)) (init ! 12 refl (tt, record { fits = room-seats .0 })) $
+        qed W (tokens ∷ ‵ (owns rows a vals) ∷ []) ∵ enter ! C Λ code.function (s-seats ∷ s-desk ∷ s-cells ∷ s-marks ∷ s-tally ∷ s-frame ∷ []) _ $
+        alloc1 ! (λ l₀. alloc1 ! (λ l₁. alloc1 ! (λ l₂. alloc1 ! (λ l₃. alloc1 ! (λ l₄. alloc1 ! (λ l₅. alloc1 ! (λ l₆. alloc1 ! (λ l₇. alloc1 ! (λ l₈. alloc1 ! (λ l₉. alloc1 ! (λ l₁₀. alloc1 ! (λ l₁₁. alloc1 ! (λ l₁₂. alloc1 ! (λ l₁₃. alloc1 ! (λ l₁₄. alloc1 ! (λ l₁₅. alloc0 ! $ params1 ! $
+        pass1 ! (init ! 28 refl (tt, (tt, (record { fits = room-seats .0 }, tt)))) $ pass1 ! (init ! 26 refl (LL.lawful DeskD.the-type DeskL.the-laws 𝓤 H A W .typed v-desk _ is-desk .0)) $ pass1 ! (init ! 24 refl (tt, (tt, (record { fits = room-cells .0 }, tt)))) $ pass1 ! (init ! 22 refl (tt, (tt, (record { fits = room-marks .0 }, tt)))) $ pass1 ! (init ! 20 refl (tt, tt)) $ pass1 ! (init ! 18 refl (tt, (tt, (record { fits = room-frame .0 }, tt)))) $ pass0 ! $
+        assigns ! (of-opd ! (load ! (from ! (fld ! refl (stop !))) (look-in ! 28 (sub ! 1 refl (whole !))))) (from ! (stop !)) (init ! 12 refl (tt, record { fits = room-seats .0 })) $
         assigns ! (bin ! (load ! (from ! (stop !)) (look ! 12 refl)) (lit ! tt) tt) (from ! (stop !)) (init ! 10 refl (tt, tt)) $
         guards ! (load ! (from ! (stop !)) (look ! 10 refl))
         -- not a row of sixteen seats: refused, and nothing is changed
         (λ differs.
         nothing ! $ owned ! DeskD.the-row (Is DeskD.the-row) (LL.makes DeskD.the-type DeskL.the-plain 𝓤 H A) v-desk _ is-desk $ fjoin ! $ nothing ! $ join ! $ use1 W (raw (Refused 𝓤 H A at-mem run .pre to-refused)) (∗emp 𝓤 _) $
-        calls-at ! fm (Refused 𝓤 H A at-mem run) known-refused to-refused (and-then ! (load ! (from ! (stop !)) (look ! 25 refl)) (no-more !)) (λ w.
+        calls-at ! fm (Refused 𝓤 H A at-mem run) known-refused to-refused (and-then ! (load ! (from ! (stop !)) (look ! 27 refl)) (no-more !)) (λ w.
         use1 W (later (some (λ (r : DeskAnswer). ((‵ ftrue) ⊛ ‵ (DeskAnswerD.the-row .own r (w ∷ []))) ⊛ raw (ensured 𝓤 H A refuser.ended (refuser.clauses 𝓤 H A at-mem run) tt refused-args tt r)))) (id⊢ 𝓤 _) $ await ! tt $ pick ! (λ r. split ! $ move ! (1 ∷ []) $
         use1 W (some (λ (zs : Unit {0} × Unit {0}). ‵ (lasts refuser.ended tt refused-args zs) ⊛ raw (fact 𝓤 (r ≡ refusal)))) (id⊢ 𝓤 _) $ pick ! (λ zs. split ! $ move ! (1 ∷ []) $
         heard ! (r ≡ refusal) (λ e. drop ! $ split ! $ drop ! $
         facts ! DeskAnswerD.the-row (Is DeskAnswerD.the-row) (shows 𝓤 H A DeskAnswerD.the-row) r (w ∷ []) (λ is.
-        land ! (from ! (stop !)) (init ! 28 refl (LL.lawful DeskAnswerD.the-type DeskAnswerL.the-laws 𝓤 H A W .typed r _ is .0)) $
-        returns-within ! Post refl (look ! 28 refl) $
-        forget ! 28 refl $ forget ! 26 refl $ forget ! 24 refl $ forget ! 22 refl $ forget ! 20 refl $ forget ! 18 refl $ forget ! 12 refl $ forget ! 10 refl $
-        move ! (28 ∷ 29 ∷ []) $ free1 ! $ move ! (26 ∷ 27 ∷ []) $ free1 ! $ move ! (24 ∷ 25 ∷ []) $ free1 ! $ move ! (22 ∷ 23 ∷ []) $ free1 ! $ move ! (20 ∷ 21 ∷ []) $ free1 ! $ move ! (18 ∷ 19 ∷ []) $ free1 ! $ move ! (16 ∷ 17 ∷ []) $ free1 ! $ move ! (14 ∷ 15 ∷ []) $ free1 ! $ move ! (12 ∷ 13 ∷ []) $ free1 ! $ move ! (10 ∷ 11 ∷ []) $ free1 ! $ move ! (8 ∷ 9 ∷ []) $ free1 ! $ move ! (6 ∷ 7 ∷ []) $ free1 ! $ move ! (4 ∷ 5 ∷ []) $ free1 ! $ move ! (2 ∷ 3 ∷ []) $ free1 ! $ free1 ! $ free0 ! $
+        land ! (from ! (stop !)) (init ! 30 refl (LL.lawful DeskAnswerD.the-type DeskAnswerL.the-laws 𝓤 H A W .typed r _ is .0)) $
+        returns-within ! Post refl (look ! 30 refl) $
+        forget ! 30 refl $ forget ! 28 refl $ forget ! 26 refl $ forget ! 24 refl $ forget ! 22 refl $ forget ! 20 refl $ forget ! 18 refl $ forget ! 12 refl $ forget ! 10 refl $
+        move ! (30 ∷ 31 ∷ []) $ free1 ! $ move ! (28 ∷ 29 ∷ []) $ free1 ! $ move ! (26 ∷ 27 ∷ []) $ free1 ! $ move ! (24 ∷ 25 ∷ []) $ free1 ! $ move ! (22 ∷ 23 ∷ []) $ free1 ! $ move ! (20 ∷ 21 ∷ []) $ free1 ! $ move ! (18 ∷ 19 ∷ []) $ free1 ! $ move ! (16 ∷ 17 ∷ []) $ free1 ! $ move ! (14 ∷ 15 ∷ []) $ free1 ! $ move ! (12 ∷ 13 ∷ []) $ free1 ! $ move ! (10 ∷ 11 ∷ []) $ free1 ! $ move ! (8 ∷ 9 ∷ []) $ free1 ! $ move ! (6 ∷ 7 ∷ []) $ free1 ! $ move ! (4 ∷ 5 ∷ []) $ free1 ! $ move ! (2 ∷ 3 ∷ []) $ free1 ! $ free1 ! $ free0 ! $
         by ! (refuses r w is e (is-false (Dec.eqb (length v-seats) seatCount) differs))))))))
         -- a row of sixteen seats
         (λ same.
         let whole-row : Dec.eqb (length v-seats) seatCount ≡ true = is-true (Dec.eqb (length v-seats) seatCount) same in
         let full : length v-seats ≡ seatCount = Dec.eqb→eq (length v-seats) seatCount (subst Dec.T (sym whole-row) tt) in
-        assigns ! (addr ! (from ! (fld ! refl (hop ! (look-in ! 26 (sub ! 0 refl (whole !))) (stop !))))) (from ! (stop !)) (init ! 8 refl (tt, tt)) $
-        assigns ! (agg ! (and-then ! (load ! (from ! (stop !)) (look ! 8 refl)) (and-then ! (load ! (from ! (fld ! refl (stop !))) (look-in ! 26 (sub ! 1 refl (whole !)))) (no-more !)))) (from ! (stop !)) (init ! 6 refl (tt, (tt, (record { fits = room-seats .0 }, tt)))) $
-        move ! (31 ∷ []) $ fsplit ! $ move ! (1 ∷ []) $ fsplit ! $ move ! (1 ∷ []) $ fsplit ! $ move ! (1 ∷ []) $ fsplit ! $ move ! (1 ∷ []) $ fsplit ! $ move ! (1 ∷ []) $ move ! (4 ∷ []) $ drop ! $ move ! (3 ∷ []) $ use1 W (‵ Own-cells ⊛ ‵ Own-cells) (shr-slice-copy 𝓤 H A W (named 1) κ-cells u8 .twice (x-cells v-cells) (s-cells ∷ [])) $ split ! $ move ! (4 ∷ []) $ use1 W (‵ Own-marks ⊛ ‵ Own-marks) (shr-slice-copy 𝓤 H A W (named 2) κ-marks u32 .twice (x-marks v-marks) (s-marks ∷ [])) $ split ! $ move ! (5 ∷ []) $ use1 W (‵ Own-frame ⊛ ‵ Own-frame) (shr-slice-copy 𝓤 H A W (named 3) κ-frame u8 .twice (x-frame v-frame) (s-frame ∷ [])) $ split ! $ move ! (38 ∷ []) $ split ! $ move ! (1 ∷ []) $ split ! $ move ! (1 ∷ []) $ split ! $ move ! (1 ∷ []) $ split ! $ move ! (1 ∷ []) $
-        move ! (12 ∷ 4 ∷ []) $
-        loads 𝓤 H A W at-mem run κ-seats q-seats b-seats o-seats γ-seats v-seats room-seats full ! fm known-load (λ i j. (and-then ! (load ! (from ! (stop !)) (look ! 19 refl)) (no-more !))) (λ is-row.
-        land ! (from ! (stop !)) (init ! 29 refl (array-lawful 𝓤 H A W SeatD.the-row (LL.lawful SeatD.the-type SeatL.the-laws 𝓤 H A W) seatCount .typed v-seats _ is-row .0)) $
+        assigns ! (addr ! (from ! (fld ! refl (hop ! (look-in ! 28 (sub ! 0 refl (whole !))) (stop !))))) (from ! (stop !)) (init ! 8 refl (tt, tt)) $
+        assigns ! (agg ! (and-then ! (load ! (from ! (stop !)) (look ! 8 refl)) (and-then ! (load ! (from ! (fld ! refl (stop !))) (look-in ! 28 (sub ! 1 refl (whole !)))) (no-more !)))) (from ! (stop !)) (init ! 6 refl (tt, (tt, (record { fits = room-seats .0 }, tt)))) $
+        move ! (33 ∷ []) $ fsplit ! $ move ! (1 ∷ []) $ fsplit ! $ move ! (1 ∷ []) $ fsplit ! $ move ! (1 ∷ []) $ fsplit ! $ move ! (1 ∷ []) $ fsplit ! $ move ! (1 ∷ []) $ fsplit ! $ move ! (1 ∷ []) $ move ! (5 ∷ []) $ drop ! $ move ! (4 ∷ []) $ use1 W (‵ Own-cells ⊛ ‵ Own-cells) (shr-slice-copy 𝓤 H A W (named 1) κ-cells u8 .twice (x-cells v-cells) (s-cells ∷ [])) $ split ! $ move ! (5 ∷ []) $ use1 W (‵ Own-marks ⊛ ‵ Own-marks) (shr-slice-copy 𝓤 H A W (named 2) κ-marks u32 .twice (x-marks v-marks) (s-marks ∷ [])) $ split ! $ move ! (6 ∷ []) $ use1 W (‵ Own-tally ⊛ ‵ Own-tally) (shr-copy 𝓤 H A W (named 3) κ-tally (Array (Array u32 3) 33) .twice (x-tally v-tally) (s-tally ∷ [])) $ split ! $ move ! (7 ∷ []) $ use1 W (‵ Own-frame ⊛ ‵ Own-frame) (shr-slice-copy 𝓤 H A W (named 4) κ-frame u8 .twice (x-frame v-frame) (s-frame ∷ [])) $ split ! $ move ! (42 ∷ []) $ split ! $ move ! (1 ∷ []) $ split ! $ move ! (1 ∷ []) $ split ! $ move ! (1 ∷ []) $ split ! $ move ! (1 ∷ []) $ split ! $ move ! (1 ∷ []) $
+        move ! (15 ∷ 5 ∷ []) $
+        loads 𝓤 H A W at-mem run κ-seats q-seats b-seats o-seats γ-seats v-seats room-seats full ! fm known-load (λ i j. (and-then ! (load ! (from ! (stop !)) (look ! 22 refl)) (no-more !))) (λ is-row.
+        land ! (from ! (stop !)) (init ! 32 refl (array-lawful 𝓤 H A W SeatD.the-row (LL.lawful SeatD.the-type SeatL.the-laws 𝓤 H A W) seatCount .typed v-seats _ is-row .0)) $
         -- the call by value
-        move ! (6 ∷ []) $ move ! (0 ∷ 12 ∷ []) $ fjoin ! $ move ! (8 ∷ []) $ fjoin ! $ move ! (9 ∷ []) $ fjoin ! $ owned ! DeskD.the-row (Is DeskD.the-row) (LL.makes DeskD.the-type DeskL.the-plain 𝓤 H A) v-desk _ is-desk $ fjoin ! $ owned ! (Array SeatD.the-row seatCount) (Is (Array SeatD.the-row seatCount)) (array-makes 𝓤 H A W SeatD.the-row (LL.makes SeatD.the-type SeatL.the-plain 𝓤 H A) seatCount) v-seats _ is-row $ fjoin ! $ move ! (4 ∷ 3 ∷ []) $ join ! $ move ! (4 ∷ 0 ∷ []) $ join ! $ move ! (4 ∷ 0 ∷ []) $ join ! $ join ! $ use1 W (raw (Core 𝓤 H A at-mem run .pre to-core)) (∗emp 𝓤 _) $
-        calls-at ! fm (Core 𝓤 H A at-mem run) known-core to-core (and-then ! (load ! (from ! (stop !)) (look ! 22 refl)) (and-then ! (load ! (from ! (stop !)) (look ! 30 refl)) (and-then ! (load ! (from ! (stop !)) (look ! 28 refl)) (and-then ! (load ! (from ! (stop !)) (look ! 26 refl)) (and-then ! (load ! (from ! (stop !)) (look ! 24 refl)) (no-more !)))))) (λ w.
-        use1 W (later (some (λ (r : One). ((‵ (flft κ-cells q-cells) ⊛ ‵ (flft κ-marks q-marks) ⊛ ‵ (flft κ-frame q-frame) ⊛ ‵ ftrue) ⊛ ‵ (OneD.the-row .own r (w ∷ []))) ⊛ raw (ensured 𝓤 H A core.ended (core.clauses 𝓤 H A at-mem run) κs′ args tt r)))) (id⊢ 𝓤 _) $ await ! tt $ pick ! (λ r. split ! $ move ! (1 ∷ []) $
-        use1 W (some (λ (zs : Unit {0} × (Unit {0} × (Unit {0} × (Unit {0} × (Unit {0} × Unit {0}))))). ‵ (lasts core.ended κs′ args zs) ⊛ raw (fact 𝓤 (CoreOpen v-seats v-desk v-cells v-marks v-frame r)))) (id⊢ 𝓤 _) $ pick ! (λ zs. split ! $ move ! (1 ∷ []) $
-        heard ! (CoreOpen v-seats v-desk v-cells v-marks v-frame r) (λ e. fsplit ! $ move ! (1 ∷ []) $ fsplit ! $ move ! (1 ∷ []) $ fsplit ! $ move ! (1 ∷ []) $ fsplit ! $ move ! (1 ∷ []) $ fsplit ! $ move ! (1 ∷ []) $ move ! (6 ∷ []) $ split ! $ move ! (1 ∷ []) $
+        move ! (7 ∷ []) $ move ! (0 ∷ 15 ∷ []) $ fjoin ! $ move ! (9 ∷ []) $ fjoin ! $ move ! (10 ∷ []) $ fjoin ! $ move ! (11 ∷ []) $ fjoin ! $ owned ! DeskD.the-row (Is DeskD.the-row) (LL.makes DeskD.the-type DeskL.the-plain 𝓤 H A) v-desk _ is-desk $ fjoin ! $ owned ! (Array SeatD.the-row seatCount) (Is (Array SeatD.the-row seatCount)) (array-makes 𝓤 H A W SeatD.the-row (LL.makes SeatD.the-type SeatL.the-plain 𝓤 H A) seatCount) v-seats _ is-row $ fjoin ! $ move ! (4 ∷ 3 ∷ []) $ join ! $ move ! (4 ∷ 0 ∷ []) $ join ! $ move ! (4 ∷ 0 ∷ []) $ join ! $ move ! (4 ∷ 0 ∷ []) $ join ! $ join ! $ use1 W (raw (Core 𝓤 H A at-mem run .pre to-core)) (∗emp 𝓤 _) $
+        calls-at ! fm (Core 𝓤 H A at-mem run) known-core to-core (and-then ! (load ! (from ! (stop !)) (look ! 23 refl)) (and-then ! (load ! (from ! (stop !)) (look ! 33 refl)) (and-then ! (load ! (from ! (stop !)) (look ! 31 refl)) (and-then ! (load ! (from ! (stop !)) (look ! 29 refl)) (and-then ! (load ! (from ! (stop !)) (look ! 27 refl)) (and-then ! (load ! (from ! (stop !)) (look ! 25 refl)) (no-more !))))))) (λ w.
+        use1 W (later (some (λ (r : One). ((‵ (flft κ-cells q-cells) ⊛ ‵ (flft κ-marks q-marks) ⊛ ‵ (flft κ-tally q-tally) ⊛ ‵ (flft κ-frame q-frame) ⊛ ‵ ftrue) ⊛ ‵ (OneD.the-row .own r (w ∷ []))) ⊛ raw (ensured 𝓤 H A core.ended (core.clauses 𝓤 H A at-mem run) κs′ args tt r)))) (id⊢ 𝓤 _) $ await ! tt $ pick ! (λ r. split ! $ move ! (1 ∷ []) $
+        use1 W (some (λ (zs : Unit {0} × (Unit {0} × (Unit {0} × (Unit {0} × (Unit {0} × (Unit {0} × Unit {0})))))). ‵ (lasts core.ended κs′ args zs) ⊛ raw (fact 𝓤 (CoreOpen v-seats v-desk v-cells v-marks v-tally v-frame r)))) (id⊢ 𝓤 _) $ pick ! (λ zs. split ! $ move ! (1 ∷ []) $
+        heard ! (CoreOpen v-seats v-desk v-cells v-marks v-tally v-frame r) (λ e. fsplit ! $ move ! (1 ∷ []) $ fsplit ! $ move ! (1 ∷ []) $ fsplit ! $ move ! (1 ∷ []) $ fsplit ! $ move ! (1 ∷ []) $ fsplit ! $ move ! (1 ∷ []) $ fsplit ! $ move ! (1 ∷ []) $ move ! (7 ∷ []) $ split ! $ move ! (1 ∷ []) $
         facts ! OneD.the-row (Is OneD.the-row) (shows 𝓤 H A OneD.the-row) r (w ∷ []) (λ is.
-        land ! (from ! (stop !)) (init ! 26 refl (LL.lawful OneD.the-type OneL.the-laws 𝓤 H A W .typed r _ is .0)) $ rewrite ! 26 (λ (u : Val). ‵ (fat fullShare OneL.mir l₇ 0 u)) (ap only (OneL.lowers .val-is r (w ∷ []) is)) refl $
+        land ! (from ! (stop !)) (init ! 28 refl (LL.lawful OneD.the-type OneL.the-laws 𝓤 H A W .typed r _ is .0)) $ rewrite ! 28 (λ (u : Val). ‵ (fat fullShare OneL.mir l₈ 0 u)) (ap only (OneL.lowers .val-is r (w ∷ []) is)) refl $
         -- the seat is stored
-        assigns ! (addr ! (from ! (fld ! refl (hop ! (look-in ! 38 (sub ! 0 refl (whole !))) (stop !))))) (from ! (stop !)) (init ! 14 refl (tt, tt)) $
-        assigns ! (agg ! (and-then ! (load ! (from ! (stop !)) (look ! 14 refl)) (and-then ! (load ! (from ! (fld ! refl (stop !))) (look-in ! 38 (sub ! 1 refl (whole !)))) (no-more !)))) (from ! (stop !)) (init ! 12 refl (tt, (tt, (record { fits = room-seats .0 }, tt)))) $
-        move ! (7 ∷ 8 ∷ []) $
-        puts 𝓤 H A W at-mem run κ-seats q-seats b-seats o-seats γ-seats v-seats room-seats full (r .at) (r .seat) (one-at-fits r (w ∷ []) is) (one-seat-is r (w ∷ []) is) ! fm known-put (λ i. (and-then ! (load ! (from ! (stop !)) (look ! 11 refl)) (and-then ! (load ! (from ! (fld ! refl (stop !))) (look-in ! 25 (sub ! 0 refl (whole !)))) (and-then ! (load ! (from ! (fld ! refl (stop !))) (look-in ! 25 (sub ! 1 refl (whole !)))) (no-more !))))) $
-        land ! (from ! (stop !)) (init ! 16 refl (tt, tt)) $
-        assigns ! (of-opd ! (load ! (from ! (fld ! refl (stop !))) (look-in ! 26 (sub ! 2 refl (whole !))))) (from ! (stop !)) (init ! 40 refl (LL.lawful DeskAnswerD.the-type DeskAnswerL.the-laws 𝓤 H A W .typed (r .answer) _ (one-answer-is r (w ∷ []) is) .0)) $
-        returns ! (look ! 40 refl) $
-        forget ! 40 refl $ forget ! 38 refl $ forget ! 36 refl $ forget ! 34 refl $ forget ! 32 refl $ forget ! 30 refl $ forget ! 28 refl $ forget ! 26 refl $ forget ! 24 refl $ forget ! 22 refl $ forget ! 20 refl $ forget ! 18 refl $ forget ! 16 refl $ forget ! 14 refl $ forget ! 12 refl $
-        move ! (40 ∷ 41 ∷ []) $ free1 ! $ move ! (38 ∷ 39 ∷ []) $ free1 ! $ move ! (36 ∷ 37 ∷ []) $ free1 ! $ move ! (34 ∷ 35 ∷ []) $ free1 ! $ move ! (32 ∷ 33 ∷ []) $ free1 ! $ move ! (30 ∷ 31 ∷ []) $ free1 ! $ move ! (28 ∷ 29 ∷ []) $ free1 ! $ move ! (26 ∷ 27 ∷ []) $ free1 ! $ move ! (24 ∷ 25 ∷ []) $ free1 ! $ move ! (22 ∷ 23 ∷ []) $ free1 ! $ move ! (20 ∷ 21 ∷ []) $ free1 ! $ move ! (18 ∷ 19 ∷ []) $ free1 ! $ move ! (16 ∷ 17 ∷ []) $ free1 ! $ move ! (14 ∷ 15 ∷ []) $ free1 ! $ move ! (12 ∷ 13 ∷ []) $ free1 ! $ free0 ! $
-        move ! (2 ∷ []) $ split ! $ move ! (1 ∷ []) $ split ! $ move ! (1 ∷ []) $ split ! $ move ! (1 ∷ []) $ move ! (1 ∷ 0 ∷ []) $ join ! $ move ! (1 ∷ 0 ∷ []) $ join ! $ move ! (1 ∷ 0 ∷ []) $ join ! $ move ! (2 ∷ 0 ∷ []) $ join ! $ keep ! (0 ∷ 1 ∷ 10 ∷ 9 ∷ 8 ∷ []) $
-        by ! (exits (r .answer) _ (set v-seats (r .at) (r .seat)) (length-set v-seats (r .at) (r .seat)) (one-answer-is r (w ∷ []) is) (done-open v-seats v-desk v-cells v-marks v-frame r e))))))))))))))))))))))))
+        assigns ! (addr ! (from ! (fld ! refl (hop ! (look-in ! 42 (sub ! 0 refl (whole !))) (stop !))))) (from ! (stop !)) (init ! 16 refl (tt, tt)) $
+        assigns ! (agg ! (and-then ! (load ! (from ! (stop !)) (look ! 16 refl)) (and-then ! (load ! (from ! (fld ! refl (stop !))) (look-in ! 42 (sub ! 1 refl (whole !)))) (no-more !)))) (from ! (stop !)) (init ! 14 refl (tt, (tt, (record { fits = room-seats .0 }, tt)))) $
+        move ! (8 ∷ 9 ∷ []) $
+        puts 𝓤 H A W at-mem run κ-seats q-seats b-seats o-seats γ-seats v-seats room-seats full (r .at) (r .seat) (one-at-fits r (w ∷ []) is) (one-seat-is r (w ∷ []) is) ! fm known-put (λ i. (and-then ! (load ! (from ! (stop !)) (look ! 13 refl)) (and-then ! (load ! (from ! (fld ! refl (stop !))) (look-in ! 27 (sub ! 0 refl (whole !)))) (and-then ! (load ! (from ! (fld ! refl (stop !))) (look-in ! 27 (sub ! 1 refl (whole !)))) (no-more !))))) $
+        land ! (from ! (stop !)) (init ! 18 refl (tt, tt)) $
+        assigns ! (of-opd ! (load ! (from ! (fld ! refl (stop !))) (look-in ! 28 (sub ! 2 refl (whole !))))) (from ! (stop !)) (init ! 44 refl (LL.lawful DeskAnswerD.the-type DeskAnswerL.the-laws 𝓤 H A W .typed (r .answer) _ (one-answer-is r (w ∷ []) is) .0)) $
+        returns ! (look ! 44 refl) $
+        forget ! 44 refl $ forget ! 42 refl $ forget ! 40 refl $ forget ! 38 refl $ forget ! 36 refl $ forget ! 34 refl $ forget ! 32 refl $ forget ! 30 refl $ forget ! 28 refl $ forget ! 26 refl $ forget ! 24 refl $ forget ! 22 refl $ forget ! 20 refl $ forget ! 18 refl $ forget ! 16 refl $ forget ! 14 refl $
+        move ! (44 ∷ 45 ∷ []) $ free1 ! $ move ! (42 ∷ 43 ∷ []) $ free1 ! $ move ! (40 ∷ 41 ∷ []) $ free1 ! $ move ! (38 ∷ 39 ∷ []) $ free1 ! $ move ! (36 ∷ 37 ∷ []) $ free1 ! $ move ! (34 ∷ 35 ∷ []) $ free1 ! $ move ! (32 ∷ 33 ∷ []) $ free1 ! $ move ! (30 ∷ 31 ∷ []) $ free1 ! $ move ! (28 ∷ 29 ∷ []) $ free1 ! $ move ! (26 ∷ 27 ∷ []) $ free1 ! $ move ! (24 ∷ 25 ∷ []) $ free1 ! $ move ! (22 ∷ 23 ∷ []) $ free1 ! $ move ! (20 ∷ 21 ∷ []) $ free1 ! $ move ! (18 ∷ 19 ∷ []) $ free1 ! $ move ! (16 ∷ 17 ∷ []) $ free1 ! $ move ! (14 ∷ 15 ∷ []) $ free1 ! $ free0 ! $
+        move ! (2 ∷ []) $ split ! $ move ! (1 ∷ []) $ split ! $ move ! (1 ∷ []) $ split ! $ move ! (1 ∷ []) $ split ! $ move ! (1 ∷ []) $ move ! (1 ∷ 0 ∷ []) $ join ! $ move ! (1 ∷ 0 ∷ []) $ join ! $ move ! (1 ∷ 0 ∷ []) $ join ! $ move ! (1 ∷ 0 ∷ []) $ join ! $ move ! (2 ∷ 0 ∷ []) $ join ! $ keep ! (0 ∷ 1 ∷ 12 ∷ 11 ∷ 10 ∷ 9 ∷ []) $
+        by ! (exits (r .answer) _ (set v-seats (r .at) (r .seat)) (length-set v-seats (r .at) (r .seat)) (one-answer-is r (w ∷ []) is) (done-open v-seats v-desk v-cells v-marks v-tally v-frame r e)))))))))))))))))))))))))
 
 module _ {M : Type 1} (𝓤 : URA M) (H : Heap 𝓤) (A : Atoms 𝓤) (W : Given 𝓤 H A) (at-mem : Memory → SProp 𝓤) (run : Routine → Fun 𝓤) where
   walks : (C : Calls 𝓤 H) (Λ : Loops 𝓤 H) → FmC 𝓤 H (W .laws) C → Triple 𝓤 (C #refused) (Refused 𝓤 H A at-mem run) → Triple 𝓤 (C #load) (Load 𝓤 H A at-mem run) → Triple 𝓤 (C #core) (Core 𝓤 H A at-mem run) → Triple 𝓤 (C #put) (Put 𝓤 H A at-mem run) → Walks 𝓤 H A outer.ended stayed (WpFn 𝓤 H C Λ code.function) (outer.clauses 𝓤 H A at-mem run)
   walks C Λ fm known-refused known-load known-core known-put = walked 𝓤 H A outer.ended stayed (outer.clauses 𝓤 H A at-mem run) (WpFn 𝓤 H C Λ code.function)
-      (λ κs. (slice-vals, (LL.vals DeskD.the-type DeskL.the-laws, (slice-vals, (slice-vals, (slice-vals, tt))))))
-      (λ κs. (mut-slice-tells (named 0) (κs .0) SeatD.the-row, (LL.tells DeskD.the-type DeskL.the-laws, (shr-slice-tells (named 1) (κs .1 .0) u8, (shr-slice-tells (named 2) (κs .1 .1 .0) u32, (shr-slice-tells (named 3) (κs .1 .1 .1 .0) u8, tt))))))
+      (λ κs. (slice-vals, (LL.vals DeskD.the-type DeskL.the-laws, (slice-vals, (slice-vals, (ptr-vals, (slice-vals, tt)))))))
+      (λ κs. (mut-slice-tells (named 0) (κs .0) SeatD.the-row, (LL.tells DeskD.the-type DeskL.the-laws, (shr-slice-tells (named 1) (κs .1 .0) u8, (shr-slice-tells (named 2) (κs .1 .1 .0) u32, (shr-tells (named 3) (κs .1 .1 .1 .0) (Array (Array u32 3) 33), (shr-slice-tells (named 4) (κs .1 .1 .1 .1 .0) u8, tt)))))))
       (λ κs qs bounds a g are. via 𝓤 _ (fst∗ 𝓤 _ (emp 𝓤)) (walk 𝓤 H A W at-mem run
-      (κs .0) (qs .0) (κs .1 .0) (qs .1 .0) (κs .1 .1 .0) (qs .1 .1 .0) (κs .1 .1 .1 .0) (qs .1 .1 .1 .0)
+      (κs .0) (qs .0) (κs .1 .0) (qs .1 .0) (κs .1 .1 .0) (qs .1 .1 .0) (κs .1 .1 .1 .0) (qs .1 .1 .1 .0) (κs .1 .1 .1 .1 .0) (qs .1 .1 .1 .1 .0)
       (a .0 .ptr .0) (a .0 .ptr .1) (a .0 .name) (a .0 .now) (are .0 .0 .1)
       (a .1 .0) (are .1 .0)
       (a .1 .1 .0 .ptr .0) (a .1 .1 .0 .ptr .1) (a .1 .1 .0 .name) (a .1 .1 .0 .now) (are .1 .1 .0 .0 .1)
       (a .1 .1 .1 .0 .ptr .0) (a .1 .1 .1 .0 .ptr .1) (a .1 .1 .1 .0 .name) (a .1 .1 .1 .0 .now) (are .1 .1 .1 .0 .0 .1)
-      (a .1 .1 .1 .1 .0 .ptr .0) (a .1 .1 .1 .1 .0 .ptr .1) (a .1 .1 .1 .1 .0 .name) (a .1 .1 .1 .1 .0 .now) (are .1 .1 .1 .1 .0 .0 .1)
+      (a .1 .1 .1 .1 .0 .ptr .0) (a .1 .1 .1 .1 .0 .ptr .1) (a .1 .1 .1 .1 .0 .name) (a .1 .1 .1 .1 .0 .now)
+      (a .1 .1 .1 .1 .1 .0 .ptr .0) (a .1 .1 .1 .1 .1 .0 .ptr .1) (a .1 .1 .1 .1 .1 .0 .name) (a .1 .1 .1 .1 .1 .0 .now) (are .1 .1 .1 .1 .1 .0 .0 .1)
       C Λ fm known-refused known-load known-core known-put))
 
 meets : {M : Type 1} (𝓤 : URA M) (H : Heap 𝓤) (A : Atoms 𝓤) → Given 𝓤 H A → (at-mem : Memory → SProp 𝓤) (run : Routine → Fun 𝓤) (𝓣 : Tables 𝓤 H) → Triple 𝓤 (𝓣 .C #refused) (Refused 𝓤 H A at-mem run) → Triple 𝓤 (𝓣 .C #load) (Load 𝓤 H A at-mem run) → Triple 𝓤 (𝓣 .C #core) (Core 𝓤 H A at-mem run) → Triple 𝓤 (𝓣 .C #put) (Put 𝓤 H A at-mem run)
     → Meets 𝓤 H A outer.signature (WpFn 𝓤 H (𝓣 .C) (𝓣 .Λ) code.function) (outer.spec 𝓤 H A at-mem run)
 meets 𝓤 H A W at-mem run 𝓣 known-refused known-load known-core known-put =
-    walk-meets 𝓤 H A outer.ended stayed W (goes-gave-slice 𝓤 H A W 4 0 tt (plain (λ _. SeatD.the-row)), (goes-none 𝓤 H A W 4 (λ _. DeskD.the-row) yes (λ κs x f. refl), (goes-none-slice 𝓤 H A W 4 (1 ∷ []) tt (plain (λ _. u8)) yes, (goes-none-slice 𝓤 H A W 4 (2 ∷ []) tt (plain (λ _. u32)) yes, (goes-none-slice 𝓤 H A W 4 (3 ∷ []) tt (plain (λ _. u8)) yes, tt))))) (outer.clauses 𝓤 H A at-mem run)
+    walk-meets 𝓤 H A outer.ended stayed W (goes-gave-slice 𝓤 H A W 5 0 tt (plain (λ _. SeatD.the-row)), (goes-none 𝓤 H A W 5 (λ _. DeskD.the-row) yes (λ κs x f. refl), (goes-none-slice 𝓤 H A W 5 (1 ∷ []) tt (plain (λ _. u8)) yes, (goes-none-slice 𝓤 H A W 5 (2 ∷ []) tt (plain (λ _. u32)) yes, (goes-none-ref 𝓤 H A W 5 (3 ∷ []) tt (plain (λ _. (Array (Array u32 3) 33))) yes, (goes-none-slice 𝓤 H A W 5 (4 ∷ []) tt (plain (λ _. u8)) yes, tt)))))) (outer.clauses 𝓤 H A at-mem run)
     (WpFn 𝓤 H (𝓣 .C) (𝓣 .Λ) code.function) (WpFn-mono 𝓤 H (W .laws) 𝓣 code.function) (walks 𝓤 H A W at-mem run (𝓣 .C) (𝓣 .Λ) (fmOf 𝓤 H (W .laws) 𝓣) known-refused known-load known-core known-put)
 
 pub rei2-open-spec : {M : Type 1} → stated.statement M

@@ -19,7 +19,7 @@ same-length-2 c = search needs
 returns : tie.Need-returns
 returns c =
     let e = c .before .before .before .before .before .before .before .reply-step .ensures in
-    (rw (c .before .reply-answer .ensures) (one-seat-is _ _ _ _ _ _ _ _ (e .1)), (λ i. e .1 .memory i .cells, λ i. e .1 .memory i .marks))
+    (rw (c .before .reply-answer .ensures) (one-seat-is _ _ _ _ _ _ _ _ _ (e .1)), (λ i. e .1 .memory i .cells, (λ i. e .1 .memory i .marks, λ i. e .1 .memory i .tally)))
 
 pub reply-seat-spec : {M : Type 1} → statement M
 reply-seat-spec =

@@ -1,6 +1,4 @@
 -- `rei2::lent::reset_row` meets its contract. Assumes nothing.
-use mathlib.Core.Path.{ap}
-use Rattle.desk.specs.declared.state.Emptied.{Emptied}
 use Rattle.rei2.proofs.NumberLaws.{reset-is}
 use borrow.Author.Needs.{needs}
 use Rattle.rei2.proofs.lent.reset_row.Statement.{statement}
@@ -10,7 +8,7 @@ reset-requires : tie.Need-reset-requires
 reset-requires c κs = search needs
 
 returns : tie.Need-returns
-returns c = reset-is (c .before .before .before .args .row) _ (c .before .before .before .args .desk) _ (search needs) (ap (λ (x : Emptied). x .desk) (c .before .before .reset .ensures)) (ap (λ (x : Emptied). x .row) (c .before .before .reset .ensures))
+returns c = reset-is (c .before .before .before .before .args .row) (c .before .before .before .before .args .desk) _ _ _ (search needs) (c .before .before .reset .ensures)
 
 pub reset-row-spec : {M : Type 1} → statement M
 reset-row-spec = tie.close (tie.spec reset-requires returns)

@@ -114,6 +114,12 @@ slice-aggregate-put-name-18 c = search needs
 put-name-requires-18 : tie.Need-put-name-requires-18
 put-name-requires-18 c κs = search needs
 
+slice-aggregate-put-name-19 : tie.Need-slice-aggregate-put-name-19
+slice-aggregate-put-name-19 c = search needs
+
+put-name-requires-19 : tie.Need-put-name-requires-19
+put-name-requires-19 c κs = search needs
+
 same-length : tie.Need-same-length
 same-length c = search needs
 
@@ -220,9 +226,15 @@ same-length-18 : tie.Need-same-length-18
 same-length-18 c = search needs
 
 returns-18 : tie.Need-returns-18
-returns-18 c =
+returns-18 c = named _ _ _ _ _ (ap nameOf (c .before .before .before .before .before .match .keys18) ∙ names-tell .no-such) (c .before .before .put-name18 .ensures)
+
+same-length-19 : tie.Need-same-length-19
+same-length-19 c = search needs
+
+returns-19 : tie.Need-returns-19
+returns-19 c =
     let n = c .before .before .before .before .before .before .before .args .refusal in
-    named _ _ _ _ _ (names-tell .others n (none-below 17 n (c .before .before .before .before .before .match .rest))) (c .before .before .put-name18 .ensures)
+    named _ _ _ _ _ (names-tell .others n (none-below 18 n (c .before .before .before .before .before .match .rest))) (c .before .before .put-name19 .ensures)
 
 pub rei2-refusal-name-spec : {M : Type 1} → statement M
 rei2-refusal-name-spec =
@@ -264,6 +276,8 @@ rei2-refusal-name-spec =
     put-name-requires-17
     slice-aggregate-put-name-18
     put-name-requires-18
+    slice-aggregate-put-name-19
+    put-name-requires-19
     same-length
     returns
     same-length-2
@@ -299,4 +313,6 @@ rei2-refusal-name-spec =
     same-length-17
     returns-17
     same-length-18
-    returns-18)
+    returns-18
+    same-length-19
+    returns-19)

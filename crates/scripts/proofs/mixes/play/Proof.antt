@@ -7,10 +7,10 @@ use Rattle.scripts.proofs.mixes.play.Tie as tie
 use lib.ListN.{length}
 
 abbrev Inv-loop : tie.InvT-loop
-Inv-loop s apart n m sum cells₀ marks₀ x₀ i₀ cells marks x i = (i ≤ n) × ((length cells ≡ 408) × (length marks ≡ 8))
+Inv-loop s apart n m sum cells₀ marks₀ tally₀ x₀ i₀ cells marks tally x i = (i ≤ n) × ((length cells ≡ 408) × (length marks ≡ 8))
 
 abbrev μ-loop : tie.MeasureT-loop
-μ-loop s apart n m sum cells₀ marks₀ x₀ i₀ cells marks x i = n - i
+μ-loop s apart n m sum cells₀ marks₀ tally₀ x₀ i₀ cells marks tally x i = n - i
 
 slice-aggregate-both-opened : tie.Need-slice-aggregate-both-opened Inv-loop μ-loop
 slice-aggregate-both-opened c = search needs

@@ -1,14 +1,15 @@
 //! States that are desks or nearly. Changes that belong together are made. About half the time one
-//! of them is left out or slightly wrong.
+//! of them is left out or slightly wrong. Most of the time the tally goes along with the cells.
 
 mod together;
 
 use super::{add_call, add_look, different_keys, lend, open_keys, random_key};
 use crate::cases::desk::frames::{random_reply, random_request, request, E, R, Z};
-use crate::cases::desk::random::random_change;
+use crate::cases::desk::random::{random_change, tally};
 use crate::cases::desk::script::Script;
 use crate::cases::reply::put_minus_zero;
 use crate::cases::Cases;
+use crate::desk::tally::Tally;
 use crate::desk::{Desk, Seat, CELL, SEATS};
 use crate::random::Random;
 use crate::script::Change;
@@ -51,10 +52,47 @@ fn lay<'a>(cases: &'a mut Cases, random: &mut Random) -> Script<'a> {
 /// The changes that are made to the state.
 fn changes(script: &Script, random: &mut Random) -> Vec<Change> {
     let desk = script.desk();
-    match random.below(8) {
+    let mut changes = match random.below(9) {
         0 => vec![random_change(desk, random)],
         1 => vec![another_seat(desk, random)],
+        2 if random.once_in(2) => return vec![tally::change(desk, random)],
         _ => together_or_nearly(desk, random),
+    };
+    let mut tally = changes_of_tally(desk, &changes);
+    if random.once_in(8) {
+        spoil_one(&mut tally, random);
+    }
+    changes.extend(tally);
+    changes
+}
+
+/// What these changes do to the count over the cells held is done to the tally too.
+fn changes_of_tally(desk: &Desk, changes: &[Change]) -> Vec<Change> {
+    let mut after = desk.clone();
+    for change in changes {
+        change.make(&mut after).expect("a script sets what is lent");
+    }
+    let (from, to) = (Tally::counted(desk), Tally::counted(&after));
+    Tally::places()
+        .filter(|&place| from.number(place) != to.number(place))
+        .map(|(row, column)| {
+            let place = (row, column);
+            let more = to.number(place).wrapping_sub(from.number(place));
+            Change::Tally(row, column, desk.tally.number(place).wrapping_add(more))
+        })
+        .collect()
+}
+
+/// Leaves one of the changes out or makes it slightly wrong, if there is any.
+fn spoil_one(changes: &mut Vec<Change>, random: &mut Random) {
+    if changes.is_empty() {
+        return;
+    }
+    let place = random.place(changes.len());
+    if random.once_in(2) {
+        changes.remove(place);
+    } else {
+        nudge(&mut changes[place], random);
     }
 }
 
@@ -95,6 +133,7 @@ fn nudge(change: &mut Change, random: &mut Random) {
         Change::Bits(bits) => *bits ^= 1 << random.below(18),
         Change::Count(count) => nudge_number(count, random),
         Change::Mark(_, mark) => nudge_number(mark, random),
+        Change::Tally(_, _, number) => nudge_number(number, random),
         Change::Seat(_, seat) => nudge_seat(seat, random),
         Change::Cell(_, bytes) if bytes.len() == CELL && random.once_in(4) => {
             put_minus_zero(bytes, random);
@@ -152,6 +191,7 @@ fn ask(script: &mut Script, random: &mut Random) {
 mod tests {
     use super::*;
     use crate::cases::desk::script::tests::outcomes;
+    use crate::refusal::Refusal;
 
     /// After a change from outside, a call finds a desk about half the time.
     #[test]
@@ -177,6 +217,26 @@ mod tests {
         );
     }
 
+    /// How many states have another tally than their cells, among those that are no desk.
+    #[test]
+    fn the_tally_is_right_most_of_the_time() {
+        let mut random = Random::new(1, "test");
+        let (mut no_desk, mut wrong) = (0, 0);
+        for _ in 0..600 {
+            let mut cases = Cases::default();
+            let mut script = lay(&mut cases, &mut random);
+            let changes = changes(&script, &mut random);
+            script.change_all(&changes);
+            let mut desk = script.desk().clone();
+            if desk.open(&[]) == Err(Refusal::Desk) {
+                no_desk += 1;
+                wrong += usize::from(desk.tally != Tally::counted(&desk));
+            }
+        }
+        assert!((100..500).contains(&no_desk), "{no_desk}");
+        assert!((10..no_desk / 2).contains(&wrong), "{wrong} of {no_desk}");
+    }
+
     #[test]
     fn a_nudge_changes_something() {
         let mut random = Random::new(1, "test");
@@ -184,6 +244,7 @@ mod tests {
             Change::Bits(3),
             Change::Count(0),
             Change::Mark(1, 2),
+            Change::Tally(12, 0, 1),
             Change::Seat(0, Seat::default()),
         ] {
             for _ in 0..20 {

@@ -1,11 +1,12 @@
-//! Arbitrary states. They hardly ever make a desk, but seats in use and held cells can still be
-//! asked for.
+//! Arbitrary states. They hardly ever make a desk, but seats in use, held cells and the tally can
+//! still be asked for.
 
 use super::{add_call, add_look, lend, open_keys, random_key};
 use crate::cases::desk::frames::random_reply;
 use crate::cases::desk::script::{seat_of, Script};
 use crate::cases::frames::any_number;
 use crate::cases::Cases;
+use crate::desk::tally::{COLUMNS, ROWS};
 use crate::desk::{Seat, CELL, SEATS};
 use crate::random::Random;
 use crate::script::Change;
@@ -30,7 +31,7 @@ pub fn add(cases: &mut Cases, random: &mut Random) {
 
 fn change(script: &Script, random: &mut Random) -> Change {
     let desk = script.desk();
-    match random.below(8) {
+    match random.below(9) {
         0 => Change::Bits(random.draw() >> (1 + random.below(63))),
         1 => Change::Count(any_count(desk.marks.len(), random)),
         2 | 3 if !desk.marks.is_empty() => {
@@ -38,6 +39,7 @@ fn change(script: &Script, random: &mut Random) -> Change {
             Change::Mark(place, any_mark(random))
         }
         4 | 5 if desk.cells.len() >= CELL => any_cell(desk.cells.len(), random),
+        6 => any_tally(random),
         _ => Change::Seat(random.place(SEATS), any_seat(random)),
     }
 }
@@ -54,6 +56,14 @@ fn any_mark(random: &mut Random) -> u32 {
         0 => any_number(random) as u32,
         _ => random.below(6) as u32,
     }
+}
+
+fn any_tally(random: &mut Random) -> Change {
+    let number = match random.below(3) {
+        0 => any_number(random) as u32,
+        _ => random.below(4) as u32,
+    };
+    Change::Tally(random.place(ROWS), random.place(COLUMNS), number)
 }
 
 /// A whole reply at a cell, or random bytes anywhere.

@@ -1,6 +1,6 @@
-//! Changes that belong together. If all of them are made to a desk, the result is mostly a desk
-//! again. If not, it usually breaks only one clause: a Z that is not the first record, or a record
-//! after the end.
+//! Changes that belong together. If all of them are made to a desk, and the tally goes along, the
+//! result is mostly a desk again. If not, it usually breaks only one clause: a Z that is not the
+//! first record, or a record after the end.
 
 use crate::cases::desk::bulk::{key_of, random_key, under_any_address};
 use crate::cases::desk::frames::{random_reply, Key, E, R, Z};
