@@ -9,6 +9,9 @@ use Rattle.digits.specs.Refusals.{DESK, NO-ANSWER-DUE, IN-USE, NO-SEAT, STRAY, 
 use Rattle.digits.specs.Told.{Told, gives, refuses}
 use Rattle.frames.specs.declared.refusals.ReadRefusal.the-variants.{Kind, Length, End, Address, Field}
 use Rattle.frames.proofs.RefusalLaws.{readBack}
+use Rattle.desk.specs.declared.tally.LookAnswer.{LookAnswer}
+use Rattle.desk.specs.declared.tally.LookAnswer.the-variants.{Held, NoSuch}
+use Rattle.desk.specs.Tally.{Table, lookTold, LookAs}
 use Rattle.desk.specs.declared.state.Emptied.{Emptied}
 use Rattle.desk.specs.declared.state.Seat.{Seat}
 use Rattle.desk.specs.declared.opening.OpenDone.{OpenDone}
@@ -83,6 +86,17 @@ capture-back NoDesk = refl
 
 -- ---- the outcomes
 
+abbrev lookBack : Told ℕ → LookAnswer
+lookBack (gives n) = Held n
+lookBack (refuses f) = NoSuch
+
+look-back : (a : LookAnswer) → lookBack (lookTold a) ≡ a
+look-back (Held n) = refl
+look-back NoSuch = refl
+
+one-look : (t : Table) (letter status : ℕ) (a b : LookAnswer) → LookAs t letter status a → LookAs t letter status b → a ≡ b
+one-look t letter status a b d e = sym (look-back a) ∙ ap lookBack (d ∙ sym e) ∙ look-back b
+
 one-reset : (o p : Emptied × List (List ℕ)) → ResetDid (o .0) (o .1) → ResetDid (p .0) (p .1) → o ≡ p
 one-reset o p d e = let a = d .empty ∙ sym (e .empty) in let b = d .zero ∙ sym (e .zero) in λ i. (a i, b i)
 
@@ -132,4 +146,4 @@ module _ (m : Memory) (f : List ℕ) where
       λ i. (record { answer = a i; desk = record { bits = n i .bits; count = n i .count }; at = k i; seat = s i }, (n i .cells, (n i .marks, n i .tally)))
 
 pub one-outcome : OneOutcome
-one-outcome = record { reset = one-reset; «open» = one-opening; reply = one-reply; open-step = one-open-step; reply-step = one-reply-step; take-capture = one-capture }
+one-outcome = record { look = one-look; reset = one-reset; «open» = one-opening; reply = one-reply; open-step = one-open-step; reply-step = one-reply-step; take-capture = one-capture }

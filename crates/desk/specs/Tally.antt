@@ -2,6 +2,7 @@
 use Prim.Native.Nat.{ℕ, _+_}
 use mathlib.Core.List.{List, []}
 use mathlib.Core.Bool.{Bool, _&&_}
+use mathlib.Core.Path.{_≡_}
 use lib.ListN.{length, getD, set, replicate}
 use lib.Dec.{eqb}
 use Rattle.digits.specs.Refusals.{NO-SUCH}
@@ -73,3 +74,7 @@ looks t letter status = tried (isLetter letter && isStatus status) NO-SUCH (give
 abbrev pub lookTold : LookAnswer → Told ℕ
 lookTold (Held n) = gives n
 lookTold NoSuch = refuses NO-SUCH
+
+-- what is promised of a look
+abbrev pub LookAs : Table → ℕ → ℕ → LookAnswer → Type 0
+LookAs t letter status r = lookTold r ≡ looks t letter status

@@ -9,9 +9,11 @@ use Rattle.desk.specs.declared.capture.CaptureDone.{CaptureDone}
 use Rattle.desk.specs.Memory.{Memory, memory}
 use Rattle.desk.specs.Calls.{ResetDid, OpenDid, ReplyDid, OpenStepDid, ReplyStepDid}
 use Rattle.desk.specs.Capture.{TookCapture}
+use Rattle.desk.specs.Tally.{Table, LookAs}
 
 pub record OneOutcome : Type 0 where
   pub «open» : (m : Memory) (f : List ℕ) → Once (OpenDid m f)
+  pub look : (t : Table) (letter status : ℕ) → Once (LookAs t letter status)
   pub reset : Once (λ (o : Emptied × List (List ℕ)). ResetDid (o .0) (o .1))
   -- with the cells, the marks and the tally after the call
   pub reply : (m : Memory) (f : List ℕ) → Once (λ (o : ReplyDone × (List ℕ × (List ℕ × List (List ℕ)))). ReplyDid m f (o .0) (o .1 .0) (o .1 .1 .0) (o .1 .1 .1))

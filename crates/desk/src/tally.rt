@@ -9,7 +9,7 @@ ghost use Prim.Native.Nat.{_<_};
 ghost use lib.Dec.{ltb};
 ghost use Rattle.frames.specs.Reply.{isLetter};
 ghost use Rattle.frames.specs.Status.{isStatus, statusPlace};
-ghost use Rattle.desk.specs.Tally.{entryOf, counted, emptyTally, looks, lookTold};
+ghost use Rattle.desk.specs.Tally.{entryOf, counted, emptyTally, LookAs};
 ghost use Rattle.desk.specs.inside.Counted.{uncounted, Whole, isClear};
 
 // How many records are held with a letter and a status; or there is no such letter or status.
@@ -20,7 +20,7 @@ pub enum LookAnswer {
 
 // One look at the table. Whether it is that of a desk is not tested.
 pub fn look(tally: &[[u32; STATUSES]; LETTERS], letter: u8, status: u8) -> LookAnswer
-    ensures { λ r. ⌜ lookTold r ≡ looks (now (tally .entry)) letter status ⌝ }
+    ensures { λ r. ⌜ LookAs (now (tally .entry)) letter status r ⌝ }
 {
     let i = letter_place(letter);
     let j = status_place(status);
