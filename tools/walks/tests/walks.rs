@@ -136,6 +136,13 @@ impl Repo {
         repo
     }
 
+    /// A repository with the module `rei2::lent` of this one, and with the module that has the lengths of its arrays.
+    fn as_here() -> Repo {
+        let repo = Repo::new(&read(&here().join("crates/rei2/src/lent.rt")));
+        repo.has("frames", "reply", &read(&here().join("crates/frames/src/reply.rt")));
+        repo
+    }
+
     /// Writes a module of a crate.
     fn has(&self, crate_name: &str, module: &str, text: &str) {
         let folder = self.0.join(format!("crates/{crate_name}/src"));
@@ -263,7 +270,7 @@ fn has_no_form(module: &str, call: &str) {
 
 #[test]
 fn the_files_of_the_repository_are_what_it_writes() {
-    let repo = Repo::new(&read(&here().join("crates/rei2/src/lent.rt")));
+    let repo = Repo::as_here();
     assert_eq!(repo.walks(&[]), says(0, "walks: 4 walks written\n", ""));
     for call in ["rei2_reset", "rei2_open", "rei2_reply", "rei2_capture"] {
         assert!(read(&repo.proof(call)) == read(&proof(&here(), call)), "{call}");
@@ -273,7 +280,7 @@ fn the_files_of_the_repository_are_what_it_writes() {
 
 #[test]
 fn a_check_fails_where_a_file_differs_by_a_byte() {
-    let repo = Repo::new(&read(&here().join("crates/rei2/src/lent.rt")));
+    let repo = Repo::as_here();
     let calls = ["rei2_reset", "rei2_open", "rei2_reply", "rei2_capture"];
     for call in calls {
         fs::create_dir_all(repo.proof(call).parent().expect("a file has a folder")).expect("a folder is made");
