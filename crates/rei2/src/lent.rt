@@ -3,12 +3,12 @@
 ghost use Rattle.std.specs.Prelude.{◌≡◌, ◌≤◌, length, set};
 ghost use Rattle.digits.specs.Refusals.{plain, ROOM, DESK, PAGE};
 ghost use Rattle.digits.specs.Told.{refuses};
-ghost use Rattle.desk.specs.Limits.{seatCount};
-ghost use Rattle.desk.specs.Calls.{openTold, replyTold, place_in};
-ghost use Rattle.desk.specs.Capture.{captureTold};
-ghost use Rattle.page.specs.Writing.{writeTold};
-ghost use Rattle.page.specs.Reading.{readTold};
-ghost use Rattle.rei2.specs.Lent.{deskAnswer, captureAnswer, pageAnswer, readAnswer, ResetLent, OpenLent, ReplyLent, CaptureLent, WritePageLent, ReadPageLent};
+ghost use Rattle.desk.specs.Limits.{seat_count};
+ghost use Rattle.desk.specs.Calls.{open_told, reply_told, place_in};
+ghost use Rattle.desk.specs.Capture.{capture_told};
+ghost use Rattle.page.specs.Writing.{write_told};
+ghost use Rattle.page.specs.Reading.{read_told};
+ghost use Rattle.rei2.specs.Lent.{desk_answer, capture_answer, page_answer, read_answer, ResetLent, OpenLent, ReplyLent, CaptureLent, WritePageLent, ReadPageLent};
 ghost use Rattle.rei2.specs.inside.Core.{CoreReset, CoreOpen, CoreReply, CoreCapture, CoreWritePage, CoreReadPage, RefusedReadPage};
 
 use crate::request::WrittenAnswer;
@@ -66,7 +66,7 @@ pub(crate) struct One {
 // ---- loading and storing the row
 
 pub(crate) fn load(s: &[Seat]) -> [Seat; SEATS]
-    requires { length s.now ≡ seatCount }
+    requires { length s.now ≡ seat_count }
     ensures { result ≡ s.now }
 {
     let mut row = [s[0]; SEATS];
@@ -79,7 +79,7 @@ pub(crate) fn load(s: &[Seat]) -> [Seat; SEATS]
 }
 
 pub(crate) fn store(s: &mut [Seat], row: [Seat; SEATS])
-    requires { length s.old ≡ seatCount }
+    requires { length s.old ≡ seat_count }
     ensures { s.new ≡ row }
 {
     let mut i = 0;
@@ -103,7 +103,7 @@ pub(crate) fn put_seat(s: &mut [Seat], at: usize, seat: Seat)
 
 // The answer if the row does not have SEATS seats.
 pub(crate) fn no_desk(desk: Desk) -> DeskAnswer
-    ensures { result ≡ deskAnswer desk (refuses DESK) }
+    ensures { result ≡ desk_answer desk (refuses DESK) }
 {
     DeskAnswer {
         desk,
@@ -115,7 +115,7 @@ pub(crate) fn no_desk(desk: Desk) -> DeskAnswer
 }
 
 pub(crate) fn no_captured(desk: Desk) -> CapturedAnswer
-    ensures { result ≡ captureAnswer desk (refuses DESK) }
+    ensures { result ≡ capture_answer desk (refuses DESK) }
 {
     CapturedAnswer {
         desk,
@@ -130,13 +130,13 @@ pub(crate) fn no_captured(desk: Desk) -> CapturedAnswer
 }
 
 pub(crate) fn no_written(desk: Desk) -> WrittenAnswer
-    ensures { result ≡ pageAnswer (refuses DESK) }
+    ensures { result ≡ page_answer (refuses DESK) }
 {
     unwritten(table::DESK)
 }
 
 fn no_room(desk: Desk) -> DeskAnswer
-    ensures { result ≡ readAnswer desk (refuses ROOM) }
+    ensures { result ≡ read_answer desk (refuses ROOM) }
 {
     DeskAnswer {
         desk,
@@ -149,7 +149,7 @@ fn no_room(desk: Desk) -> DeskAnswer
 
 // The number of the line is in the place of the offset.
 fn no_page(desk: Desk, line: u32) -> DeskAnswer
-    ensures { result ≡ readAnswer desk (refuses (PAGE line)) }
+    ensures { result ≡ read_answer desk (refuses (PAGE line)) }
 {
     DeskAnswer {
         desk,
@@ -162,8 +162,8 @@ fn no_page(desk: Desk, line: u32) -> DeskAnswer
 
 // The seat is the place of the step: the number within the answer would have to be copied out of memory that was just stored.
 fn open_answer(desk: Desk, answer: OpenAnswer, at: usize) -> DeskAnswer
-    requires { (at ≤ seatCount) × (at ≡ place_in (openTold answer)) }
-    ensures { result ≡ deskAnswer desk (openTold answer) }
+    requires { (at ≤ seat_count) × (at ≡ place_in (open_told answer)) }
+    ensures { result ≡ desk_answer desk (open_told answer) }
 {
     match answer {
         OpenAnswer::Opened(_) => DeskAnswer {
@@ -187,8 +187,8 @@ fn open_answer(desk: Desk, answer: OpenAnswer, at: usize) -> DeskAnswer
 }
 
 fn reply_answer(desk: Desk, answer: ReplyAnswer, at: usize) -> DeskAnswer
-    requires { (at ≤ seatCount) × (at ≡ place_in (replyTold answer)) }
-    ensures { result ≡ deskAnswer desk (replyTold answer) }
+    requires { (at ≤ seat_count) × (at ≡ place_in (reply_told answer)) }
+    ensures { result ≡ desk_answer desk (reply_told answer) }
 {
     match answer {
         ReplyAnswer::Taken(_) => DeskAnswer {
@@ -212,7 +212,7 @@ fn reply_answer(desk: Desk, answer: ReplyAnswer, at: usize) -> DeskAnswer
 }
 
 fn captured_answer(desk: Desk, answer: CaptureAnswer) -> CapturedAnswer
-    ensures { result ≡ captureAnswer desk (captureTold answer) }
+    ensures { result ≡ capture_answer desk (capture_told answer) }
 {
     match answer {
         CaptureAnswer::Taken(counts) => CapturedAnswer {
@@ -225,7 +225,7 @@ fn captured_answer(desk: Desk, answer: CaptureAnswer) -> CapturedAnswer
 }
 
 fn written_answer(answer: WriteAnswer) -> WrittenAnswer
-    ensures { result ≡ pageAnswer (writeTold answer) }
+    ensures { result ≡ page_answer (write_told answer) }
 {
     match answer {
         WriteAnswer::Written(size) => WrittenAnswer {
@@ -239,7 +239,7 @@ fn written_answer(answer: WriteAnswer) -> WrittenAnswer
 }
 
 fn unwritten(refusal: u32) -> WrittenAnswer
-    ensures { result ≡ pageAnswer (refuses (plain refusal)) }
+    ensures { result ≡ page_answer (refuses (plain refusal)) }
 {
     WrittenAnswer {
         refusal,
@@ -249,7 +249,7 @@ fn unwritten(refusal: u32) -> WrittenAnswer
 }
 
 fn read_answer(desk: Desk, answer: ReadAnswer) -> DeskAnswer
-    ensures { result ≡ readAnswer desk (readTold answer) }
+    ensures { result ≡ read_answer desk (read_told answer) }
 {
     match answer {
         ReadAnswer::Read => DeskAnswer {
