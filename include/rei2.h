@@ -14,8 +14,8 @@
    numbers, without a count, aligned and never null. Row i is for letter i of REI2_LETTER_ORDER, and column j is for
    status j of REI2_STATUS_ORDER, both counted from 0. rei2_reset makes the tally right, whatever it held, and the other
    calls keep it right. A tally that does not agree with the held cells makes no desk (DESK), so the host never writes
-   to it. rei2_open, rei2_look and rei2_write_page only read it. They have no const there, because C11 has no conversion
-   from an array of arrays to one of const elements.
+   to it. rei2_open and rei2_look only read it. They have no const there, because C11 has no conversion from an array of
+   arrays to one of const elements.
 
    OVERLAP. A slice that a call may change overlaps nothing else that the call is lent, and neither does the tally. The
    likely mistake is a frame that lies in the cells: copy it out first. The library cannot notice an overlap, a wrong
@@ -26,9 +26,9 @@
 
    ANSWERS. A refusal of 0 (REI2_DONE) says that the call was done. Any other number says why it was refused: see enum
    rei2_refusal. A refused call returns the state that it was given and changes no lent byte. Its offset is 0 unless the
-   refusal is REI2_FIELD or REI2_RECORD, or REI2_PAGE, which has the number of a line there. Its spoiled is 0 unless the
-   refusal is REI2_FIELD, and the rest of its answer is 0. If the call was done, offset and spoiled are 0.
-   rei2_refusal_name has the names. Structs have padding, so compare them field by field. A seat has none.
+   refusal is REI2_FIELD or REI2_RECORD, its spoiled is 0 unless the refusal is REI2_FIELD, and the rest of its answer
+   is 0. If the call was done, offset and spoiled are 0. rei2_refusal_name has the names. Structs have padding, so
+   compare them field by field. A seat has none.
 
    SPOILED BYTES. REI2_FIELD has two offsets, both counted from the first byte of the frame. offset is where the first
    wrong field begins. spoiled is where the first byte of that field is that cannot be at its place: no good frame of
@@ -57,14 +57,12 @@
    static uint32_t tally[REI2_LETTERS][REI2_STATUSES];
    static rei2_desk_answer a;                             // the answer of the last call on the desk
    static rei2_captured_answer c;                         // the answer for a capture
-   static const uint8_t *frame, *in;                      // a frame; a capture, or the text of a page
+   static const uint8_t *frame, *in;                      // a frame; a capture
    static size_t size, at;                                // its size in bytes; the index where a search begins
    static uint8_t out[REI2_LONGEST_LIST];                 // for a frame or a list that is written
    static uint8_t own_cells[REI2_CELLS * REI2_CELL_SIZE]; // for a list: not those of a desk
    static uint32_t own_marks[REI2_CELLS];
    static uint8_t name[REI2_NAME_SIZE];
-   static uint8_t page[REI2_LONGEST_PAGE];                // for a page that is written
-   static rei2_written_answer w;                          // the answer for it
 
    Records to be written, their parts in the order of the structs below. The reply answers the request. To give a frame
    that was written to the desk: frame = out; size = wrote.size;
@@ -95,7 +93,6 @@ enum rei2_limit {
     REI2_DYNAMIC_LEAD = 19,    /* the first byte of a dynamic request, DC3 */
     REI2_MOST_INPUT = 32768,   /* the most bytes of a capture that is listed */
     REI2_LONGEST_LIST = 14687, /* bytes that every list fits in */
-    REI2_LONGEST_PAGE = 13522, /* bytes that every page fits in */
     REI2_NAME_SIZE = 14        /* bytes that the name of every refusal fits in, with its zero byte */
 };
 
@@ -112,7 +109,7 @@ enum rei2_refusal {
     REI2_ADDRESS = 4,        /* byte 1 is not R, or byte 2 is neither a space nor 0 to 9 */
     REI2_FIELD = 5,          /* a field is wrong; offset: where the first one begins; spoiled: where it is spoiled */
     REI2_RECORD = 6,         /* a part of the record is wrong; offset: where the first wrong part would be written */
-    REI2_ROOM = 7,           /* the output is too short; for a page that is read: too few cells, marks or seats */
+    REI2_ROOM = 7,           /* the output is too short */
     REI2_TIME = 8,           /* a number of the running time is out of range */
     REI2_DESK = 9,           /* state, seats, cells, marks and tally do not make a desk */
     REI2_NO_ANSWER_DUE = 10, /* a request with the information q, which asks for no answer */
@@ -122,8 +119,7 @@ enum rei2_refusal {
     REI2_ENDED = 14,         /* that seat has had its E or Z */
     REI2_OUT_OF_PLACE = 15,  /* a Z for a seat that holds records */
     REI2_FULL = 16,          /* no cell is free */
-    REI2_NO_SUCH = 17,       /* no static reply has this letter, or none has this status */
-    REI2_PAGE = 18           /* no desk writes this text as its page; offset: the number of the first wrong line */
+    REI2_NO_SUCH = 17        /* no static reply has this letter, or none has this status */
 };
 
 /* What the time and the date of a reply are. */
@@ -162,8 +158,7 @@ typedef struct rei2_seat {
     uint32_t ended;
 } rei2_seat;
 
-/* The answer of a call on a desk: the state after it, and the seat that was opened or that took the reply. With
-   REI2_PAGE offset is the number of a line, counted from 1. */
+/* The answer of a call on a desk: the state after it, and the seat that was opened or that took the reply. */
 typedef struct rei2_desk_answer {
     rei2_desk desk;
     uint32_t refusal;
@@ -284,7 +279,7 @@ typedef struct rei2_dynamic_answer {
     rei2_dynamic_request request;
 } rei2_dynamic_answer;
 
-/* A frame, a name or a page that was written: size is how many bytes it has. */
+/* A frame or a name that was written: size is how many bytes it has. */
 typedef struct rei2_written_answer {
     uint32_t refusal;
     uint32_t offset;
@@ -340,7 +335,7 @@ typedef struct rei2_listed_answer {
 /* What a host must lend. seats: how many seats a desk has. cells: the bytes of all cells of the largest desk. marks:
    how many marks it has. With less memory a desk is smaller. cell_size: the bytes of a cell. letters: the rows of the
    tally. statuses: the numbers in a row. most_input: the most bytes of a capture that is listed. longest_list: the
-   bytes that every list fits in. longest_page: the bytes that every page fits in. */
+   bytes that every list fits in. */
 typedef struct rei2_limits_answer {
     size_t seats;
     size_t cells;
@@ -350,7 +345,6 @@ typedef struct rei2_limits_answer {
     size_t statuses;
     size_t most_input;
     size_t longest_list;
-    size_t longest_page;
 } rei2_limits_answer;
 
 /* ---- the layout that the library uses. A compiler with another layout stops here. */
@@ -501,7 +495,7 @@ REI2_SIZE(rei2_listed_answer, 16);
 REI2_OFFSET(rei2_listed_answer, refusal, 0);
 REI2_OFFSET(rei2_listed_answer, size, 8);
 
-REI2_SIZE(rei2_limits_answer, 72);
+REI2_SIZE(rei2_limits_answer, 64);
 REI2_OFFSET(rei2_limits_answer, seats, 0);
 REI2_OFFSET(rei2_limits_answer, cells, 8);
 REI2_OFFSET(rei2_limits_answer, marks, 16);
@@ -510,7 +504,6 @@ REI2_OFFSET(rei2_limits_answer, letters, 32);
 REI2_OFFSET(rei2_limits_answer, statuses, 40);
 REI2_OFFSET(rei2_limits_answer, most_input, 48);
 REI2_OFFSET(rei2_limits_answer, longest_list, 56);
-REI2_OFFSET(rei2_limits_answer, longest_page, 64);
 
 #undef REI2_IS
 #undef REI2_SIZE
@@ -523,16 +516,16 @@ extern "C" {
 /* ---- limits and names */
 
 /* Returns what a host must lend. The same numbers are in the constants REI2_SEATS, REI2_CELLS * REI2_CELL_SIZE,
-   REI2_CELLS, REI2_CELL_SIZE, REI2_LETTERS, REI2_STATUSES, REI2_MOST_INPUT, REI2_LONGEST_LIST and REI2_LONGEST_PAGE,
-   for arrays. Call this to learn how much memory to allocate, or to check that the library is the one that the header
-   was made for. Never refused.
+   REI2_CELLS, REI2_CELL_SIZE, REI2_LETTERS, REI2_STATUSES, REI2_MOST_INPUT and REI2_LONGEST_LIST, for arrays. Call this
+   to learn how much memory to allocate, or to check that the library is the one that the header was made for. Never
+   refused.
    Cost: a few steps.
    Example:
    rei2_limits_answer limits = rei2_limits(); */
 rei2_limits_answer rei2_limits(void);
 
 /* Writes the name of a refusal to out, in ASCII capitals with a zero byte after it, so that it can be printed with %s.
-   The name of 0 is DONE. The names of 1 to 18 are KIND to PAGE, with spaces as in NO ANSWER DUE. Any other number
+   The name of 0 is DONE. The names of 1 to 17 are KIND to NO SUCH, with spaces as in NO ANSWER DUE. Any other number
    has the name UNKNOWN. An output of REI2_NAME_SIZE bytes is always long enough.
    Refused with: ROOM.
    Done: the name and its zero byte are the first bytes of out, and no other byte of out changes. size does not count
@@ -604,34 +597,6 @@ rei2_desk_answer rei2_reply(rei2_seat *seats, size_t seats_len, rei2_desk desk, 
 rei2_captured_answer rei2_capture(rei2_seat *seats, size_t seats_len, rei2_desk desk, uint8_t *cells, size_t cells_len,
                                   uint32_t *marks, size_t marks_len, uint32_t tally[REI2_LETTERS][REI2_STATUSES],
                                   const uint8_t *capture, size_t capture_len);
-
-/* Writes the desk to out as a page, a text from which rei2_read_page builds it again. A page has a line for each seat
-   in use and one for each held cell; docs/RULES.md has its form. One desk has one page. An output of REI2_LONGEST_PAGE
-   bytes is always long enough. Seats, cells, marks and tally are only read.
-   Refused with, in this order: DESK, also if the row does not have REI2_SEATS seats; ROOM.
-   Done: the page is the first bytes of out, and no other byte of out changes. size is how many bytes it has. There is
-   no zero byte after it.
-   Cost: a test of the desk, and two passes over the page.
-   Example:
-   w = rei2_write_page(seats, REI2_SEATS, desk, cells, sizeof cells, marks, REI2_CELLS, tally, page, sizeof page); */
-rei2_written_answer rei2_write_page(const rei2_seat *seats, size_t seats_len, rei2_desk desk, const uint8_t *cells,
-                                    size_t cells_len, const uint32_t *marks, size_t marks_len,
-                                    uint32_t tally[REI2_LETTERS][REI2_STATUSES], uint8_t *out, size_t out_len);
-
-/* Builds the desk of a page again. What state, seats, cells, marks and tally held before does not matter: they need not
-   be a desk. The memory may be another than that from which the page was written.
-   Refused with, in this order: PAGE, if no desk writes this text; ROOM, if the page has more cells than are lent, or
-   more than the marks that are lent, or if the row does not have REI2_SEATS seats. With PAGE offset is the number of
-   the first line, counted from 1 and with its LF, up to which no page begins so. A line that is missing counts too.
-   Done: the state in the answer, the seats, the tally, and the first cells and marks, as many as are held, are those of
-   the desk. No other cell or mark changes. seat is 0.
-   Cost: one check of the text, line by line, the sum of its bytes, and one pass over the lines of the cells.
-   Example:
-   a = rei2_read_page(seats, REI2_SEATS, desk, cells, sizeof cells, marks, REI2_CELLS, tally, in, size); desk = a.desk;
-*/
-rei2_desk_answer rei2_read_page(rei2_seat *seats, size_t seats_len, rei2_desk desk, uint8_t *cells, size_t cells_len,
-                                uint32_t *marks, size_t marks_len, uint32_t tally[REI2_LETTERS][REI2_STATUSES],
-                                const uint8_t *text, size_t text_len);
 
 /* Looks up in the tally how many records are held with a letter and a status. The letter is one of REI2_LETTER_ORDER,
    the status one of REI2_STATUS_ORDER, both by their ASCII codes. It does not test the desk and does not look at cells:

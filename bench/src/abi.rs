@@ -6,7 +6,6 @@ pub const SEATS: usize = 16;
 pub const CELLS: usize = 256;
 pub const CELL_SIZE: usize = 51;
 pub const NAME_SIZE: usize = 14;
-pub const LONGEST_PAGE: usize = 13_522;
 pub const LETTERS: usize = 33;
 pub const STATUSES: usize = 3;
 
@@ -110,14 +109,6 @@ calls! {
         answer: *mut CapturedAnswer, seats: *mut Seat, seats_len: usize, desk: Desk, cells: *mut u8, cells_len: usize,
         marks: *mut u32, marks_len: usize, tally: *mut Tally, capture: *const u8, capture_len: usize,
     ) -> *mut CapturedAnswer;
-    write_page rei2_write_page tuned(
-        seats: *const Seat, seats_len: usize, desk: Desk, cells: *const u8, cells_len: usize, marks: *const u32,
-        marks_len: usize, tally: *const Tally, out: *mut u8, out_len: usize,
-    ) -> WrittenAnswer;
-    read_page rei2_read_page tuned(
-        answer: *mut DeskAnswer, seats: *mut Seat, seats_len: usize, desk: Desk, cells: *mut u8, cells_len: usize,
-        marks: *mut u32, marks_len: usize, tally: *mut Tally, text: *const u8, text_len: usize,
-    ) -> *mut DeskAnswer;
     look rei2_look as_plain(tally: *const Tally, letter: u8, status: u8) -> LookedAnswer;
     seats_in_use rei2_seats_in_use as_plain(desk: Desk) -> u32;
     capacity rei2_capacity as_plain(cells: usize, marks: usize) -> usize;

@@ -64,39 +64,6 @@ impl Side {
     }
 
     #[inline(always)]
-    pub fn write_page(
-        &self,
-        seats: &[Seat],
-        desk: Desk,
-        cells: &[u8],
-        marks: &[u32],
-        tally: &Tally,
-        out: &mut [u8],
-    ) -> WrittenAnswer {
-        let (row, n) = (seats.as_ptr(), seats.len());
-        let (c, c_len) = (cells.as_ptr(), cells.len());
-        let (m, m_len) = (marks.as_ptr(), marks.len());
-        unsafe { (self.write_page)(row, n, desk, c, c_len, m, m_len, tally, out.as_mut_ptr(), out.len()) }
-    }
-
-    #[inline(always)]
-    pub fn read_page(
-        &self,
-        answer: &mut DeskAnswer,
-        seats: &mut [Seat],
-        desk: Desk,
-        cells: &mut [u8],
-        marks: &mut [u32],
-        tally: &mut Tally,
-        text: &[u8],
-    ) {
-        let (row, n) = (seats.as_mut_ptr(), seats.len());
-        let (c, c_len) = (cells.as_mut_ptr(), cells.len());
-        let (m, m_len) = (marks.as_mut_ptr(), marks.len());
-        unsafe { (self.read_page)(answer, row, n, desk, c, c_len, m, m_len, tally, text.as_ptr(), text.len()) };
-    }
-
-    #[inline(always)]
     pub fn look(&self, tally: &Tally, letter: u8, status: u8) -> LookedAnswer {
         unsafe { (self.look)(tally, letter, status) }
     }

@@ -1,11 +1,9 @@
-/* watch [-p PAGE] [FILE]: reads the bytes of the serial line as they come, from a file, a device or standard input. It
-   prints for each frame what became of it, after each reply that was taken how many have not started, and at the end
-   the records that each request got. With -p it begins with the desk in the file PAGE, if there is one, and writes its
-   desk there at the end. All memory is static; nothing is allocated. */
+/* watch [FILE]: reads the bytes of the serial line as they come, from a file, a device or standard input. It prints for
+   each frame what became of it, after each reply that was taken how many have not started, and at the end the records
+   that each request got. All memory is static; nothing is allocated. */
 #include <errno.h>
 #include <fcntl.h>
 #include <poll.h>
-#include <stdio.h>
 #include <string.h>
 #include <unistd.h>
 
@@ -14,11 +12,10 @@
 /* The most bytes read at a time, and the most that are kept while a frame is not whole. Every good frame fits. */
 enum { PIECE = 64, BUFFER = 128 };
 
-/* The exit status. FAILED: the input or the page cannot be read or written, or the library does not fit. */
+/* The exit status. FAILED: the input cannot be read, the output cannot be written, or the library does not fit. */
 enum { DONE = 0, FAILED = 1, MISUSED = 2 };
 
-static const char usage[] =
-    "usage: watch [-p PAGE] [FILE]: prints what becomes of each frame of FILE or of standard input\n";
+static const char usage[] = "usage: watch [FILE]: prints what becomes of each frame of FILE or of standard input\n";
 
 /* What the desk knows: its state, and the memory that it is lent for each call. */
 static rei2_desk desk;
@@ -391,111 +388,30 @@ static void print_end(void) {
     end_line();
 }
 
-/* ---- the page */
-
-/* The text of the desk; a byte more than every page has. */
-static uint8_t page[REI2_LONGEST_PAGE + 1];
-
-/* Reads a file, or as much of it as fits. Returns how many bytes that is, less than 0 on an error. */
-static ssize_t read_whole(int file, uint8_t *to, size_t size) {
-    size_t had = 0;
-    ssize_t got;
-    do {
-        got = read_some(file, to + had, size - had);
-        had += got > 0 ? (size_t)got : 0;
-    } while (got > 0 && had < size);
-    return got < 0 ? got : (ssize_t)had;
-}
-
-/* Prints a line to standard error: the name of a file that is no page, and its first wrong line. */
-static int no_page(const char *name, uint32_t wrong) {
-    write_all(2, "watch: ", 7);
-    write_all(2, name, strlen(name));
-    put(" is not a page: line ");
-    put_number(wrong, 1);
-    put(" is wrong\n");
-    write_all(2, line, used);
-    used = 0;
-    return FAILED;
-}
-
-/* Takes the desk from the file, if there is one. */
-static int take_page(const char *name) {
-    int file = open(name, O_RDONLY);
-    if (file < 0) {
-        return errno == ENOENT ? DONE : failed(name, " cannot be opened: ");
-    }
-    ssize_t size = read_whole(file, page, sizeof page);
-    if (size < 0) {
-        return failed(name, " cannot be read: ");
-    }
-    close(file);
-    rei2_desk_answer answer = rei2_read_page(seats, REI2_SEATS, desk, cells, sizeof cells, marks, REI2_CELLS, tally,
-                                             page, (size_t)size);
-    desk = answer.desk;
-    return answer.refusal == REI2_DONE ? DONE : no_page(name, answer.offset);
-}
-
-/* Writes the desk to a new file beside the old one, and then puts it in the place of the old one. So there is a whole
-   page at any time. The desk was made by the library, and every page fits, so writing it is never refused. */
-static int keep_page(const char *name) {
-    static char beside[4096];
-    size_t size = strlen(name);
-    if (size + sizeof ".new" > sizeof beside) {
-        errno = ENAMETOOLONG;
-        return failed(name, " cannot be written: ");
-    }
-    memcpy(beside, name, size);
-    memcpy(beside + size, ".new", sizeof ".new");
-    int file = open(beside, O_WRONLY | O_CREAT | O_TRUNC, 0666);
-    if (file < 0) {
-        return failed(beside, " cannot be opened: ");
-    }
-    rei2_written_answer written = rei2_write_page(seats, REI2_SEATS, desk, cells, sizeof cells, marks, REI2_CELLS,
-                                                  tally, page, sizeof page);
-    if (!write_all(file, (const char *)page, written.size) || fsync(file) != 0 || close(file) != 0) {
-        return failed(beside, " cannot be written: ");
-    }
-    return rename(beside, name) == 0 ? DONE : failed(name, " cannot be replaced: ");
-}
-
-/* ---- the program */
-
 /* The arrays are as long as the header says. The library says what it needs. */
 static int library_fits(void) {
     rei2_limits_answer limits = rei2_limits();
     return limits.seats == REI2_SEATS && limits.cells == sizeof cells && limits.marks == REI2_CELLS &&
-           limits.letters == REI2_LETTERS && limits.statuses == REI2_STATUSES &&
-           limits.longest_page == REI2_LONGEST_PAGE;
+           limits.letters == REI2_LETTERS && limits.statuses == REI2_STATUSES;
 }
 
-/* Watches an open file, with the desk of a page unless its name is null. If nothing at all could be read, no counts are
-   printed: they would look like those of an empty input. */
-static int watch_file(int file, const char *name, const char *kept) {
+/* Watches an open file. If nothing at all could be read, no counts are printed: they would look like those of an empty
+   input. */
+static int watch_file(int file, const char *name) {
     desk = rei2_reset(seats, REI2_SEATS, desk, tally).desk;
-    if (kept != NULL && take_page(kept) != DONE) {
-        return FAILED;
-    }
     int error = watch(file);
     if (error == 0 || passed > 0) {
         print_end();
     }
     if (error != 0) {
         errno = error;
-        failed(name, " cannot be read: ");
+        return failed(name, " cannot be read: ");
     }
-    int is_kept = kept == NULL || keep_page(kept) == DONE;
-    return error == 0 && is_kept && !unwritten ? DONE : FAILED;
+    return unwritten ? FAILED : DONE;
 }
 
 int main(int words, char **word) {
-    const char *kept = NULL;
-    if (words > 2 && strcmp(word[1], "-p") == 0) {
-        kept = word[2];
-        words -= 2;
-        word += 2;
-    }
-    if (words > 2 || (words == 2 && strcmp(word[1], "-p") == 0)) {
+    if (words > 2) {
         write_all(2, usage, sizeof usage - 1);
         return MISUSED;
     }
@@ -508,8 +424,8 @@ int main(int words, char **word) {
         return FAILED;
     }
     if (words < 2) {
-        return watch_file(0, "standard input", kept);
+        return watch_file(0, "standard input");
     }
     int file = open(word[1], O_RDONLY | O_NOCTTY);
-    return file < 0 ? failed(word[1], " cannot be opened: ") : watch_file(file, word[1], kept);
+    return file < 0 ? failed(word[1], " cannot be opened: ") : watch_file(file, word[1]);
 }

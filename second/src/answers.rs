@@ -2,7 +2,6 @@
 
 mod captures;
 mod mixes;
-mod pages;
 mod scripts;
 
 use crate::desk::Desk;
@@ -64,21 +63,17 @@ fn case_of_line(line: &[u8]) -> Result<&str, NotACase> {
     std::str::from_utf8(case).map_err(|_| NotACase("the line is not text"))
 }
 
-/// What lasts from line to line: the desk of the scripts, and the text beside it. At first nothing
-/// is lent to the desk, and the text is empty.
+/// What lasts from line to line: the desk of the scripts. At first nothing is lent to it.
 #[derive(Default)]
 struct Session {
     desk: Desk,
-    text: Vec<u8>,
 }
 
 impl Session {
     /// The lines that answer one case.
     fn answer(&mut self, case: &str) -> Result<Vec<String>, NotACase> {
         let words: Vec<&str> = case.split(' ').collect();
-        let answer = scripts::answer(&mut self.desk, &words)
-            .or_else(|| pages::answer(&mut self.desk, &mut self.text, &words));
-        match answer {
+        match scripts::answer(&mut self.desk, &words) {
             Some(answer) => answer,
             None => answer_by_itself(&words),
         }
@@ -426,17 +421,6 @@ mod tests {
     }
 
     #[test]
-    fn the_text_lasts_from_line_to_line() {
-        let script = "text-insert 0 70\nlend 0 0\nmixes - -\nread-page 16 1\ntext-remove 0 1\n";
-        let answers = "set\n0\n1 REST\n18 1 0 0 0 0\nset\n";
-        let given = file(script.as_bytes()).expect("cases");
-        let mixes = given.lines().nth(2).expect("five lines");
-        assert_eq!(given, answers.replace("1 REST", mixes));
-        // The text does not last beyond the end of the file.
-        assert!(file(b"text-remove 0 1\n").is_err());
-    }
-
-    #[test]
     fn damage_of_the_other_kinds() {
         let reply = bytes_text(REPLY);
         let answers = file(format!("damage-reply {reply}\n").as_bytes()).expect("a case");
@@ -544,10 +528,6 @@ mod tests {
             "mark 0 0",
             "reset 0",
             "mixes R",
-            "text",
-            "text-put 0 00",
-            "write-page 0",
-            "read-page 16 1",
         ] {
             assert!(file(format!("{case}\n").as_bytes()).is_err(), "{case:?}");
         }

@@ -3,7 +3,7 @@
 mod clauses;
 pub mod tally;
 #[cfg(test)]
-pub mod tests;
+mod tests;
 
 use crate::frame::Kind;
 use crate::refusal::Refusal;
@@ -34,14 +34,14 @@ pub struct Seat {
 
 /// What a reply is matched by. Nothing else is compared.
 #[derive(Clone, Copy, Debug, PartialEq, Eq)]
-pub struct Key {
+struct Key {
     address: u32,
     requester: u32,
     number: u64,
 }
 
 impl Seat {
-    pub fn key(&self) -> Key {
+    fn key(&self) -> Key {
         Key {
             address: self.address,
             requester: self.requester,
@@ -60,7 +60,7 @@ impl Key {
         }
     }
 
-    pub fn of_reply(reply: &Reply) -> Self {
+    fn of_reply(reply: &Reply) -> Self {
         Key {
             address: reply.address.into(),
             requester: reply.requester.into(),
@@ -94,7 +94,7 @@ impl Desk {
     }
 
     /// The number of whole cells. Bytes after the last whole cell do not count.
-    pub fn whole_cells(&self) -> usize {
+    fn whole_cells(&self) -> usize {
         self.cells.len() / CELL
     }
 
@@ -168,8 +168,7 @@ impl Desk {
         Ok(self.tally.number(place))
     }
 
-    /// Refuses with DESK if state and memory do not make a desk.
-    pub fn must_be_a_desk(&self) -> Result<(), Refusal> {
+    fn must_be_a_desk(&self) -> Result<(), Refusal> {
         if clauses::make_a_desk(self) {
             Ok(())
         } else {
@@ -178,22 +177,22 @@ impl Desk {
     }
 
     /// The count as a limit for places.
-    pub fn below_the_count(&self) -> usize {
+    fn below_the_count(&self) -> usize {
         usize::try_from(self.count).unwrap_or(usize::MAX)
     }
 
-    pub fn is_used(&self, seat: usize) -> bool {
+    fn is_used(&self, seat: usize) -> bool {
         (self.bits >> seat) & 1 == 1
     }
 
     /// The used seats, each with its place in the row.
-    pub fn used_seats(&self) -> impl Iterator<Item = (usize, &Seat)> {
+    fn used_seats(&self) -> impl Iterator<Item = (usize, &Seat)> {
         let seats = self.seats.iter().enumerate();
         seats.filter(|&(place, _)| self.is_used(place))
     }
 
     /// The used seat that has this key, ended or not.
-    pub fn seat_with(&self, key: Key) -> Option<usize> {
+    fn seat_with(&self, key: Key) -> Option<usize> {
         let mut seats = self.used_seats();
         seats.find_map(|(place, seat)| (seat.key() == key).then_some(place))
     }

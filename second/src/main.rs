@@ -15,7 +15,6 @@ mod dynamic;
 mod finder;
 mod frame;
 mod listing;
-mod page;
 mod random;
 mod records;
 mod refusal;

@@ -1,9 +1,9 @@
 //! The refusals of the scope paper and their numbers.
 
-/// Why a frame or a page was not read, a record not written, or a call of the desk not done. `Field`
-/// and `Record` carry the offset of the first wrong field. `Field` also carries the offset of that
-/// field's spoiled byte. `Page` carries the number of the first wrong line, counted from 1. TIME is
-/// not among them: only the running time returns it, and it has no other refusal.
+/// Why a frame was not read, a record not written, or a call of the desk not done. `Field` and
+/// `Record` carry the offset of the first wrong field. `Field` also carries the offset of that
+/// field's spoiled byte. TIME is not among them: only the running time returns it, and it has no
+/// other refusal.
 #[derive(Clone, Copy, Debug, PartialEq, Eq)]
 pub enum Refusal {
     Kind,
@@ -22,7 +22,6 @@ pub enum Refusal {
     OutOfPlace,
     Full,
     NoSuch,
-    Page(usize),
 }
 
 impl Refusal {
@@ -44,16 +43,13 @@ impl Refusal {
             Refusal::OutOfPlace => 15,
             Refusal::Full => 16,
             Refusal::NoSuch => 17,
-            Refusal::Page(_) => 18,
         }
     }
 
-    /// The offset that belongs to the number. Only 5 and 6 have one. The number of a page's line is
-    /// in the same place. The others return zero.
+    /// The offset that belongs to the number. Only 5 and 6 have one, the others return zero.
     pub fn offset(self) -> usize {
         match self {
             Refusal::Field(offset, _) | Refusal::Record(offset) => offset,
-            Refusal::Page(line) => line,
             _ => 0,
         }
     }

@@ -1,8 +1,6 @@
 //! What the lines of a script do to a desk from outside: they lend it memory, and they set any part
 //! of it to any value.
 
-pub mod edit;
-
 use crate::desk::tally::{COLUMNS, ROWS};
 use crate::desk::{Desk, Seat, SEATS};
 use crate::spelling::{bytes_text, parse_bits, parse_bytes, parse_number, parse_place, NotACase};

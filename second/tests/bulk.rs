@@ -156,7 +156,7 @@ fn right_answers_do_not_differ() {
 
 #[test]
 fn each_program_is_asked_its_own() {
-    const SCRIPT_WORDS: [&str; 23] = [
+    const SCRIPT_WORDS: [&str; 16] = [
         "lend",
         "bits",
         "count",
@@ -173,13 +173,6 @@ fn each_program_is_asked_its_own() {
         "looks",
         "mixes",
         "mixes-by-address",
-        "text",
-        "text-put",
-        "text-insert",
-        "text-remove",
-        "write-page",
-        "read-page",
-        "damage-page",
     ];
     let room = Room::new("own");
     let programs = Programs {

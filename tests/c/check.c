@@ -5,7 +5,7 @@
 
 static int passed, failed;
 static const char *tried;
-static int met[REI2_PAGE + 1];
+static int met[REI2_NO_SUCH + 1];
 
 /* Counts a check. If it failed, prints where it is and what it was about, and returns 1. */
 static int fails(int good, struct place place) {
@@ -39,7 +39,7 @@ void check_same(const void *got, const void *wanted, size_t size, struct place p
 }
 
 void check_said(struct said got, struct said wanted, struct place place) {
-    if (got.refusal <= REI2_PAGE) {
+    if (got.refusal <= REI2_NO_SUCH) {
         met[got.refusal] = 1;
     }
     int same = got.refusal == wanted.refusal && got.offset == wanted.offset && got.spoiled == wanted.spoiled;
@@ -65,7 +65,7 @@ void trying(const char *what) {
 }
 
 int was_said(uint32_t refusal) {
-    return refusal <= REI2_PAGE && met[refusal];
+    return refusal <= REI2_NO_SUCH && met[refusal];
 }
 
 int verdict(void) {

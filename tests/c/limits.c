@@ -30,6 +30,5 @@ void test_limits(void) {
     CHECK(limits.statuses == REI2_STATUSES);
     CHECK(limits.most_input == REI2_MOST_INPUT);
     CHECK(limits.longest_list == REI2_LONGEST_LIST);
-    CHECK(limits.longest_page == REI2_LONGEST_PAGE);
     CHECK(rei2_capacity(limits.cells, limits.marks) == REI2_CELLS);
 }

@@ -5,10 +5,10 @@
 #include "made.h"
 #include "tests.h"
 
-/* The names by their numbers. Any number after PAGE has the last name. */
+/* The names by their numbers. Any number after NO SUCH has the last name. */
 static const char *const names[] = {
     "DONE", "KIND", "LENGTH", "END", "ADDRESS", "FIELD", "RECORD", "ROOM", "TIME", "DESK",
-    "NO ANSWER DUE", "IN USE", "NO SEAT", "STRAY", "ENDED", "OUT OF PLACE", "FULL", "NO SUCH", "PAGE", "UNKNOWN",
+    "NO ANSWER DUE", "IN USE", "NO SEAT", "STRAY", "ENDED", "OUT OF PLACE", "FULL", "NO SUCH", "UNKNOWN",
 };
 enum { NAMES = sizeof names / sizeof names[0] };
 
@@ -63,7 +63,7 @@ void test_names(void) {
     for (uint32_t refusal = 0; refusal < NAMES; refusal++) {
         names_of(refusal, names[refusal]);
     }
-    CHECK(REI2_PAGE + 2 == NAMES);
+    CHECK(REI2_NO_SUCH + 2 == NAMES);
     names_of(256, "UNKNOWN");
     names_of(UINT32_MAX, "UNKNOWN");
     longest_name();

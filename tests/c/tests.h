@@ -9,7 +9,6 @@ void test_desk(void);
 void test_spoiled(void);
 void test_tally(void);
 void test_capture(void);
-void test_pages(void);
 void test_names(void);
 void test_limits(void);
 

@@ -3,7 +3,7 @@
 
 use super::refusal::{put_name, Refusal, DESK};
 use super::ways::Ways;
-use super::{desk, dynamic, listing, page, reply, request, tally, times};
+use super::{desk, dynamic, listing, reply, request, tally, times};
 use crate::abi::*;
 use std::slice::{from_raw_parts, from_raw_parts_mut};
 
@@ -114,46 +114,6 @@ pub unsafe extern "C" fn capture<W: Ways>(
         Err(refusal) => CapturedAnswer { desk: state, refusal: refusal.number, counts: Counts::default() },
     };
     store(place, answer)
-}
-
-#[inline(never)]
-pub unsafe extern "C" fn write_page<W: Ways>(
-    seats: *const Seat,
-    seats_len: usize,
-    state: Desk,
-    cells: *const u8,
-    cells_len: usize,
-    marks: *const u32,
-    marks_len: usize,
-    tally: *const Tally,
-    out: *mut u8,
-    out_len: usize,
-) -> WrittenAnswer {
-    let seats = from_raw_parts(seats, seats_len);
-    let cells = from_raw_parts(cells, cells_len);
-    let marks = from_raw_parts(marks, marks_len);
-    written(page::write::<W>(seats, state, cells, marks, &*tally, from_raw_parts_mut(out, out_len)))
-}
-
-#[inline(never)]
-pub unsafe extern "C" fn read_page<W: Ways>(
-    place: *mut DeskAnswer,
-    seats: *mut Seat,
-    seats_len: usize,
-    state: Desk,
-    cells: *mut u8,
-    cells_len: usize,
-    marks: *mut u32,
-    marks_len: usize,
-    tally: *mut Tally,
-    text: *const u8,
-    text_len: usize,
-) -> *mut DeskAnswer {
-    let seats = from_raw_parts_mut(seats, seats_len);
-    let cells = from_raw_parts_mut(cells, cells_len);
-    let marks = from_raw_parts_mut(marks, marks_len);
-    let done = page::read::<W>(seats, cells, marks, &mut *tally, from_raw_parts(text, text_len));
-    store(place, desk_answer(state, done.map(|desk| (desk, 0))))
 }
 
 #[inline(never)]

@@ -8,7 +8,6 @@ pub mod dynamic;
 pub mod fields;
 pub mod finder;
 mod listing;
-mod page;
 pub mod refusal;
 pub mod reply;
 pub mod request;

@@ -32,11 +32,6 @@ pub const fn field(at: usize, spoiled: usize) -> Refusal {
     Refusal { number: 5, offset: at as u32, spoiled: spoiled as u32 }
 }
 
-/// PAGE, with the number of a line in the place of the offset.
-pub const fn page(line: u32) -> Refusal {
-    Refusal { number: 18, offset: line, spoiled: 0 }
-}
-
 /// RECORD with this offset, unless the part is good.
 #[inline]
 pub fn part(good: bool, at: u32) -> Result<(), Refusal> {
@@ -48,9 +43,9 @@ pub fn part(good: bool, at: u32) -> Result<(), Refusal> {
 }
 
 #[rustfmt::skip]
-const NAMES: [&str; 19] = [
+const NAMES: [&str; 18] = [
     "DONE", "KIND", "LENGTH", "END", "ADDRESS", "FIELD", "RECORD", "ROOM", "TIME", "DESK", "NO ANSWER DUE", "IN USE",
-    "NO SEAT", "STRAY", "ENDED", "OUT OF PLACE", "FULL", "NO SUCH", "PAGE",
+    "NO SEAT", "STRAY", "ENDED", "OUT OF PLACE", "FULL", "NO SUCH",
 ];
 
 /// Writes a refusal's name and a zero byte, and returns the name's size.

@@ -4,7 +4,6 @@ mod captures;
 mod desks;
 mod frames;
 mod numbers;
-mod pages;
 
 use crate::abi::Side;
 use crate::witness::{Keeper, Nobody, Seen, Witness};
@@ -65,5 +64,5 @@ impl Row {
 }
 
 pub fn all() -> Vec<Row> {
-    [frames::rows(), captures::rows(), numbers::rows(), desks::rows(), pages::rows()].into_iter().flatten().collect()
+    [frames::rows(), captures::rows(), numbers::rows(), desks::rows()].into_iter().flatten().collect()
 }

@@ -9,7 +9,7 @@ use spelling::told::done;
 use spelling::{line, print};
 
 // Which reader and writer a case is for.
-#[derive(Drop)]
+#[derive(Clone, Copy)]
 pub enum Damaged {
     Request,
     Reply,

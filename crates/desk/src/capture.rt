@@ -25,7 +25,7 @@ use frames::reply::{LETTERS, REPLY_LEAD, STATUSES, field};
 use frames::request::REQUEST_LEAD;
 
 // What becomes of a frame.
-#[derive(Drop)]
+#[derive(Clone, Copy)]
 pub enum Fate {
     Opened,
     Collected,
@@ -35,7 +35,7 @@ pub enum Fate {
 
 // Requests opened, replies collected, dynamic requests, frames refused.
 #[repr(C)]
-#[derive(Drop)]
+#[derive(Clone, Copy)]
 pub struct Counts {
     pub opened: usize,
     pub collected: usize,
@@ -43,13 +43,13 @@ pub struct Counts {
     pub refused: usize,
 }
 
-#[derive(Drop)]
+#[derive(Clone, Copy)]
 pub enum CaptureAnswer {
     Taken(Counts),
     NoDesk,
 }
 
-#[derive(Drop)]
+#[derive(Clone, Copy)]
 pub struct CaptureDone {
     pub answer: CaptureAnswer,
     pub desk: Desk,
@@ -57,7 +57,7 @@ pub struct CaptureDone {
 }
 
 // What becomes of a frame, and the state after it.
-#[derive(Drop)]
+#[derive(Clone, Copy)]
 struct Met {
     fate: Fate,
     desk: Desk,

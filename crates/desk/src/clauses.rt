@@ -25,7 +25,7 @@ use frames::reply::{LETTERS, ReplyLabel, STATUSES, field};
 const ALL: u64 = 18446744073709551615 >> (64 - SEATS);
 
 // Whether one more row of a seat is good, and how far the seat has come with it.
-#[derive(Drop)]
+#[derive(Clone, Copy)]
 pub(crate) struct Turn {
     pub(crate) good: bool,
     pub(crate) progress: Progress,

@@ -5,7 +5,7 @@ ghost use Rattle.desk.specs.Calls.{next_held};
 use crate::state::{Desk, capacity};
 use digits::least;
 
-#[derive(Drop)]
+#[derive(Clone, Copy)]
 pub enum Held {
     Cell(usize),
     Nothing,

@@ -7,7 +7,7 @@ use crate::state::Seat;
 use frames::reply::ReplyLabel;
 
 // Address and requester are held by their codes.
-#[derive(Drop)]
+#[derive(Clone, Copy)]
 pub struct Key {
     pub address: u32,
     pub requester: u32,

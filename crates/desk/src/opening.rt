@@ -23,7 +23,7 @@ use frames::reply::{LETTERS, STATUSES};
 use frames::request::{RequestRead, StaticRequest, read_request};
 
 // In the order in which they are tested.
-#[derive(Drop)]
+#[derive(Clone, Copy)]
 pub enum OpenRefusal {
     Desk,
     Frame(ReadRefusal),
@@ -45,13 +45,13 @@ pub fn of_opening(refusal: OpenRefusal) -> Refusal
 }
 
 // Opened, at this seat.
-#[derive(Drop)]
+#[derive(Clone, Copy)]
 pub enum OpenAnswer {
     Opened(u32),
     Refused(OpenRefusal),
 }
 
-#[derive(Drop)]
+#[derive(Clone, Copy)]
 pub struct OpenDone {
     pub answer: OpenAnswer,
     pub desk: Desk,
@@ -59,7 +59,7 @@ pub struct OpenDone {
 }
 
 // What an opening leaves, as in ReplyStep.
-#[derive(Drop)]
+#[derive(Clone, Copy)]
 pub struct OpenStep {
     pub answer: OpenAnswer,
     pub desk: Desk,
@@ -68,13 +68,13 @@ pub struct OpenStep {
 }
 
 // The seat that a request gets, and its key.
-#[derive(Drop)]
+#[derive(Clone, Copy)]
 pub(crate) struct Opening {
     pub(crate) seat: usize,
     pub(crate) key: Key,
 }
 
-#[derive(Drop)]
+#[derive(Clone, Copy)]
 pub(crate) enum OpenJudged {
     Opens(Opening),
     Refuses(OpenRefusal),

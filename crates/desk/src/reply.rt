@@ -22,7 +22,7 @@ use frames::refusals::{ReadRefusal, of_reading};
 use frames::reply::{LETTERS, ReplyCheck, ReplyLabel, STATUSES, check_reply, field};
 
 // In the order in which they are tested.
-#[derive(Drop)]
+#[derive(Clone, Copy)]
 pub enum ReplyRefusal {
     Desk,
     Frame(ReadRefusal),
@@ -46,13 +46,13 @@ pub fn of_reply(refusal: ReplyRefusal) -> Refusal
 }
 
 // Taken, by this seat.
-#[derive(Drop)]
+#[derive(Clone, Copy)]
 pub enum ReplyAnswer {
     Taken(u32),
     Refused(ReplyRefusal),
 }
 
-#[derive(Drop)]
+#[derive(Clone, Copy)]
 pub struct ReplyDone {
     pub answer: ReplyAnswer,
     pub desk: Desk,
@@ -60,7 +60,7 @@ pub struct ReplyDone {
 }
 
 // What a reply leaves: the state, and the one seat that changed, with its place. If none changed, the place is SEATS, and the seat is all zero.
-#[derive(Drop)]
+#[derive(Clone, Copy)]
 pub struct ReplyStep {
     pub answer: ReplyAnswer,
     pub desk: Desk,
@@ -69,13 +69,13 @@ pub struct ReplyStep {
 }
 
 // The seat that takes a reply, and the reply's status.
-#[derive(Drop)]
+#[derive(Clone, Copy)]
 pub(crate) struct Taking {
     pub(crate) seat: usize,
     pub(crate) status: u8,
 }
 
-#[derive(Drop)]
+#[derive(Clone, Copy)]
 pub(crate) enum ReplyJudged {
     Takes(Taking),
     Refuses(ReplyRefusal),

@@ -11,7 +11,7 @@ use frames::reply::{LETTERS, STATUSES};
 
 // Five numbers without padding. Address and requester are held by their codes; `ended` is 0 or 1.
 #[repr(C)]
-#[derive(Drop)]
+#[derive(Clone, Copy)]
 pub struct Seat {
     pub address: u32,
     pub requester: u32,
@@ -22,13 +22,13 @@ pub struct Seat {
 
 // The seats in use, as bits, and how many cells are held.
 #[repr(C)]
-#[derive(Drop)]
+#[derive(Clone, Copy)]
 pub struct Desk {
     pub bits: u64,
     pub count: u32,
 }
 
-#[derive(Drop)]
+#[derive(Clone, Copy)]
 pub struct Emptied {
     pub desk: Desk,
     pub row: [Seat; SEATS],

@@ -8,14 +8,14 @@ use crate::hearing::{ended_by, in_place};
 use crate::state::Seat;
 
 // How far a request has come: how many records it holds, and whether it has had its E or Z (1) or not (0).
-#[derive(Drop)]
+#[derive(Clone, Copy)]
 pub struct Progress {
     pub held: u32,
     pub ended: u32,
 }
 
 // Refused, in the order in which it is tested, or taken.
-#[derive(Drop)]
+#[derive(Clone, Copy)]
 pub enum Stepped {
     Ended,
     OutOfPlace,

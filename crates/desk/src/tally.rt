@@ -8,7 +8,7 @@ ghost use Rattle.desk.specs.inside.Counted.{uncounted, Whole, is_clear};
 use frames::reply::{LETTERS, STATUSES, letter_place, status_place};
 
 // How many records are held with a letter and a status; or there is no such letter or status.
-#[derive(Drop)]
+#[derive(Clone, Copy)]
 pub enum LookAnswer {
     Held(u32),
     NoSuch,

@@ -43,4 +43,4 @@ module _ {A : Type 0} where
   sure_tried false f rest h s = sure_refuses f (h refl)
 
 pub table_worked : TableWorked
-table_worked = record { numbers = refl; offsets = refl; spoiled_bytes = refl; field_numbers = λ o p. refl; record_numbers = λ o. refl; page_numbers = λ n. refl; none_0 = refl; plain_17 = refl; last_18 = refl; no_line = refl; page_spoiled = refl; none_19 = refl; none_19_placed = refl; field_placed = refl; field_own = refl; spoiled_before = refl; field_nowhere = refl; record_placed = refl; record_spoiled = refl; room_placed = refl; room_spoiled = refl }
+table_worked = record { numbers = refl; offsets = refl; spoiled_bytes = refl; field_numbers = λ o p. refl; record_numbers = λ o. refl; none_0 = refl; last_17 = refl; none_18 = refl; field_placed = refl; field_own = refl; spoiled_before = refl; field_nowhere = refl; record_placed = refl; record_spoiled = refl; room_placed = refl; room_spoiled = refl }

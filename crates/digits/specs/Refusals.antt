@@ -1,4 +1,4 @@
--- The table of refusals: why a call is refused, by number. FIELD and RECORD have an offset, and FIELD has the offset of the spoiled byte too. PAGE has the number of a line in the place of the offset. All others have 0 there.
+-- The table of refusals: why a call is refused, by number. FIELD and RECORD have an offset, and FIELD has the offset of the spoiled byte too; all others have 0 there.
 use Rattle.std.specs.Prelude.{ℕ, [], ◌∷◌, Bool, true, false, cond, not, ◌&&◌, ◌||◌, ◌≡◌, eqb, leb}
 use Rattle.digits.specs.declared.refusal.Refusal.{Refusal}
 
@@ -84,30 +84,25 @@ NO_SUCH = plain 17
 abbrev pub PAGE : ℕ → Refusal
 PAGE = placed 18
 
--- a refusal of the table: a number from 1 to 18; a spoiled byte, not before the field, for 5 and otherwise 0; and an offset, or a line, other than 0 exactly for 5, 6 and 18
+-- a refusal of the table: a number from 1 to 17; a spoiled byte, not before the field, for 5 and otherwise 0; and an offset other than 0 exactly for 5 and 6
 abbrev pub is_refusal : Refusal → Bool
 is_refusal f =
-    leb 1 f.number && leb f.number 18
+    leb 1 f.number && leb f.number 17
     && cond (eqb f.number 5) (leb f.offset f.spoiled) (eqb f.spoiled 0)
-    && cond (eqb f.number 5 || eqb f.number 6 || eqb f.number 18) (not (eqb f.offset 0)) (eqb f.offset 0)
+    && cond (eqb f.number 5 || eqb f.number 6) (not (eqb f.offset 0)) (eqb f.offset 0)
 
 -- worked cases: the numbers in the table's order, and which refusals have an offset and a spoiled byte
 pub record TableWorked : Type 0 where
   pub numbers : KIND.number ∷ LENGTH.number ∷ END.number ∷ ADDRESS.number ∷ (FIELD 9 11).number ∷ (RECORD 9).number ∷ ROOM.number ∷ TIME.number
-      ∷ DESK.number ∷ NO_ANSWER_DUE.number ∷ IN_USE.number ∷ NO_SEAT.number ∷ STRAY.number ∷ ENDED.number ∷ OUT_OF_PLACE.number ∷ FULL.number ∷ NO_SUCH.number ∷ (PAGE 3).number ∷ []
-      ≡ 1 ∷ 2 ∷ 3 ∷ 4 ∷ 5 ∷ 6 ∷ 7 ∷ 8 ∷ 9 ∷ 10 ∷ 11 ∷ 12 ∷ 13 ∷ 14 ∷ 15 ∷ 16 ∷ 17 ∷ 18 ∷ []
+      ∷ DESK.number ∷ NO_ANSWER_DUE.number ∷ IN_USE.number ∷ NO_SEAT.number ∷ STRAY.number ∷ ENDED.number ∷ OUT_OF_PLACE.number ∷ FULL.number ∷ NO_SUCH.number ∷ []
+      ≡ 1 ∷ 2 ∷ 3 ∷ 4 ∷ 5 ∷ 6 ∷ 7 ∷ 8 ∷ 9 ∷ 10 ∷ 11 ∷ 12 ∷ 13 ∷ 14 ∷ 15 ∷ 16 ∷ 17 ∷ []
   pub offsets : (FIELD 9 11).offset ∷ (RECORD 9).offset ∷ ROOM.offset ∷ FULL.offset ∷ NO_SUCH.offset ∷ [] ≡ 9 ∷ 9 ∷ 0 ∷ 0 ∷ 0 ∷ []
   pub spoiled_bytes : (FIELD 9 11).spoiled ∷ (RECORD 9).spoiled ∷ ROOM.spoiled ∷ FULL.spoiled ∷ NO_SUCH.spoiled ∷ [] ≡ 11 ∷ 0 ∷ 0 ∷ 0 ∷ 0 ∷ []
   pub field_numbers : (o p : ℕ) → FIELD o p ≡ record { number = 5; offset = o; spoiled = p }
   pub record_numbers : (o : ℕ) → RECORD o ≡ record { number = 6; offset = o; spoiled = 0 }
-  pub page_numbers : (n : ℕ) → PAGE n ≡ record { number = 18; offset = n; spoiled = 0 }
   pub none_0 : is_refusal (plain 0) ≡ false
-  pub plain_17 : is_refusal (plain 17) ≡ true
-  pub last_18 : is_refusal (PAGE 1) ≡ true
-  pub no_line : is_refusal (plain 18) ≡ false
-  pub page_spoiled : is_refusal (spoiled_at 18 1 1) ≡ false
-  pub none_19 : is_refusal (plain 19) ≡ false
-  pub none_19_placed : is_refusal (placed 19 1) ≡ false
+  pub last_17 : is_refusal (plain 17) ≡ true
+  pub none_18 : is_refusal (plain 18) ≡ false
   pub field_placed : is_refusal (FIELD 30 32) ≡ true
   pub field_own : is_refusal (FIELD 30 30) ≡ true
   pub spoiled_before : is_refusal (FIELD 30 29) ≡ false

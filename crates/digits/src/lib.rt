@@ -7,7 +7,7 @@ ghost use Rattle.digits.specs.Digits.{number_at, number_text};
 ghost use Rattle.digits.specs.Text.{in_set};
 
 // What is found at a place: a number, or none.
-#[derive(Drop)]
+#[derive(Clone, Copy)]
 pub enum Number {
     Is(u64),
     Wrong,

@@ -38,8 +38,8 @@ pub const NO_SUCH: u32 = 17;
 
 pub const PAGE: u32 = 18;
 
-// Only FIELD and RECORD have an offset, and only FIELD has the offset of a spoiled byte. PAGE has the number of a line as its offset. For the others they are 0.
-#[derive(Drop)]
+// Only FIELD and RECORD have an offset, and only FIELD has the offset of a spoiled byte; for the others they are 0.
+#[derive(Clone, Copy)]
 pub struct Refusal {
     pub number: u32,
     pub offset: u32,
@@ -76,10 +76,9 @@ pub fn of_field(field: u8, spoiled: u8) -> Refusal
 pub fn of_page(line: u32) -> Refusal
     ensures { result ≡ R.PAGE line }
 {
-    let spoiled = 0;
     Refusal {
         number: PAGE,
         offset: line,
-        spoiled,
+        spoiled: 0,
     }
 }

@@ -14,12 +14,12 @@ const CR: u8 = 13;
 const BLOCK: usize = 16;
 
 // A place in the capture. The first call starts at 0.
-#[derive(Drop)]
+#[derive(Clone, Copy)]
 pub struct Cursor {
     pub at: usize,
 }
 
-#[derive(Drop)]
+#[derive(Clone, Copy)]
 pub enum Found {
     // The frame is the bytes from start up to end; the last of them is its CR.
     Whole {

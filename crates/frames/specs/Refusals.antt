@@ -9,7 +9,7 @@ use Rattle.frames.specs.declared.refusals.ReadVerdict.TheVariants.{Read, Refused
 use Rattle.frames.specs.declared.refusals.WriteRefusal.{WriteRefusal}
 use Rattle.frames.specs.declared.refusals.WriteRefusal.TheVariants.{Record, Room}
 use Rattle.frames.specs.declared.refusals.WriteAnswer.{WriteAnswer}
-use Rattle.frames.specs.declared.refusals.WriteAnswer.TheVariants.{Written, Refused as not_written_law}
+use Rattle.frames.specs.declared.refusals.WriteAnswer.TheVariants.{Written, Refused as not_written}
 
 abbrev pub read_refused : ReadRefusal → Refusal
 read_refused Kind = KIND
@@ -28,4 +28,4 @@ verdict_told (Refused f) = refuses (read_refused f)
 
 abbrev pub write_told : WriteAnswer → Told (Unit {0})
 write_told Written = gives tt
-write_told (not_written_law f) = refuses (write_refused f)
+write_told (not_written f) = refuses (write_refused f)

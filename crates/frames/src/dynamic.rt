@@ -57,7 +57,7 @@ pub mod field {
 
 // Address and letters by their codes. Sign, time in ticks and days are those of Taux; the sign is kept if time and days are zero.
 #[repr(C)]
-#[derive(Drop)]
+#[derive(Clone, Copy)]
 pub struct DynamicRequest {
     pub address: u8,
     pub requester: u8,
@@ -75,7 +75,7 @@ pub struct DynamicRequest {
     pub output: u8,
 }
 
-#[derive(Drop)]
+#[derive(Clone, Copy)]
 pub enum DynamicRead {
     Request(DynamicRequest),
     Refused(ReadRefusal),

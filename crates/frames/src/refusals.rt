@@ -6,14 +6,14 @@ use digits::refusal as table;
 use digits::refusal::{Refusal, of_field, placed, plain};
 
 // The offset at which a frame's first wrong field begins, and the offset of the byte that spoils it.
-#[derive(Drop)]
+#[derive(Clone, Copy)]
 pub struct Place {
     pub field: u8,
     pub spoiled: u8,
 }
 
 // In the order in which they are tested.
-#[derive(Drop)]
+#[derive(Clone, Copy)]
 pub enum ReadRefusal {
     Kind,
     Length,
@@ -22,20 +22,20 @@ pub enum ReadRefusal {
     Field(Place),
 }
 
-#[derive(Drop)]
+#[derive(Clone, Copy)]
 pub enum ReadVerdict {
     Read,
     Refused(ReadRefusal),
 }
 
 // Record holds the offset of the record's first wrong part.
-#[derive(Drop)]
+#[derive(Clone, Copy)]
 pub enum WriteRefusal {
     Record(u8),
     Room,
 }
 
-#[derive(Drop)]
+#[derive(Clone, Copy)]
 pub enum WriteAnswer {
     Written,
     Refused(WriteRefusal),

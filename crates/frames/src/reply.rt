@@ -82,7 +82,7 @@ pub const STATUSES: usize = 3;
 
 // The parts before time and date. Address, letters, program and mode are held by their codes.
 #[repr(C)]
-#[derive(Drop)]
+#[derive(Clone, Copy)]
 pub struct ReplyHead {
     pub address: u8,
     pub program: u8,
@@ -99,7 +99,7 @@ pub struct ReplyHead {
 }
 
 // Raw time and date are zero if the timing is not raw.
-#[derive(Drop)]
+#[derive(Clone, Copy)]
 pub struct StaticReply {
     pub head: ReplyHead,
     pub timing: Timing,
@@ -109,14 +109,14 @@ pub struct StaticReply {
 }
 
 // The record is all zero if the frame was refused.
-#[derive(Drop)]
+#[derive(Clone, Copy)]
 pub struct ReplyRead {
     pub verdict: ReadVerdict,
     pub reply: StaticReply,
 }
 
 // Where a good reply belongs, and its status. Address and requester are held by their codes, as in a key.
-#[derive(Drop)]
+#[derive(Clone, Copy)]
 pub struct ReplyLabel {
     pub status: u8,
     pub address: u32,
@@ -124,14 +124,14 @@ pub struct ReplyLabel {
     pub number: u32,
 }
 
-#[derive(Drop)]
+#[derive(Clone, Copy)]
 pub enum ReplyCheck {
     Good(ReplyLabel),
     Refused(ReadRefusal),
 }
 
 // The frame is all zero if the record was refused.
-#[derive(Drop)]
+#[derive(Clone, Copy)]
 pub struct ReplyFrame {
     pub answer: WriteAnswer,
     pub frame: [u8; 51],

@@ -50,7 +50,7 @@ const INFORMATION_HIGH: u64 = 0xbb_1f9e_019f_1f82;
 
 // Address and letters are held by their codes. A number can hold more than its field can show.
 #[repr(C)]
-#[derive(Drop)]
+#[derive(Clone, Copy)]
 pub struct StaticRequest {
     pub address: u8,
     pub requester: u8,
@@ -63,7 +63,7 @@ pub struct StaticRequest {
     pub output: u8,
 }
 
-#[derive(Drop)]
+#[derive(Clone, Copy)]
 pub enum RequestRead {
     Request(StaticRequest),
     Refused(ReadRefusal),

@@ -20,7 +20,7 @@ const PLUS: u8 = b'+';
 
 const MINUS: u8 = b'-';
 
-#[derive(Drop)]
+#[derive(Clone, Copy)]
 pub enum TimingKind {
     Clock,
     Net,
@@ -28,7 +28,7 @@ pub enum TimingKind {
 }
 
 // A time of day in ticks with a day; a net value in ticks; or raw, with the bytes in arrays beside it.
-#[derive(Drop)]
+#[derive(Clone, Copy)]
 pub enum Timing {
     Clock {
         ticks: u32,
@@ -227,7 +227,7 @@ fn as_raw(timing: Timing, rest: u8) -> u8
 
 // ---- a frame's time and date: what they hold, wrong or not, and the offset of the first wrong part
 
-#[derive(Drop)]
+#[derive(Clone, Copy)]
 pub(crate) struct Seen {
     pub(crate) timing: Timing,
     pub(crate) raw_time: [u8; 10],

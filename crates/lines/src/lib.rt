@@ -5,7 +5,7 @@ ghost use Rattle.lines.specs.Places.{line_at};
 use text::LF;
 
 // A line is the bytes from start up to end. If it is whole, the last of them is its LF.
-#[derive(Drop)]
+#[derive(Clone, Copy)]
 pub struct Place {
     pub start: usize,
     pub end: usize,

@@ -15,8 +15,7 @@ use Rattle.text.specs.Decimal.{width, decimal}
 use Rattle.text.proofs.PutLaws.{put_then, put_whole}
 use Rattle.text.proofs.DecimalLaws.{decimal_length}
 use Rattle.desk.specs.Limits.{cell_size}
-use Rattle.text.specs.Address.{address_shown}
-use Rattle.listing.specs.Text.{row_text, Look, plain, address, looks, Column, columns, part, shown, HeadingNamesColumns}
+use Rattle.listing.specs.Text.{row_text, Look, plain, address, address_shown, looks, Column, columns, part, shown, HeadingNamesColumns}
 use Rattle.listing.specs.Sizes.{columns_size}
 
 pub heading_names_columns : HeadingNamesColumns

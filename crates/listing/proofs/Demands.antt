@@ -10,7 +10,7 @@ use Rattle.digits.specs.declared.refusal.Refusal.{Refusal}
 use Rattle.digits.specs.Refusals.{ROOM}
 use Rattle.digits.proofs.Tests.{by-test}
 use Rattle.frames.specs.Rules.{space, between, is_address}
-use Rattle.text.specs.Address.{minus, address_shown}
+use Rattle.listing.specs.Text.{minus, address_shown}
 use Rattle.listing.specs.Listing.{fits}
 use Rattle.listing.specs.Demands.{ListIsOfCapture, AddressesStayApart, RefusedKeeps}
 use Rattle.listing.proofs.StoreLaws.{store_desk}

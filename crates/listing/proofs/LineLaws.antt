@@ -31,8 +31,7 @@ use Rattle.desk.specs.Memory.{Memory, cell_at, mark_at, records_of, held_by}
 use Rattle.desk.proofs.ReplayLaws.{desk_facts, cell_keyed_law}
 use Rattle.desk.proofs.LeavesLaws.{all_desk}
 use Rattle.desk.proofs.HearingLaws.{heard_long}
-use Rattle.text.specs.Address.{address_shown}
-use Rattle.listing.specs.Text.{Look, plain, address, looks, Column, columns, part, shown, heading, row_text, rows_text, count_text, end_text}
+use Rattle.listing.specs.Text.{Look, plain, address, address_shown, looks, Column, columns, part, shown, heading, row_text, rows_text, count_text, end_text}
 use Rattle.listing.specs.Listing.{most_input, store, seats_text, list_text, after, counts, list_of}
 use Rattle.listing.specs.Sizes.{rows_in, LinesAreRows}
 use Rattle.listing.proofs.StoreLaws.{store_desk}
@@ -131,11 +130,11 @@ rows_lines s (f ∷ fs) gs =
     omega (arith, h, a, b)
 
 module _ (cells marks : List ℕ) (s : ℕ) where
-  seat_lines_law : (n : ℕ) → ((i : ℕ) → i < n → Good (cell_at cells i)) → lines (rows_text s (records_of cells marks s n)) ≡ length (records_of cells marks s n)
+  seat_lines : (n : ℕ) → ((i : ℕ) → i < n → Good (cell_at cells i)) → lines (rows_text s (records_of cells marks s n)) ≡ length (records_of cells marks s n)
   unfolding records_of Good
-  seat_lines_law zero g = refl
-  seat_lines_law (suc n) g =
-      let h = seat_lines_law n (λ i l. g i (omega arith)) in
+  seat_lines zero g = refl
+  seat_lines (suc n) g =
+      let h = seat_lines n (λ i l. g i (omega arith)) in
       let q = g n (omega arith) in
       let one = row_one s (cell_at cells n) q.0 q.1 in
       let a = lines_both (row_text s (cell_at cells n)) [] in
@@ -148,7 +147,7 @@ unfolding seats_text rows_in
 seats_lines m g zero = refl
 seats_lines m g (suc n) =
     let h = seats_lines m g n in
-    let r = seat_lines_law m.cells m.marks n m.count g in
+    let r = seat_lines m.cells m.marks n m.count g in
     lines_both (seats_text m n) (rows_text n (held_by m n)) ∙ omega (arith, h, r)
 
 end_one : (c : Counts) → lines (end_text c) ≡ 1

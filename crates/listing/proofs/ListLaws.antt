@@ -4,15 +4,15 @@ use mathlib.Core.List.{List, ◌++◌}
 use mathlib.Core.Bool.{Bool, true, false, cond, ◌&&◌}
 use mathlib.Core.Path.{◌≡◌, refl, ap, ◌∙◌}
 use native.Mathlib.Omega.{arith}
-use lib.ListN.{length}
-use lib.Seq.{sets}
+use native.Mathlib.Nat.{zero-add}
+use lib.ListN.{length, drop}
+use lib.Seq.{sets, sets-eq}
 use lib.Dec.{leb}
 use borrow.Author.Tests.{le-leb, lt-leb, leb-true}
 use Rattle.digits.specs.Told.{gives, refuses, tried}
 use Rattle.digits.specs.Refusals.{ROOM, DESK}
 use Rattle.desk.specs.declared.capture.CaptureAnswer.TheVariants.{Taken as All, NoDesk}
 use Rattle.text.specs.Put.{most_place, place_after, Put}
-use Rattle.text.proofs.PutLaws.{put_all}
 use Rattle.desk.specs.Limits.{seat_count, most_cells, cell_size, store_size}
 use Rattle.desk.specs.Memory.{Memory, records_of}
 use Rattle.desk.specs.Capture.{TookCapture}
@@ -26,6 +26,11 @@ use Rattle.listing.specs.inside.Steps.{TakenAs, WroteAll}
 use Rattle.listing.proofs.StoreLaws.{restored, store_desk, after_leaves, after_fits}
 
 -- ---- a text that fits
+
+put_all : (out text : List ℕ) (end : ℕ) (out' : List ℕ) → Put out 0 text end out' → length text ≤ length out → out' ≡ text ++ drop (length text) out
+put_all out text end out' p l =
+    let h : 0 + length text ≤ length out = omega arith in
+    p.bytes ∙ sets-eq text out 0 h ∙ ap (λ (n : ℕ). text ++ drop n out) (zero-add (length text))
 
 pub wrote_none : (text out : List ℕ) → length out < length text → WroteAll text out Room out
 wrote_none text out l = record { told = rw (lt-leb (length text) (length out) l); bytes = rw (lt-leb (length text) (length out) l) }

@@ -2,7 +2,7 @@
 use Rattle.std.specs.Prelude.{ℕ, List, [], ◌∷◌, ◌++◌, map, true, ◌≡◌, replicate}
 use Prim.Native.String.{String}
 use Rattle.digits.specs.Text.{codes}
-use Rattle.text.specs.Address.{address_shown}
+use Rattle.listing.specs.Text.{address_shown}
 use Rattle.listing.specs.Listing.{short, list_of}
 use Rattle.listing.specs.Sizes.{longest_list}
 

@@ -5,7 +5,7 @@ use Rattle.digits.specs.Told.{gives, refuses}
 use Rattle.frames.specs.Rules.{is_address}
 use Rattle.desk.specs.Capture.{captures}
 use Rattle.listing.specs.declared.ListAnswer.{ListAnswer}
-use Rattle.text.specs.Address.{address_shown}
+use Rattle.listing.specs.Text.{address_shown}
 use Rattle.listing.specs.Listing.{store, after, counts, list_told, Listed}
 
 -- its rows and counts are those of the capture, taken on an emptied desk: so what is proved of a capture holds of a list too

@@ -34,14 +34,14 @@ pub const LONGEST_LIST: usize = HEADING_SIZE + CELLS * LONGEST_ROW + LONGEST_END
 const TOO_LONG: [u8; 15] = *b"input too long\n";
 
 // Written, with this many bytes; or the output has no room for all of them.
-#[derive(Drop)]
+#[derive(Clone, Copy)]
 pub enum ListAnswer {
     Written(usize),
     Room,
 }
 
 // How many cells are held after a capture, and the counts of its frames.
-#[derive(Drop)]
+#[derive(Clone, Copy)]
 struct Taken {
     count: usize,
     counts: Counts,

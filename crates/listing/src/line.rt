@@ -4,13 +4,12 @@ ghost use Rattle.std.proofs.Math.Seq.{slice};
 ghost use Rattle.text.specs.Put.{Put};
 ghost use Rattle.text.specs.Lines.{TAB};
 ghost use Rattle.desk.specs.Limits.{cell_size};
-ghost use Rattle.text.specs.Address.{address_shown};
-ghost use Rattle.listing.specs.Text.{address, looks, columns, shown, row_text, end_text};
+ghost use Rattle.listing.specs.Text.{address, address_shown, looks, columns, shown, row_text, end_text};
 
 use desk::capture::Counts;
 use digits::byte_at;
 use frames::reply::field;
-use text::{LF, TAB, address_shown, place_after, put_decimal, put_one, put_text, width_of};
+use text::{LF, TAB, place_after, put_decimal, put_one, put_text, width_of};
 
 const COLUMNS: usize = 12;
 
@@ -97,4 +96,11 @@ fn put_address(out: &mut [u8], at: usize, frame: &[u8]) -> usize
 {
     let p = put_one(out, at, TAB);
     put_one(out, p, address_shown(byte_at(frame, field::ADDRESS)))
+}
+
+// A space is shown as a minus sign.
+fn address_shown(b: u8) -> u8
+    ensures { result ≡ address_shown b }
+{
+    if b == b' ' { b'-' } else { b }
 }

@@ -17,21 +17,21 @@ use frames::reply::{LETTERS, STATUSES};
 use lines::next_line;
 
 // Whether a text is a page; or the number of the first line up to which no desk's page begins so.
-#[derive(Drop)]
+#[derive(Clone, Copy)]
 pub enum PageCheck {
     Good,
     Page(u32),
 }
 
 // Read; or refused, in the order in which it is tested.
-#[derive(Drop)]
+#[derive(Clone, Copy)]
 pub enum ReadAnswer {
     Read,
     Page(u32),
     Room,
 }
 
-#[derive(Drop)]
+#[derive(Clone, Copy)]
 pub struct ReadDone {
     pub answer: ReadAnswer,
     pub desk: Desk,
@@ -39,7 +39,7 @@ pub struct ReadDone {
 }
 
 // The number of the first line up to which no desk's page begins so; or 0, and then the state and the row of the desk that writes the text.
-#[derive(Drop)]
+#[derive(Clone, Copy)]
 pub(crate) struct Checked {
     pub(crate) line: u32,
     pub(crate) desk: Desk,

@@ -25,7 +25,7 @@ use text::{LF, TAB};
 
 // What was read so far, beside the row: the seats in use and those that are said to end, as bits, how many cells, and how many of the seats that are said to
 // end have not had their E or Z.
-#[derive(Drop)]
+#[derive(Clone, Copy)]
 pub struct Sofar {
     pub bits: u64,
     pub said: u64,
@@ -34,7 +34,7 @@ pub struct Sofar {
 }
 
 // Whether the line is taken. If it is, one seat has changed, and this is what is read then.
-#[derive(Drop)]
+#[derive(Clone, Copy)]
 pub struct Turn {
     pub taken: bool,
     pub at: usize,

@@ -25,7 +25,7 @@ use text::put_text;
 pub const LONGEST_PAGE: usize = FIRST_LINE + SEATS * SEAT_LINE + CELLS * CELL_LINE + LAST_LINE;
 
 // Written, with this many bytes; or refused, in the order in which it is tested.
-#[derive(Drop)]
+#[derive(Clone, Copy)]
 pub enum WriteAnswer {
     Written(usize),
     Desk,

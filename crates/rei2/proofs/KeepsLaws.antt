@@ -13,9 +13,6 @@ use Rattle.desk.specs.Memory.{Memory, memory}
 use Rattle.desk.specs.Calls.{Outcome, resets, opens, replies}
 use Rattle.desk.specs.Capture.{captures}
 use Rattle.desk.proofs.KeepsLaws as D
-use Rattle.page.specs.Version.{one}
-use Rattle.page.specs.Writing as W
-use Rattle.page.specs.Reading.{PageRead, not_read, no_room, read}
 use Rattle.listing.specs.Listing.{fits, listed, out_after, cells_after, marks_after}
 use Rattle.rei2.specs.declared.lent.DeskAnswer.{DeskAnswer}
 use Rattle.rei2.specs.declared.lent.CapturedAnswer.{CapturedAnswer}
@@ -60,18 +57,6 @@ call_kept o m keeps r seats cells marks tally h n =
     let e : o.after ≡ m = keeps (λ z. n (ap (λ (x : DeskAnswer). x.refusal) h.answer ∙ z)) in
     (ap (λ (x : DeskAnswer). x.desk) h.answer ∙ ap state_in e, lent_kept m h e)
 
--- ---- pages
-
-module _ (m : Memory) where
-  page_kept : (text : List ℕ) (t : Told (Unit {0})) (x : Memory) → PageRead one m text t x → Refusing (number_in t) → x ≡ m
-  page_kept text _ _ (not_read k none line) n = refl
-  page_kept text _ _ (no_room d w h) n = refl
-  page_kept text _ _ (read d w h) n = absurd (n refl)
-
-  page_output_kept : (out : List ℕ) (t : Told ℕ) → Refusing (number_in t) → W.written one m out t ≡ out
-  page_output_kept out (gives size) n = absurd (n refl)
-  page_output_kept out (refuses f) n = refl
-
 -- ---- outputs
 
 output_kept : (t : Told (Unit {0})) (frame : List ℕ) (size : ℕ) (out : List ℕ) → Refusing (number_in t) → output_after t frame size out ≡ out
@@ -97,12 +82,6 @@ refused_keeps = record {
       let m = memory desk seats cells marks tally in
       let e : (captures m capture).after ≡ m = capture_kept m capture (λ z. n (ap (λ (x : CapturedAnswer). x.refusal) h.answer ∙ z)) in
       (ap (λ (x : CapturedAnswer). x.desk) h.answer ∙ ap state_in e, lent_kept m h e);
-  reading_page = λ seats desk cells marks tally text r seats' cells' marks' tally' h n.
-      let e = page_kept (memory desk seats cells marks tally) text h.told _ h.took (λ z. n (ap (λ (x : DeskAnswer). x.refusal) h.answer ∙ z)) in
-      (ap state_in e, (ap (λ (x : Memory). x.row) e, (ap (λ (x : Memory). x.cells) e, (ap (λ (x : Memory). x.marks) e, ap (λ (x : Memory). x.tally) e))));
-  writing_page = λ seats desk cells marks tally out answer out' h n.
-      let m = memory desk seats cells marks tally in
-      h.bytes ∙ page_output_kept m out (W.write_tried one m out) (λ z. n (ap (λ (x : WrittenAnswer). x.refusal) h.told ∙ z));
   writing = λ k r out answer out' h n.
       h.bytes ∙ output_kept (write_tried (wrong_in k r) k.size (length out)) (frame_of k r) k.size out (λ z. n (ap (λ (x : WrittenAnswer). x.refusal) h.told ∙ z));
   writing_reply = λ c out answer out' h n.

@@ -1,34 +1,41 @@
 -- What the walks of the lent calls use: from what a call by value returns to the promise of the lent call, and the promise if
 -- the row does not have sixteen seats. Assumes nothing.
-use mathlib.Core.Path.{◌≡◌, refl, sym, ap, subst, ◌∙◌}
+use mathlib.Core.Path.{◌≡◌, refl, sym, subst, ◌∙◌}
 use mathlib.Core.Bool.{false}
 use mathlib.Core.List.{List, []}
-use Prim.Native.Nat.{ℕ, ◌/◌}
+use Prim.Native.Nat.{ℕ}
 use lib.ListN.{length, set}
-use lib.Dec.{eqb, leb}
+use lib.Dec.{eqb}
 use Rattle.digits.specs.Refusals.{DESK}
 use Rattle.digits.specs.Told.{refuses}
 use Rattle.desk.specs.declared.state.Seat.{Seat}
 use Rattle.desk.specs.declared.state.Desk.{Desk}
-use Rattle.desk.specs.Limits.{seat_count, cell_size}
+use Rattle.desk.specs.Limits.{seat_count}
 use Rattle.desk.specs.Memory.{Memory, memory}
 use Rattle.desk.specs.Desk.{is_desk}
 use Rattle.desk.specs.Calls.{Outcome, resets, opens, open_tried, replies, reply_tried}
 use Rattle.desk.proofs.KeepsLaws.{keeps_memory}
 use Rattle.desk.proofs.LookLaws.{looks_are_right}
-use Rattle.page.specs.declared.read.PageCheck.{PageCheck}
-use Rattle.page.specs.Version.{one, showable}
-use Rattle.page.specs.Writing.{write_tried, written}
-use Rattle.page.specs.Reading.{has_room, PageChecked, a_page, no_page, PageRead, not_read, no_room}
-use Rattle.rei2.specs.declared.request.WrittenAnswer.{WrittenAnswer}
 use Rattle.rei2.specs.declared.lent.DeskAnswer.{DeskAnswer}
 use Rattle.rei2.specs.declared.lent.CapturedAnswer.{CapturedAnswer}
 use Rattle.rei2.specs.declared.lent.Out.{Out}
 use Rattle.rei2.specs.declared.lent.One.{One}
 use Rattle.rei2.specs.declared.lent.Captured.{Captured}
-use Rattle.rei2.specs.Lent.{page_answer, LentCall, ResetLent, OpenLent, ReplyLent, CaptureLent, WritePageLent, ReadPageLent}
-use Rattle.rei2.specs.inside.Core.{out_of, CoreReset, CoreOpen, CoreReply, CoreCapture, CoreWritePage, CoreReadPage, RefusedReset, RefusedOpen, RefusedReply, RefusedCapture, RefusedWritePage, without_room, RefusedReadPage}
+use Rattle.rei2.specs.Lent.{desk_answer, capture_answer, LentCall, ResetLent, OpenLent, ReplyLent, CaptureLent}
+use Rattle.rei2.specs.inside.Core.{out_of, CoreReset, CoreOpen, CoreReply, CoreCapture}
 use Rattle.digits.proofs.Tests.{by-test}
+
+abbrev pub refusal_reset : Desk → DeskAnswer
+refusal_reset d = desk_answer d (refuses DESK)
+
+abbrev pub refusal_open : Desk → DeskAnswer
+refusal_open = refusal_reset
+
+abbrev pub refusal_reply : Desk → DeskAnswer
+refusal_reply = refusal_reset
+
+abbrev pub refusal_capture : Desk → CapturedAnswer
+refusal_capture d = capture_answer d (refuses DESK)
 
 -- ---- a row that does not have sixteen seats is not a desk
 
@@ -45,21 +52,6 @@ module _ (m : Memory) (f : List ℕ) (e : is_desk m ≡ false) where
   not_replied : replies m f ≡ record { answer = refuses DESK; after = m }
   unfolding replies reply_tried
   not_replied = rw e
-
-  not_written_law : write_tried one m f ≡ refuses DESK
-  unfolding write_tried showable
-  not_written_law = rw e
-
--- ---- nor is there room in it for the desk of a page
-
-no_seats : (m d : Memory) → eqb (length m.row) seat_count ≡ false → has_room m d ≡ false
-unfolding has_room
-no_seats m d e =
-    by-test (leb d.count (length m.cells / cell_size)) (λ h. by-test (leb d.count (length m.marks)) (λ k. rw (h, k, e)) (λ k. rw (h, k))) (λ h. rw h)
-
-not_here : (m : Memory) (text : List ℕ) (c : PageCheck) → PageChecked one text c → eqb (length m.row) seat_count ≡ false → PageRead one m text (refuses (without_room c)) m
-not_here m text _ (a_page d w) e = no_room d w (no_seats m d e)
-not_here m text _ (no_page n none line) e = not_read n none line
 
 -- ---- a reset looks at neither cells nor marks, and leaves them
 
@@ -96,9 +88,9 @@ module _ (v-seats : List Seat) (v-desk : Desk) where
           tally = e.1 ∙ reset_tally v-seats v-desk v-tally cells marks;
         }
 
-    pub refused_reset : (r : DeskAnswer) → RefusedReset v-desk r → eqb (length v-seats) seat_count ≡ false → ResetLent v-seats v-desk v-tally r v-seats v-tally
+    pub refused_reset : eqb (length v-seats) seat_count ≡ false → ResetLent v-seats v-desk v-tally (refusal_reset v-desk) v-seats v-tally
     unfolding resets
-    refused_reset r said e cells marks = rw e (record { answer = said; seats = refl; cells = refl; marks = refl; tally = refl })
+    refused_reset e cells marks = rw e (record { answer = refl; seats = refl; cells = refl; marks = refl; tally = refl })
 
   module _ (v-cells v-marks : List ℕ) (v-tally : List (List ℕ)) (v-frame : List ℕ) where
     abbrev M : Memory
@@ -108,41 +100,23 @@ module _ (v-seats : List Seat) (v-desk : Desk) where
     done_open r e =
         record { answer = e.answer; seats = e.seats; cells = sym (keeps_memory.opening_cells M v-frame); marks = sym (keeps_memory.opening_marks M v-frame); tally = sym (looks_are_right.after_opening M v-frame) }
 
-    pub refused_open : (r : DeskAnswer) → RefusedOpen v-desk r → eqb (length v-seats) seat_count ≡ false → OpenLent v-seats v-desk v-cells v-marks v-tally v-frame r v-seats
-    refused_open r said e =
-        subst (λ (o : Outcome). LentCall o r v-seats v-cells v-marks v-tally) (sym (not_opened_law M v-frame (no_desk_case M e)))
-        (record { answer = said; seats = refl; cells = refl; marks = refl; tally = refl })
+    pub refused_open : eqb (length v-seats) seat_count ≡ false → OpenLent v-seats v-desk v-cells v-marks v-tally v-frame (refusal_open v-desk) v-seats
+    refused_open e =
+        subst (λ (o : Outcome). LentCall o (refusal_open v-desk) v-seats v-cells v-marks v-tally) (sym (not_opened_law M v-frame (no_desk_case M e)))
+        (record { answer = refl; seats = refl; cells = refl; marks = refl; tally = refl })
 
     pub done_reply : (r : One) (cells' marks' : List ℕ) (tally' : List (List ℕ)) → CoreReply v-seats v-desk v-cells v-marks v-tally v-frame r cells' marks' tally'
         → ReplyLent v-seats v-desk v-cells v-marks v-tally v-frame r.answer (set v-seats r.at r.seat) cells' marks' tally'
     done_reply r cells' marks' tally' e = record { answer = e.0.answer; seats = e.0.seats; cells = e.1.0; marks = e.1.1.0; tally = e.1.1.1 }
 
-    pub refused_reply : (r : DeskAnswer) → RefusedReply v-desk r → eqb (length v-seats) seat_count ≡ false → ReplyLent v-seats v-desk v-cells v-marks v-tally v-frame r v-seats v-cells v-marks v-tally
-    refused_reply r said e =
-        subst (λ (o : Outcome). LentCall o r v-seats v-cells v-marks v-tally) (sym (not_replied M v-frame (no_desk_case M e)))
-        (record { answer = said; seats = refl; cells = refl; marks = refl; tally = refl })
+    pub refused_reply : eqb (length v-seats) seat_count ≡ false → ReplyLent v-seats v-desk v-cells v-marks v-tally v-frame (refusal_reply v-desk) v-seats v-cells v-marks v-tally
+    refused_reply e =
+        subst (λ (o : Outcome). LentCall o (refusal_reply v-desk) v-seats v-cells v-marks v-tally) (sym (not_replied M v-frame (no_desk_case M e)))
+        (record { answer = refl; seats = refl; cells = refl; marks = refl; tally = refl })
 
     pub done_capture : (r : Captured) (cells' marks' : List ℕ) (tally' : List (List ℕ)) → CoreCapture v-seats v-desk v-cells v-marks v-tally v-frame r cells' marks' tally'
         → CaptureLent v-seats v-desk v-cells v-marks v-tally v-frame r.answer r.row cells' marks' tally'
     done_capture r cells' marks' tally' e = record { answer = λ i. (e.0 i).answer; seats = λ i. (e.0 i).row; cells = e.1.0; marks = e.1.1.0; tally = e.1.1.1 }
 
-    pub refused_capture : (r : CapturedAnswer) → RefusedCapture v-desk r → eqb (length v-seats) seat_count ≡ false
-        → CaptureLent v-seats v-desk v-cells v-marks v-tally v-frame r v-seats v-cells v-marks v-tally
-    refused_capture r said e = rw (no_desk_case M e) (record { answer = said; seats = refl; cells = refl; marks = refl; tally = refl })
-
-    pub done_write_page : (r : WrittenAnswer) (out' : List ℕ) → CoreWritePage v-seats v-desk v-cells v-marks v-tally v-frame r out'
-        → WritePageLent v-seats v-desk v-cells v-marks v-tally v-frame r out'
-    done_write_page r out' e = e
-
-    pub refused_write_page : (r : WrittenAnswer) → RefusedWritePage v-desk r → eqb (length v-seats) seat_count ≡ false → WritePageLent v-seats v-desk v-cells v-marks v-tally v-frame r v-frame
-    refused_write_page r said e = let t = sym (not_written_law M v-frame (no_desk_case M e)) in record { told = said ∙ ap page_answer t; bytes = ap (written one M v-frame) t }
-
-    pub done_read_page : (r : Out) (cells' marks' : List ℕ) (tally' : List (List ℕ)) → CoreReadPage v-seats v-desk v-cells v-marks v-tally v-frame r cells' marks' tally'
-        → ReadPageLent v-seats v-desk v-cells v-marks v-tally v-frame r.answer r.row cells' marks' tally'
-    done_read_page r cells' marks' tally' e = e
-
-    pub refused_read_page : (r : DeskAnswer) → RefusedReadPage v-desk v-frame r → eqb (length v-seats) seat_count ≡ false
-        → ReadPageLent v-seats v-desk v-cells v-marks v-tally v-frame r v-seats v-cells v-marks v-tally
-    refused_read_page r said e =
-        subst (λ (x : DeskAnswer). ReadPageLent v-seats v-desk v-cells v-marks v-tally v-frame x v-seats v-cells v-marks v-tally) (sym said.answer)
-        (record { told = refuses (without_room said.check); took = not_here M v-frame said.check said.checked e; answer = refl })
+    pub refused_capture : eqb (length v-seats) seat_count ≡ false → CaptureLent v-seats v-desk v-cells v-marks v-tally v-frame (refusal_capture v-desk) v-seats v-cells v-marks v-tally
+    refused_capture e = rw (no_desk_case M e) (record { answer = refl; seats = refl; cells = refl; marks = refl; tally = refl })

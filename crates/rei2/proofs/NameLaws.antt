@@ -35,7 +35,6 @@ names_tell = record {
   out_of_place = refl;
   full = refl;
   no_such = refl;
-  page = λ line. refl;
   others = λ n l. get_or-eq_default names (codes "UNKNOWN") l;
 }
 

@@ -1,5 +1,5 @@
 -- From the answers of the other crates' calls to the numbers of the host's answers. Assumes nothing.
-use mathlib.Core.Path.{◌≡◌, refl, sym, ap, subst, ◌∙◌}
+use mathlib.Core.Path.{◌≡◌, sym, ap, subst, ◌∙◌}
 use mathlib.Core.List.{List, []}
 use Prim.Native.Nat.{ℕ, ◌≤◌}
 use native.Mathlib.Omega.{arith}
@@ -21,14 +21,9 @@ use Rattle.desk.specs.Calls.{Outcome, place_in, Did, Changed, ResetDid, opens, r
 use Rattle.desk.specs.Capture.{capture_told, captures, TookCapture}
 use Rattle.desk.proofs.StepLaws.{by_opening, by_reply}
 use Rattle.desk.specs.declared.state.Emptied.{Emptied}
-use Rattle.page.specs.declared.write.WriteAnswer.{WriteAnswer}
-use Rattle.page.specs.declared.read.ReadAnswer.{ReadAnswer}
-use Rattle.page.specs.Version.{one}
-use Rattle.page.specs.Writing.{write_told, PageWritten}
-use Rattle.page.specs.Reading.{read_told, PageRead}
 use Rattle.rei2.specs.declared.lent.Captured.{Captured}
 use Rattle.rei2.specs.declared.reply.ReplyAnswer.{ReplyAnswer}
-use Rattle.rei2.specs.Lent.{state_in, desk_answer, capture_answer, page_answer, read_answer, PageWrote, PageTook}
+use Rattle.rei2.specs.Lent.{state_in, desk_answer, capture_answer}
 use Rattle.rei2.specs.inside.Core.{OneSeat, CoreReset}
 use Rattle.rei2.specs.Reply.{shown, reply_answer}
 
@@ -47,7 +42,7 @@ module _ (s : List ℕ) (a : ReplyRead) (h : ReadAs s a) where
 -- the place that a step returns is that of a seat, or 16
 module _ (m : Memory) (f : List ℕ) where
   pub opening_place : place_in (opens m f).answer ≤ seat_count
-  opening_place = by_opening m f (λ (o : Outcome). place_in o.answer ≤ seat_count) (λ o k. omega (arith, k.at.below)) (λ why. omega arith)
+  opening_place = by_opening m f (λ (o : Outcome). place_in o.answer ≤ seat_count) (λ o k. omega (arith, k.below)) (λ why. omega arith)
 
   pub reply_place : place_in (replies m f).answer ≤ seat_count
   reply_place = by_reply m f (λ (o : Outcome). place_in o.answer ≤ seat_count) (λ t k. omega (arith, k.below)) (λ why. omega arith)
@@ -68,9 +63,3 @@ pub reset_is : (row : List Seat) (d : Desk) (tally : List (List ℕ)) (r : Empti
     → CoreReset row d tally (record { row = r.row; answer = desk_answer r.desk (gives 0) }) tally'
 unfolding resets
 reset_is row d tally r tally' l h = rw (eq-eqb (length row) seat_count l) (λ i. record { row = (h.empty i).row; answer = desk_answer (h.empty i).desk (gives 0) }, h.zero)
-
-pub page_wrote : (m : Memory) (out : List ℕ) (a : WriteAnswer) (out' : List ℕ) → PageWritten one m out a out' → PageWrote m out (page_answer (write_told a)) out'
-page_wrote m out a out' h = record { told = ap page_answer h.told; bytes = h.bytes }
-
-pub page_took : (m : Memory) (text : List ℕ) (a : ReadAnswer) (after : Memory) → PageRead one m text (read_told a) after → PageTook m text (read_answer (state_in after) (read_told a)) after
-page_took m text a after h = record { told = read_told a; took = h; answer = refl }

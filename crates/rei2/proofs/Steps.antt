@@ -1,6 +1,5 @@
 -- The calls of `load`, `store` and `put_seat` as steps of a walk, for any function that makes one.
 --     loads        with a `&mut [Seat]` of sixteen owned, a view of it goes to `load`; the row is returned, and the slice comes back as it was
---     reads        a `&[Seat]` of sixteen goes to `load`, and the row is returned
 --     stores       a `&mut [Seat]` of sixteen goes to `store` for good, and the statement of its last list comes back: the row
 --     puts         the same with `put_seat`: the list as it was, with the seat set at its place if it has one
 -- Assumes `Logic`, and that the callee meets its contract.
@@ -83,23 +82,16 @@ module _ {M : Type 1} {𝓤 : Ura M} (𝓛 : Logic 𝓤) (mem : Memory → SProp
   abbrev Own : Fml
   Own = (MutSlice (named 0) κ R).own_val (x γ) (s ∷ [])
 
-  -- a view of the slice, for the lifetime μ, under the name δ
-  abbrev View : Lft → GName → Fml
-  View μ δ = (ShrSlice (named 0) μ R).own_val (x δ) (s ∷ [])
+  -- what `load`'s triple binds outside: the view, for the lifetime ν, under the name δ
+  abbrev to_load : ℕ → GName → (Load 𝓛 mem run).Ghost
+  to_load ν δ = (((ν ∷ [], tt), (full_share, tt), tt, (x δ, tt), (s ∷ [], tt)), tt)
 
-  -- what `load`'s triple binds outside: the view, and a share of its lifetime
-  abbrev to_load : Lft → Share → GName → (Load 𝓛 mem run).Ghost
-  to_load μ p δ = (((μ, tt), (p, tt), tt, (x δ, tt), (s ∷ [], tt)), tt)
+  goes_load : (ν : ℕ) (δ : GName) → ent 𝓤 (sep 𝓤 (A.lft (ν ∷ []) full_share) (sem 𝓛 ((ShrSlice (named 0) (ν ∷ []) R).own_val (x δ) (s ∷ [])))) ((Load 𝓛 mem run).pre (to_load ν δ))
+  goes_load ν δ =
+      qed 𝓛 (‵ (flft (ν ∷ []) full_share) ∷ ‵ ((ShrSlice (named 0) (ν ∷ []) R).own_val (x δ) (s ∷ [])) ∷ []) ∵ says ! full $ nothing ! $ move ! (1 ∷ 0 ∷ []) $ join ! $ frame ! $ nothing ! $ move ! (1 ∷ 0 ∷ []) $ fjoin ! $ done !
 
-  goes_load : (μ : Lft) (p : Share) (δ : GName) → ent 𝓤 (sep 𝓤 (A.lft μ p) (sem 𝓛 (View μ δ))) ((Load 𝓛 mem run).pre (to_load μ p δ))
-  goes_load μ p δ =
-      qed 𝓛 (‵ (flft μ p) ∷ ‵ (View μ δ) ∷ []) ∵ says ! full $ nothing ! $ move ! (1 ∷ 0 ∷ []) $ join ! $ frame ! $ nothing ! $ move ! (1 ∷ 0 ∷ []) $ fjoin ! $ done !
-
-  abbrev Loaded : Lft → GName → List Seat → SProp 𝓤
-  Loaded μ δ r = ensured 𝓛 load'.ended (load'.clauses 𝓛 mem run) (μ, tt) (x δ, tt) tt r
-
-  said_load : (μ : Lft) (δ : GName) (r : List Seat) → ent 𝓤 (Loaded μ δ r) (fact 𝓤 (r ≡ ys))
-  said_load μ δ r = ex_e 𝓤 _ (λ ws. snd∗ 𝓤 (sem 𝓛 (lasts load'.ended (μ, tt) (x δ, tt) ws)) (fact 𝓤 (r ≡ ys)))
+  said_load : (ν : ℕ) (δ : GName) (r : List Seat) → ent 𝓤 (ensured 𝓛 load'.ended (load'.clauses 𝓛 mem run) (ν ∷ [], tt) (x δ, tt) tt r) (fact 𝓤 (r ≡ ys))
+  said_load ν δ r = ex_e 𝓤 _ (λ ws. snd∗ 𝓤 (sem 𝓛 (lasts load'.ended (ν ∷ [], tt) (x δ, tt) ws)) (fact 𝓤 (r ≡ ys)))
 
   module _ {K : Type 0} {Γ : List (Item 𝓤)} {C : Calls 𝓤 H} {Λ : Loops 𝓤 H} {E : Env 𝓤 H} {p : Post 𝓤 H} {f : Name} {xs : List Operand} {d : Place} {rest : Body} where
     pub loads : K → FmC 𝓤 H 𝓛.laws C → Triple 𝓤 (C f) (Load 𝓛 mem run) → ((i j : Item 𝓤) → Opds K 𝓛 (i ∷ j ∷ Γ) E xs (s ∷ []))
@@ -107,28 +99,16 @@ module _ {M : Type 1} {𝓤 : Ura M} (𝓛 : Logic 𝓤) (mem : Memory → SProp
         → Seq K 𝓛 (‵ Own ∷ ‵ (flft κ q) ∷ Γ) (runs C Λ E (seq (call f xs d) rest) p)
     loads t fm known ops k =
         lft_new t tt (λ ν. move t (1 ∷ 2 ∷ []) $
-        use2 𝓛 (later (some (λ (δ : GName). ‵ (View (ν ∷ []) δ) ⊛ ‵ (Viewed R κ (ν ∷ []) q γ b o ys)))) (lends_view R κ (ν ∷ []) q γ b o ys 𝓛 (named 0) (named 0)) $ await t tt $ pick t (λ δ. split t $
-        move t (2 ∷ 0 ∷ []) $ use2 𝓛 (raw ((Load 𝓛 mem run).pre (to_load (ν ∷ []) full_share δ))) (goes_load (ν ∷ []) full_share δ) $
-        calls_at t fm (Load 𝓛 mem run) known (to_load (ν ∷ []) full_share δ) (ops _ _) (λ w.
-        use1 𝓛 (later (some (λ (r : List Seat). ((‵ (flft (ν ∷ []) full_share) ⊛ ‵ ftrue) ⊛ ‵ ((Array R N).own_val r (w ∷ []))) ⊛ raw (Loaded (ν ∷ []) δ r)))) (id⊢ 𝓤 _) $ await t tt $ pick t (λ r.
-        split t $ move t (1 ∷ []) $ use1 𝓛 (raw (fact 𝓤 (r ≡ ys))) (said_load (ν ∷ []) δ r) $ heard t (r ≡ ys) (λ e. split t $ move t (1 ∷ []) $
+        use2 𝓛 (later (some (λ (δ : GName). ‵ ((ShrSlice (named 0) (ν ∷ []) R).own_val (x δ) (s ∷ [])) ⊛ ‵ (Viewed R κ (ν ∷ []) q γ b o ys)))) (lends_view R κ (ν ∷ []) q γ b o ys 𝓛 (named 0) (named 0)) $ await t tt $ pick t (λ δ. split t $
+        move t (2 ∷ 0 ∷ []) $ use2 𝓛 (raw ((Load 𝓛 mem run).pre (to_load ν δ))) (goes_load ν δ) $
+        calls_at t fm (Load 𝓛 mem run) known (to_load ν δ) (ops _ _) (λ w.
+        use1 𝓛 (later (some (λ (r : List Seat). ((‵ (flft (ν ∷ []) full_share) ⊛ ‵ ftrue) ⊛ ‵ ((Array R N).own_val r (w ∷ []))) ⊛ raw (ensured 𝓛 load'.ended (load'.clauses 𝓛 mem run) (ν ∷ [], tt) (x δ, tt) tt r)))) (id⊢ 𝓤 _) $ await t tt $ pick t (λ r.
+        split t $ move t (1 ∷ []) $ use1 𝓛 (raw (fact 𝓤 (r ≡ ys))) (said_load ν δ r) $ heard t (r ≡ ys) (λ e. split t $ move t (1 ∷ []) $
         rewrite t 0 (λ (l : List Seat). ‵ ((Array R N).own_val l (w ∷ []))) e refl $ facts t (Array R N) (Is (Array R N)) (shows 𝓛 (Array R N)) ys (w ∷ []) (λ is.
         -- the lifetime is ended, and the slice comes back
         split t $ lft_end t tt $ move t (0 ∷ 2 ∷ []) $ use2 𝓛 (later (‵ Own ⊛ ‵ (flft κ q))) (view_back R κ (ν ∷ []) q γ b o ys 𝓛 (named 0) (named 0) room) $ await t tt $ split t $
         move t (2 ∷ []) $ drop t $ regoal t (λ (u : Val). lands C Λ E d u rest p) (ap only (Array-Tells R spell (LL.tells T.the_type T'.the_laws) N ys (w ∷ []) is)) refl $
         k (subst (Is (Array R N) ys) (Array-Tells R spell (LL.tells T.the_type T'.the_laws) N ys (w ∷ []) is) is)))))))
-
-    pub reads : K → FmC 𝓤 H 𝓛.laws C → Triple 𝓤 (C f) (Load 𝓛 mem run) → ((i : Item 𝓤) → Opds K 𝓛 (i ∷ Γ) E xs (s ∷ []))
-        → (Is (Array R N) ys (array_vals spell ys) → Seq K 𝓛 (‵ (flft κ q) ∷ Γ) (lands C Λ E d (row_val ys) rest p))
-        → Seq K 𝓛 (‵ (View κ γ) ∷ ‵ (flft κ q) ∷ Γ) (runs C Λ E (seq (call f xs d) rest) p)
-    reads t fm known ops k =
-        move t (1 ∷ 0 ∷ []) $ use2 𝓛 (raw ((Load 𝓛 mem run).pre (to_load κ q γ))) (goes_load κ q γ) $
-        calls_at t fm (Load 𝓛 mem run) known (to_load κ q γ) (ops _) (λ w.
-        use1 𝓛 (later (some (λ (r : List Seat). ((‵ (flft κ q) ⊛ ‵ ftrue) ⊛ ‵ ((Array R N).own_val r (w ∷ []))) ⊛ raw (Loaded κ γ r)))) (id⊢ 𝓤 _) $ await t tt $ pick t (λ r.
-        split t $ move t (1 ∷ []) $ use1 𝓛 (raw (fact 𝓤 (r ≡ ys))) (said_load κ γ r) $ heard t (r ≡ ys) (λ e. split t $ move t (1 ∷ []) $
-        rewrite t 0 (λ (l : List Seat). ‵ ((Array R N).own_val l (w ∷ []))) e refl $ facts t (Array R N) (Is (Array R N)) (shows 𝓛 (Array R N)) ys (w ∷ []) (λ is.
-        split t $ move t (1 ∷ []) $ drop t $ regoal t (λ (u : Val). lands C Λ E d u rest p) (ap only (Array-Tells R spell (LL.tells T.the_type T'.the_laws) N ys (w ∷ []) is)) refl $
-        k (subst (Is (Array R N) ys) (Array-Tells R spell (LL.tells T.the_type T'.the_laws) N ys (w ∷ []) is) is)))))
 
   module _ (rs : List Seat) (is_row : Is (Array R N) rs (array_vals spell rs)) where
     abbrev to_store : (Store 𝓛 mem run).Ghost
@@ -152,7 +132,7 @@ module _ {M : Type 1} {𝓤 : Ura M} (𝓛 : Logic 𝓤) (mem : Memory → SProp
           move t (3 ∷ []) $ split t $ split t $ move t (2 ∷ []) $ feq_l t (λ is. regoal t (λ (u : Val). lands C Λ E d u rest p) (ap only is) refl $
           move t (1 ∷ 3 ∷ 4 ∷ []) $ drop t $ drop t $ drop t $ move t (1 ∷ 0 ∷ []) $ k))))))
 
-  module _ (i : ℕ) (v : Seat) (fits : i < 2 ^ 64) (is_seat : Is R v (spell v)) where
+  module _ (i : ℕ) (v : Seat) (fits : i < 2 ^ 64) (is-seat : Is R v (spell v)) where
     abbrev seat_val : Val
     seat_val = LL.val T.the_type T'.the_laws v
 
@@ -162,7 +142,7 @@ module _ {M : Type 1} {𝓤 : Ura M} (𝓛 : Logic 𝓤) (mem : Memory → SProp
     goes_put : ent 𝓤 (sep 𝓤 (sem 𝓛 Own) (A.lft κ q)) ((Put 𝓛 mem run).pre to_put)
     goes_put =
         qed 𝓛 (‵ Own ∷ ‵ (flft κ q) ∷ []) ∵ suffices ! _ (∗emp 𝓤 _) $ nothing ! $ move ! (2 ∷ 0 ∷ []) $ join ! $ frame ! $
-        nothing ! $ owned ! R (Is R) (LL.makes T.the_type T'.the_plain 𝓛) v _ is_seat $ fjoin ! $ owned ! usize (Is usize) (uint_Makes 𝓛 w64) i _ (refl, fits) $ fjoin ! $ move ! (1 ∷ 0 ∷ []) $ fjoin ! $ done !
+        nothing ! $ owned ! R (Is R) (LL.makes T.the_type T'.the_plain 𝓛) v _ is-seat $ fjoin ! $ owned ! usize (Is usize) (uint_Makes 𝓛 w64) i _ (refl, fits) $ fjoin ! $ move ! (1 ∷ 0 ∷ []) $ fjoin ! $ done !
 
     module _ {K : Type 0} {Γ : List (Item 𝓤)} {C : Calls 𝓤 H} {Λ : Loops 𝓤 H} {E : Env 𝓤 H} {p : Post 𝓤 H} {f : Name} {xs : List Operand} {d : Place} {rest : Body} where
       pub puts : K → FmC 𝓤 H 𝓛.laws C → Triple 𝓤 (C f) (Put 𝓛 mem run) → ((j : Item 𝓤) → Opds K 𝓛 (j ∷ Γ) E xs (s ∷ vint w64 i ∷ seat_val ∷ []))

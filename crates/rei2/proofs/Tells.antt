@@ -1,16 +1,14 @@
 -- 0 exactly if the call was done, and no two answers have the same numbers. Assumes nothing.
-use Prim.Native.Nat.{ℕ, ◌≤◌}
-use mathlib.Core.Bool.{true, not, ◌&&◌}
-use mathlib.Core.List.{List}
+use Prim.Native.Nat.{ℕ}
+use mathlib.Core.Bool.{not, ◌&&◌}
 use mathlib.Core.Path.{◌≡◌, refl, ap, ◌∙◌}
 use native.Mathlib.Omega.{arith}
-use borrow.Author.Tests.{ne_eqb}
 use lib.ListN.{length}
 use lib.Dec.{eqb, leb, ltb}
 use lib.IntN.{pos, ◌-ℤ◌}
-use Rattle.digits.specs.Refusals.{RECORD, ROOM, TIME, DESK, NO_SUCH, PAGE, is_refusal}
+use Rattle.digits.specs.Refusals.{RECORD, ROOM, TIME, DESK, NO_SUCH}
 use Rattle.digits.specs.Told.{Told, gives, refuses, Sure}
-use Rattle.digits.proofs.Sure.{never_0, sure_refuses, sure_gives, sure_tried}
+use Rattle.digits.proofs.Sure.{never_0, sure_gives, sure_tried}
 use Rattle.times.specs.declared.running.RunningOf.{RunningOf}
 use Rattle.times.specs.Running.{in_range, taux, running_time}
 use Rattle.finder.specs.Pieces.{pieces}
@@ -20,12 +18,8 @@ use Rattle.listing.specs.Listing.{fits, list_of}
 use Rattle.frames.specs.Kind.{write_tried}
 use Rattle.frames.proofs.Places.{sure_request, sure_reply, sure_dynamic}
 use Rattle.desk.proofs.SureLaws.{sure_resets, sure_opens, sure_replies}
-use Rattle.page.specs.Version.{one, showable}
-use Rattle.page.specs.Page.{page}
-use Rattle.page.specs.Writing as Page
-use Rattle.page.specs.Reading.{PageRead, not_read, no_room, read}
 use Rattle.rei2.specs.Numbers.{number_in, offset_in, spoiled_in, value_in}
-use Rattle.desk.specs.Memory.{Memory, memory}
+use Rattle.desk.specs.Memory.{memory}
 use Rattle.desk.specs.Tally.{Table, entry_of, looks}
 use Rattle.frames.specs.Reply.{is_letter}
 use Rattle.frames.specs.Status.{is_status}
@@ -51,19 +45,6 @@ sure_looks : (t : Table) (letter status : ℕ) → Sure (looks t letter status)
 unfolding looks
 sure_looks t letter status = sure_tried (is_letter letter && is_status status) NO_SUCH _ (λ _. refl) (sure_gives (entry_of t letter status))
 
-sure_writing_page : (m : Memory) (out : List ℕ) → Sure (Page.write_tried one m out)
-unfolding Page.write_tried
-sure_writing_page m out =
-    sure_tried (showable one m) DESK _ (λ _. refl) (sure_tried (leb (length (page one m)) (length out)) ROOM _ (λ _. refl) (sure_gives (length (page one m))))
-
-page_is_one : (n : ℕ) → 1 ≤ n → is_refusal (PAGE n) ≡ true
-page_is_one n l = rw (ne_eqb n 0 (λ e. let z : n ≡ 0 = e in omega (arith, l, z)))
-
-sure_reading_page : (m m' : Memory) (text : List ℕ) (t : Told (Unit {0})) → PageRead one m text t m' → Sure t
-sure_reading_page m _ text _ (not_read n none line) = sure_refuses (PAGE n) (page_is_one n line.from_one)
-sure_reading_page m _ text _ (no_room d w h) = sure_refuses ROOM refl
-sure_reading_page m _ text _ (read d w h) = sure_gives tt
-
 pub numbers_tell : NumbersTell
 numbers_tell = record {
   reading_request = sure_request;
@@ -78,8 +59,6 @@ numbers_tell = record {
   look = λ t letter status. sure_looks t letter status;
   naming = λ name out. sure_tried (ltb (length name) (length out)) ROOM _ (λ _. refl) (sure_gives tt);
   listing = λ cells marks s out. sure_tried (fits cells marks s out) ROOM _ (λ _. refl) (sure_gives (length (list_of cells marks s)));
-  writing_page = sure_writing_page;
-  reading_page = sure_reading_page;
   request_refused = λ f. refl;
   reply_refused_holds = λ f. refl;
   dynamic_refused = λ f. refl;

@@ -218,7 +218,7 @@ pub record Looked : Type 0 where
 -- ---- what a host must lend
 
 pub record Lends : Type 0 where
-  pub limits_are : limits ≡ record { seats = 16; cells = 13056; marks = 256; cell_size = 51; letters = 33; statuses = 3; most_input = 32768; longest_list = 14687; longest_page = 13522 }
+  pub limits_are : limits ≡ record { seats = 16; cells = 13056; marks = 256; cell_size = 51; letters = 33; statuses = 3; most_input = 32768; longest_list = 14687 }
 
 pub record Worked : Type 0 where
   pub frames_found : FramesFound

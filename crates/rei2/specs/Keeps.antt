@@ -8,7 +8,7 @@ use Rattle.rei2.specs.declared.lent.CapturedAnswer.{CapturedAnswer}
 use Rattle.rei2.specs.declared.request.WrittenAnswer.{WrittenAnswer}
 use Rattle.rei2.specs.declared.reply.ReplyRecord.{ReplyRecord}
 use Rattle.rei2.specs.declared.listed.ListedAnswer.{ListedAnswer}
-use Rattle.rei2.specs.Lent.{ResetLent, OpenLent, ReplyLent, CaptureLent, WritePageLent, ReadPageLent}
+use Rattle.rei2.specs.Lent.{ResetLent, OpenLent, ReplyLent, CaptureLent}
 use Rattle.rei2.specs.Frames.{WroteLent}
 use Rattle.rei2.specs.Reply.{WroteReplyLent}
 use Rattle.rei2.specs.Calls.{ListLent}
@@ -39,11 +39,6 @@ module _ (seats : List Seat) (desk : Desk) where
         (r : CapturedAnswer) (seats' : List Seat) (cells' marks' : List ℕ) (tally' : List (List ℕ)) → CaptureLent seats desk cells marks tally capture r seats' cells' marks' tally' → Refusing r.refusal
         → (r.desk ≡ desk) × ((seats' ≡ seats) × ((cells' ≡ cells) × ((marks' ≡ marks) × (tally' ≡ tally))))
 
-    abbrev pub ReadPageKeeps : List ℕ → Type 0
-    ReadPageKeeps text =
-        (r : DeskAnswer) (seats' : List Seat) (cells' marks' : List ℕ) (tally' : List (List ℕ)) → ReadPageLent seats desk cells marks tally text r seats' cells' marks' tally' → Refusing r.refusal
-        → (r.desk ≡ desk) × ((seats' ≡ seats) × ((cells' ≡ cells) × ((marks' ≡ marks) × (tally' ≡ tally))))
-
 abbrev pub WriteKeeps : (List ℕ → WrittenAnswer → List ℕ → Type 0) → Type 0
 WriteKeeps Promised = (out : List ℕ) (answer : WrittenAnswer) (out' : List ℕ) → Promised out answer out' → Refusing answer.refusal → out' ≡ out
 
@@ -52,8 +47,6 @@ pub record RefusedKeeps : Type 1 where
   pub opening : (seats : List Seat) (desk : Desk) (cells marks : List ℕ) (tally : List (List ℕ)) (frame : List ℕ) → OpenKeeps seats desk cells marks tally frame
   pub reply : (seats : List Seat) (desk : Desk) (cells marks : List ℕ) (tally : List (List ℕ)) (frame : List ℕ) → ReplyKeeps seats desk cells marks tally frame
   pub capture : (seats : List Seat) (desk : Desk) (cells marks : List ℕ) (tally : List (List ℕ)) (capture : List ℕ) → CaptureKeeps seats desk cells marks tally capture
-  pub reading_page : (seats : List Seat) (desk : Desk) (cells marks : List ℕ) (tally : List (List ℕ)) (text : List ℕ) → ReadPageKeeps seats desk cells marks tally text
-  pub writing_page : (seats : List Seat) (desk : Desk) (cells marks : List ℕ) (tally : List (List ℕ)) → WriteKeeps (WritePageLent seats desk cells marks tally)
   -- of a request, and of a dynamic request
   pub writing : {R : Type 0} (k : Kind R) (r : R) → WriteKeeps (WroteLent k r)
   pub writing_reply : (c : ReplyRecord) → WriteKeeps (WroteReplyLent c)

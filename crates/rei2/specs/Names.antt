@@ -1,6 +1,6 @@
 -- The names of refusals, as a host prints them.
 use Rattle.std.specs.Prelude.{ℕ, suc, ◌≤◌, ◌<◌, List, [], ◌∷◌, ◌++◌, ◌≡◌, length, get_or, ltb}
-use Rattle.digits.specs.Refusals.{KIND, LENGTH, END, ADDRESS, FIELD, RECORD, ROOM, TIME, DESK, NO_ANSWER_DUE, IN_USE, NO_SEAT, STRAY, ENDED, OUT_OF_PLACE, FULL, NO_SUCH, PAGE}
+use Rattle.digits.specs.Refusals.{KIND, LENGTH, END, ADDRESS, FIELD, RECORD, ROOM, TIME, DESK, NO_ANSWER_DUE, IN_USE, NO_SEAT, STRAY, ENDED, OUT_OF_PLACE, FULL, NO_SUCH}
 use Rattle.digits.specs.Told.{Told, gives, tried}
 use Rattle.digits.specs.Text.{codes}
 use Rattle.frames.specs.Kind.{output_after}
@@ -28,7 +28,6 @@ names =
     ∷ codes "OUT OF PLACE"
     ∷ codes "FULL"
     ∷ codes "NO SUCH"
-    ∷ codes "PAGE"
     ∷ []
 
 -- any other number has the name UNKNOWN
@@ -55,8 +54,7 @@ pub record NamesTell : Type 0 where
   pub out_of_place : name_of OUT_OF_PLACE.number ≡ codes "OUT OF PLACE"
   pub full : name_of FULL.number ≡ codes "FULL"
   pub no_such : name_of NO_SUCH.number ≡ codes "NO SUCH"
-  pub page : (line : ℕ) → name_of (PAGE line).number ≡ codes "PAGE"
-  pub others : (n : ℕ) → 19 ≤ n → name_of n ≡ codes "UNKNOWN"
+  pub others : (n : ℕ) → 18 ≤ n → name_of n ≡ codes "UNKNOWN"
 
 -- ---- a name on an output, followed by a zero byte
 

@@ -1,4 +1,4 @@
--- What is demanded of the numbers. The refusal is 0 exactly if the call was done. Otherwise it is one of the table; only 5 and 6 have an offset, 18 has the number of a line in its place, and only 5 has a spoiled byte.
+-- What is demanded of the numbers. The refusal is 0 exactly if the call was done. Otherwise it is one of the table; only 5 and 6 have an offset, and only 5 has a spoiled byte.
 -- Refusal, offset, spoiled byte and value together tell any two answers apart.
 use Rattle.std.specs.Prelude.{ℕ, List, true, ◌≡◌}
 use Rattle.digits.specs.declared.refusal.Refusal.{Refusal}
@@ -16,9 +16,6 @@ use Rattle.desk.specs.Desk.{is_desk}
 use Rattle.desk.specs.Calls.{resets, opens, replies}
 use Rattle.desk.specs.Capture.{captures}
 use Rattle.desk.specs.Tally.{Table, looks}
-use Rattle.page.specs.Version.{one}
-use Rattle.page.specs.Writing as Page
-use Rattle.page.specs.Reading.{PageRead}
 use Rattle.listing.specs.Listing.{listed}
 use Rattle.rei2.specs.Names.{name_tried}
 use Rattle.rei2.specs.Frames.{zero_request, request_answer, zero_dynamic, dynamic_answer}
@@ -40,8 +37,6 @@ pub record NumbersTell : Type 1 where
   pub look : (t : Table) (letter status : ℕ) → Sure (looks t letter status)
   pub naming : (name out : List ℕ) → Sure (name_tried name out)
   pub listing : (cells marks s out : List ℕ) → Sure (listed cells marks s out)
-  pub writing_page : (m : Memory) (out : List ℕ) → Sure (Page.write_tried one m out)
-  pub reading_page : (m m' : Memory) (text : List ℕ) (t : Told (Unit {0})) → PageRead one m text t m' → Sure t
   -- with a refusal all its numbers are handed on, and the rest of the answer is zero
   pub request_refused : (f : Refusal) → request_answer (refuses f) ≡ record { refusal = f.number; offset = f.offset; spoiled = f.spoiled; request = zero_request }
   pub reply_refused_holds : (f : Refusal) → reply_answer (refuses f) ≡ record { refusal = f.number; offset = f.offset; spoiled = f.spoiled; reply = shown zero_reply }

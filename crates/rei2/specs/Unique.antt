@@ -12,7 +12,7 @@ use Rattle.rei2.specs.declared.lent.CapturedAnswer.{CapturedAnswer}
 use Rattle.rei2.specs.declared.request.WrittenAnswer.{WrittenAnswer}
 use Rattle.rei2.specs.declared.reply.ReplyRecord.{ReplyRecord}
 use Rattle.rei2.specs.declared.listed.ListedAnswer.{ListedAnswer}
-use Rattle.rei2.specs.Lent.{ResetLent, OpenLent, ReplyLent, CaptureLent, WritePageLent, ReadPageLent}
+use Rattle.rei2.specs.Lent.{ResetLent, OpenLent, ReplyLent, CaptureLent}
 use Rattle.rei2.specs.Frames.{WroteLent}
 use Rattle.rei2.specs.Reply.{WroteReplyLent}
 use Rattle.rei2.specs.Calls.{ListLent}
@@ -26,10 +26,6 @@ pub record OneOutcome : Type 0 where
       → Once λ (o : DeskAnswer × (List Seat × (List ℕ × (List ℕ × List (List ℕ))))). ReplyLent seats desk cells marks tally frame o.0 o.1.0 o.1.1.0 o.1.1.1.0 o.1.1.1.1
   pub rei2_capture : (seats : List Seat) (desk : Desk) (cells marks : List ℕ) (tally : List (List ℕ)) (capture : List ℕ)
       → Once λ (o : CapturedAnswer × (List Seat × (List ℕ × (List ℕ × List (List ℕ))))). CaptureLent seats desk cells marks tally capture o.0 o.1.0 o.1.1.0 o.1.1.1.0 o.1.1.1.1
-  pub rei2_write_page : (seats : List Seat) (desk : Desk) (cells marks : List ℕ) (tally : List (List ℕ)) (out : List ℕ)
-      → Once λ (o : WrittenAnswer × List ℕ). WritePageLent seats desk cells marks tally out o.0 o.1
-  pub rei2_read_page : (seats : List Seat) (desk : Desk) (cells marks : List ℕ) (tally : List (List ℕ)) (text : List ℕ)
-      → Once λ (o : DeskAnswer × (List Seat × (List ℕ × (List ℕ × List (List ℕ))))). ReadPageLent seats desk cells marks tally text o.0 o.1.0 o.1.1.0 o.1.1.1.0 o.1.1.1.1
   pub rei2_write_request : (r : StaticRequest) (out : List ℕ) → Once λ (o : WrittenAnswer × List ℕ). WroteLent request r out o.0 o.1
   pub rei2_write_reply : (c : ReplyRecord) (out : List ℕ) → Once λ (o : WrittenAnswer × List ℕ). WroteReplyLent c out o.0 o.1
   pub rei2_write_dynamic : (r : DynamicRequest) (out : List ℕ) → Once λ (o : WrittenAnswer × List ℕ). WroteLent dynamic r out o.0 o.1

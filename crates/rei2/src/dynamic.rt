@@ -10,7 +10,7 @@ use frames::refusals::of_reading;
 
 // The record is all zero if the frame was refused.
 #[repr(C)]
-#[derive(Drop)]
+#[derive(Clone, Copy)]
 pub struct DynamicAnswer {
     pub refusal: u32,
     pub offset: u32,

@@ -8,7 +8,7 @@ use finder::{Cursor, Found, next};
 // `kind` is 1 for a whole frame, 2 for a cut one, 0 for none. The frame is the bytes from start up to end; both are 0 if there is none.
 // The next call starts at `next`, which is the length of the capture if nothing is left.
 #[repr(C)]
-#[derive(Drop)]
+#[derive(Clone, Copy)]
 pub struct FrameAnswer {
     pub kind: u32,
     pub start: usize,

@@ -9,7 +9,7 @@ use desk::state::{Desk, capacity, seats_in_use};
 
 // 1 and the cell, or 0 and 0 if there is none.
 #[repr(C)]
-#[derive(Drop)]
+#[derive(Clone, Copy)]
 pub struct CellAnswer {
     pub found: u32,
     pub cell: usize,

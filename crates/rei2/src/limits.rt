@@ -5,13 +5,11 @@ ghost use Rattle.rei2.specs.Limits.{limits};
 use desk::limits::{CELL_SIZE, CELLS, SEATS, STORE};
 use frames::reply::{LETTERS, STATUSES};
 use listing::{LONGEST_LIST, MOST_INPUT};
-use page::write::LONGEST_PAGE;
 
 // The seats of a row; the bytes of cells and the marks that the largest desk uses (any more are left alone); the bytes of a cell; the rows of the tally, one
-// for each letter, and the numbers of a row, one for each status; the length of the longest capture that is listed; and the lengths of an output that has room
-// for every list and of one that has room for every page.
+// for each letter, and the numbers of a row, one for each status; the length of the longest capture that is listed; and the length of an output that has room for every list.
 #[repr(C)]
-#[derive(Drop)]
+#[derive(Clone, Copy)]
 pub struct LimitsAnswer {
     pub seats: usize,
     pub cells: usize,
@@ -21,7 +19,6 @@ pub struct LimitsAnswer {
     pub statuses: usize,
     pub most_input: usize,
     pub longest_list: usize,
-    pub longest_page: usize,
 }
 
 #[unsafe(no_mangle)]
@@ -37,6 +34,5 @@ pub extern "C" fn rei2_limits() -> LimitsAnswer
         statuses: STATUSES,
         most_input: MOST_INPUT,
         longest_list: LONGEST_LIST,
-        longest_page: LONGEST_PAGE,
     }
 }

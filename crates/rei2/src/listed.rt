@@ -6,7 +6,7 @@ use listing::{ListAnswer, list};
 
 // The size of the list, 0 if it was not written.
 #[repr(C)]
-#[derive(Drop)]
+#[derive(Clone, Copy)]
 pub struct ListedAnswer {
     pub refusal: u32,
     pub size: usize,

@@ -1,7 +1,7 @@
 // A look at the tally.
 ghost use Rattle.std.specs.Prelude.{◌≡◌};
 ghost use Rattle.desk.specs.Tally.{looks};
-ghost use Rattle.rei2.specs.Look.{lookAnswer};
+ghost use Rattle.rei2.specs.Look.{look_answer};
 
 use desk::tally::{LookAnswer, look};
 use digits::refusal as table;
@@ -9,7 +9,7 @@ use frames::reply::{LETTERS, STATUSES};
 
 // The refusal, 0 if there is such a letter and such a status; and how many records are held with them, 0 if refused.
 #[repr(C)]
-#[derive(Drop)]
+#[derive(Clone, Copy)]
 pub struct LookedAnswer {
     pub refusal: u32,
     pub held: u32,
@@ -21,7 +21,7 @@ pub extern "C" fn rei2_look(
     letter: u8,
     status: u8,
 ) -> LookedAnswer
-    ensures { result ≡ lookAnswer (looks tally.now letter status) }
+    ensures { result ≡ look_answer (looks tally.now letter status) }
 {
     match look(tally, letter, status) {
         LookAnswer::Held(held) => LookedAnswer { refusal: 0, held },

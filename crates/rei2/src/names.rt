@@ -30,7 +30,6 @@ pub extern "C" fn rei2_refusal_name(refusal: u32, out: &mut [u8]) -> WrittenAnsw
         table::OUT_OF_PLACE => put_name(out, b"OUT OF PLACE"),
         table::FULL => put_name(out, b"FULL"),
         table::NO_SUCH => put_name(out, b"NO SUCH"),
-        table::PAGE => put_name(out, b"PAGE"),
         _ => put_name(out, b"UNKNOWN"),
     }
 }

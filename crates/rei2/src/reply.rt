@@ -1,9 +1,9 @@
 // The static reply: read from a lent frame, written to lent bytes. Its timing is a code and numbers, since C has no enum that holds values.
 ghost use Rattle.std.specs.Prelude.{◌≡◌};
 ghost use Rattle.frames.specs.Kind.{read};
-ghost use Rattle.frames.specs.Reply.{reply, zeroReply};
-ghost use Rattle.rei2.specs.Reply.{numbersOf, timingOf, isNothing, noDate, leftOver, shown, recordOf, replyAnswer, WroteReplyLent};
-ghost use Rattle.rei2.specs.inside.Left.{roomIn, orLeft};
+ghost use Rattle.frames.specs.Reply.{reply, zero_reply};
+ghost use Rattle.rei2.specs.Reply.{numbers_of, timing_of, is_nothing, no_date, left_over, shown, record_of, reply_answer, WroteReplyLent};
+ghost use Rattle.rei2.specs.inside.Left.{room_in, or_left};
 
 use crate::request::{WrittenAnswer, written};
 use digits::refusal as table;
@@ -23,7 +23,7 @@ const LEFT_AT: u32 = field::END as u32;
 
 // A timing in numbers: its code; ticks, day, month and year of a clock; the ticks of a net value. What a kind does not use is 0.
 #[repr(C)]
-#[derive(Drop)]
+#[derive(Clone, Copy)]
 pub struct TimingNumbers {
     pub kind: u32,
     pub ticks: u32,
@@ -34,7 +34,7 @@ pub struct TimingNumbers {
 }
 
 #[repr(C)]
-#[derive(Drop)]
+#[derive(Clone, Copy)]
 pub struct ReplyRecord {
     pub head: ReplyHead,
     pub timing: TimingNumbers,
@@ -45,7 +45,7 @@ pub struct ReplyRecord {
 
 // The record is all zero if the frame was refused.
 #[repr(C)]
-#[derive(Drop)]
+#[derive(Clone, Copy)]
 pub struct ReplyAnswer {
     pub refusal: u32,
     pub offset: u32,
@@ -55,7 +55,7 @@ pub struct ReplyAnswer {
 
 #[unsafe(no_mangle)]
 pub extern "C" fn rei2_read_reply(frame: &[u8]) -> ReplyAnswer
-    ensures { result ≡ replyAnswer (read reply frame.now) }
+    ensures { result ≡ reply_answer (read reply frame.now) }
 {
     let read = read_reply(frame);
     let verdict = read.verdict;
@@ -92,7 +92,7 @@ pub extern "C" fn rei2_write_reply(record: ReplyRecord, out: &mut [u8]) -> Writt
 
 // A record with a number left over must not be written. It is tried without room: ROOM then means that nothing else is wrong in it.
 fn room_in(left: bool, size: usize) -> usize
-    ensures { result ≡ roomIn left size }
+    ensures { result ≡ room_in left size }
 {
     if left {
         return 0;
@@ -101,7 +101,7 @@ fn room_in(left: bool, size: usize) -> usize
 }
 
 fn or_left(left: bool, answer: WrittenAnswer) -> WrittenAnswer
-    ensures { result ≡ orLeft left answer }
+    ensures { result ≡ or_left left answer }
 {
     if left & (answer.refusal == table::ROOM) {
         return WrittenAnswer {
@@ -115,7 +115,7 @@ fn or_left(left: bool, answer: WrittenAnswer) -> WrittenAnswer
 
 // The record that comes with a refusal. It is made here, since a copy of the reader's record would have to wait until that is stored.
 fn no_reply() -> ReplyRecord
-    ensures { result ≡ shown zeroReply }
+    ensures { result ≡ shown zero_reply }
 {
     ReplyRecord {
         head: ReplyHead {
@@ -149,7 +149,7 @@ fn no_reply() -> ReplyRecord
 // ---- the timing in numbers, and back
 
 fn numbers_of(timing: Timing) -> TimingNumbers
-    ensures { result ≡ numbersOf timing }
+    ensures { result ≡ numbers_of timing }
 {
     match timing {
         Timing::Clock {
@@ -186,7 +186,7 @@ fn numbers_of(timing: Timing) -> TimingNumbers
 
 // A code that is none of the three becomes a time that is none. Every kind refuses it, at the time's offset.
 fn timing_of(n: TimingNumbers) -> Timing
-    ensures { result ≡ timingOf n }
+    ensures { result ≡ timing_of n }
 {
     if n.kind == RAW {
         return Timing::Raw;
@@ -212,7 +212,7 @@ fn timing_of(n: TimingNumbers) -> Timing
 
 // Whether a number that the timing does not use is not 0.
 fn left_over(n: TimingNumbers) -> bool
-    ensures { result ≡ leftOver n }
+    ensures { result ≡ left_over n }
 {
     let nothing = is_nothing(n.net);
     let dateless = no_date(n);
@@ -226,13 +226,13 @@ fn left_over(n: TimingNumbers) -> bool
 }
 
 fn is_nothing(v: i64) -> bool
-    ensures { result ≡ isNothing v }
+    ensures { result ≡ is_nothing v }
 {
     v == 0
 }
 
 fn no_date(n: TimingNumbers) -> bool
-    ensures { result ≡ noDate n }
+    ensures { result ≡ no_date n }
 {
     (n.ticks == 0) & (n.day == 0) & (n.month == 0) & (n.year == 0)
 }
@@ -257,7 +257,7 @@ fn shown(r: StaticReply) -> ReplyRecord
 }
 
 fn record_of(r: ReplyRecord) -> StaticReply
-    ensures { result ≡ recordOf r }
+    ensures { result ≡ record_of r }
 {
     let head = r.head;
     let timing = r.timing;

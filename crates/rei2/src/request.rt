@@ -2,15 +2,15 @@
 ghost use Rattle.std.specs.Prelude.{◌≡◌};
 ghost use Rattle.frames.specs.Kind.{read};
 ghost use Rattle.frames.specs.Request.{request};
-ghost use Rattle.frames.specs.Refusals.{writeTold};
-ghost use Rattle.rei2.specs.Frames.{requestAnswer, zeroRequest, writtenAnswer, WroteLent};
+ghost use Rattle.frames.specs.Refusals.{write_told};
+ghost use Rattle.rei2.specs.Frames.{request_answer, zero_request, written_answer, WroteLent};
 
 use frames::refusals::{WriteAnswer, of_reading, of_writing};
 use frames::request::{REQUEST_SIZE, RequestRead, StaticRequest, read_request, write_request};
 
 // The record is all zero if the frame was refused.
 #[repr(C)]
-#[derive(Drop)]
+#[derive(Clone, Copy)]
 pub struct RequestAnswer {
     pub refusal: u32,
     pub offset: u32,
@@ -20,7 +20,7 @@ pub struct RequestAnswer {
 
 // The size of the frame, 0 if it was not written.
 #[repr(C)]
-#[derive(Drop)]
+#[derive(Clone, Copy)]
 pub struct WrittenAnswer {
     pub refusal: u32,
     pub offset: u32,
@@ -29,7 +29,7 @@ pub struct WrittenAnswer {
 
 #[unsafe(no_mangle)]
 pub extern "C" fn rei2_read_request(frame: &[u8]) -> RequestAnswer
-    ensures { result ≡ requestAnswer (read request frame.now) }
+    ensures { result ≡ request_answer (read request frame.now) }
 {
     match read_request(frame) {
         // Copied part by part: a copy of the whole record would have to wait until its parts are stored.
@@ -70,7 +70,7 @@ pub extern "C" fn rei2_write_request(record: StaticRequest, out: &mut [u8]) -> W
 }
 
 pub(crate) fn written(answer: WriteAnswer, size: usize) -> WrittenAnswer
-    ensures { result ≡ writtenAnswer size (writeTold answer) }
+    ensures { result ≡ written_answer size (write_told answer) }
 {
     match answer {
         WriteAnswer::Written => WrittenAnswer {
@@ -90,7 +90,7 @@ pub(crate) fn written(answer: WriteAnswer, size: usize) -> WrittenAnswer
 }
 
 fn no_request() -> StaticRequest
-    ensures { result ≡ zeroRequest }
+    ensures { result ≡ zero_request }
 {
     StaticRequest {
         address: 0,

@@ -1,14 +1,14 @@
 // Running time.
 ghost use Rattle.std.specs.Prelude.{◌≡◌};
-ghost use Rattle.times.specs.Running.{runningTime};
-ghost use Rattle.rei2.specs.Calls.{runningAnswer};
+ghost use Rattle.times.specs.Running.{running_time};
+ghost use Rattle.rei2.specs.Calls.{running_answer};
 
 use digits::refusal as table;
 use times::running::{Running, RunningOf, running_time};
 
 // The ticks are 0 if the running time was refused.
 #[repr(C)]
-#[derive(Drop)]
+#[derive(Clone, Copy)]
 pub struct RunningAnswer {
     pub refusal: u32,
     pub ticks: i64,
@@ -16,7 +16,7 @@ pub struct RunningAnswer {
 
 #[unsafe(no_mangle)]
 pub extern "C" fn rei2_running_time(of: RunningOf) -> RunningAnswer
-    ensures { result ≡ runningAnswer (runningTime of) }
+    ensures { result ≡ running_answer (running_time of) }
 {
     match running_time(of) {
         Running::Ticks(ticks) => RunningAnswer { refusal: 0, ticks },

@@ -69,14 +69,14 @@ pub fn replying(
     let row_after = a.row;
     print_said(reply_said(answer), desk_after);
     print_seats(row, row_after);
-    print_changed(b" cells ", &cells_before, cells);
+    print_cells(&cells_before, cells);
     print_marks(&marks_before, marks);
     tally_asked::print_changes(tally_before, tally);
     print::end_line();
     with(script, desk_after, row_after)
 }
 
-pub fn print_said(said: Said, desk: Desk) {
+fn print_said(said: Said, desk: Desk) {
     print_told(said.told);
     print::space();
     print::decimal(said.seat as u64);
@@ -84,7 +84,7 @@ pub fn print_said(said: Said, desk: Desk) {
     print::pair(desk.bits, desk.count as u64);
 }
 
-pub fn print_seats(before: [Seat; SEATS], row: [Seat; SEATS]) {
+fn print_seats(before: [Seat; SEATS], row: [Seat; SEATS]) {
     let mut i: usize = 0;
     while i < SEATS {
         print_seat(i, before[i], row[i]);
@@ -113,21 +113,20 @@ fn same_seat(a: Seat, b: Seat) -> bool {
         & (a.ended == b.ended)
 }
 
-// The bytes from the first that differs to the last, with the word for them.
-pub fn print_changed(word: &[u8], before: &[u8], after: &[u8]) {
-    let span = changed_bytes(before, after);
+fn print_cells(before: &[u8], cells: &[u8]) {
+    let span = changed_bytes(before, cells);
     let start = span.start;
     let end = span.end;
     if start < end {
-        if end <= after.len() {
-            print::text(word);
+        if end <= cells.len() {
+            print::text(b" cells ");
             print::decimal(start as u64);
-            print::also_bytes(&after[start..end]);
+            print::also_bytes(&cells[start..end]);
         }
     }
 }
 
-pub fn print_marks(before: &[u32], marks: &[u32]) {
+fn print_marks(before: &[u32], marks: &[u32]) {
     let span = changed_marks(before, marks);
     let start = span.start;
     let end = span.end;

@@ -1,13 +1,11 @@
 // Answers of the desk, by the numbers of the table of refusals.
 use desk::opening::{OpenAnswer, of_opening};
 use desk::reply::{ReplyAnswer, of_reply};
-use digits::refusal as table;
 use digits::refusal::Refusal;
-use page::read::{PageCheck, ReadAnswer};
 use spelling::told::done;
 
 // A refusal, or done; and the seat that the call returns, 0 if there is none.
-#[derive(Drop)]
+#[derive(Clone, Copy)]
 pub struct Said {
     pub told: Refusal,
     pub seat: u32,
@@ -32,21 +30,5 @@ pub fn reply_said(a: ReplyAnswer) -> Said {
     match a {
         ReplyAnswer::Taken(seat) => done_with(seat),
         ReplyAnswer::Refused(f) => refused(of_reply(f)),
-    }
-}
-
-pub fn reading_said(a: ReadAnswer) -> Said {
-    match a {
-        ReadAnswer::Read => done_with(0),
-        ReadAnswer::Page(line) => refused(table::of_page(line)),
-        ReadAnswer::Room => refused(table::plain(table::ROOM)),
-    }
-}
-
-// A reading with a row of another length than sixteen.
-pub fn check_said(a: PageCheck) -> Said {
-    match a {
-        PageCheck::Page(line) => refused(table::of_page(line)),
-        PageCheck::Good => refused(table::plain(table::ROOM)),
     }
 }

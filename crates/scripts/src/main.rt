@@ -4,39 +4,27 @@ mod desk_told;
 mod digest;
 mod memory;
 mod mixes;
-mod page_asked;
-mod runs;
 mod script;
 mod tally_asked;
-mod text_asked;
 
 use frames::reply::{LETTERS, STATUSES};
 use memory::{MOST_BYTES, MOST_MARKS};
 use script::Script;
 use spelling::{line, print};
-use text_asked::MOST_TEXT;
 
 fn main() {
     let mut buffer = [0u8; 1024];
     let mut cells = [0u8; MOST_BYTES];
     let mut marks = [0u32; MOST_MARKS];
     let mut tally = [[0u32; STATUSES]; LETTERS];
-    let mut text = [0u8; MOST_TEXT];
-    let mut script = script::empty(0, 0, 0);
+    let mut script = script::empty(0, 0);
     let mut turns = u64::MAX;
     while turns > 0 {
         let n = line::read_line(&mut buffer);
         if n == 0 {
             return;
         }
-        let next = answer_line(
-            script,
-            &buffer[0..n],
-            &mut cells,
-            &mut marks,
-            &mut tally,
-            &mut text,
-        );
+        let next = answer_line(script, &buffer[0..n], &mut cells, &mut marks, &mut tally);
         script = next;
         turns -= 1;
     }
@@ -49,83 +37,40 @@ fn answer_line(
     cells: &mut [u8],
     marks: &mut [u32],
     tally: &mut [[u32; STATUSES]; LETTERS],
-    text: &mut [u8; MOST_TEXT],
 ) -> Script {
     if line::asks(s, b"lend") {
-        return script::lending(script, s, cells, marks, tally);
+        return script::lending(s, cells, marks, tally);
     }
     if line::asks(s, b"mixes") {
         mixes::playing(s, mixes::by_requester());
-        return script::lend(
-            script,
-            mixes::MIX_BYTES,
-            mixes::MIX_MARKS,
-            cells,
-            marks,
-            tally,
-        );
+        return script::lend(mixes::MIX_BYTES, mixes::MIX_MARKS, cells, marks, tally);
     }
     if line::asks(s, b"mixes-by-address") {
         mixes::playing(s, mixes::by_address());
-        return script::lend(
-            script,
-            mixes::MIX_BYTES,
-            mixes::MIX_MARKS,
-            cells,
-            marks,
-            tally,
-        );
+        return script::lend(mixes::MIX_BYTES, mixes::MIX_MARKS, cells, marks, tally);
     }
-    answer_text(script, s, cells, marks, tally, text)
+    answer_within(script, s, cells, marks, tally)
 }
 
-fn answer_text(
-    script: Script,
-    s: &[u8],
-    cells: &mut [u8],
-    marks: &mut [u32],
-    tally: &mut [[u32; STATUSES]; LETTERS],
-    text: &mut [u8; MOST_TEXT],
-) -> Script {
-    if line::asks(s, b"text") {
-        return text_asked::setting(script, s, text);
-    }
-    if line::asks(s, b"text-put") {
-        return text_asked::putting(script, s, text);
-    }
-    if line::asks(s, b"text-insert") {
-        return text_asked::inserting(script, s, text);
-    }
-    if line::asks(s, b"text-remove") {
-        return text_asked::removing(script, s, text);
-    }
-    answer_within(script, s, cells, marks, tally, text)
-}
-
-// All other lines are answered on the memory that is lent and on the text as long as it is, and no more.
+// All other lines are answered on the memory that is lent, and no more.
 fn answer_within(
     script: Script,
     s: &[u8],
     cells: &mut [u8],
     marks: &mut [u32],
     tally: &mut [[u32; STATUSES]; LETTERS],
-    text: &mut [u8],
 ) -> Script {
     let cell_bytes = script.cell_bytes;
     let mark_count = script.mark_count;
-    let text_length = script.text_length;
     if cell_bytes <= cells.len() {
         if mark_count <= marks.len() {
-            if text_length <= text.len() {
-                return answer_lent(
-                    script,
-                    s,
-                    &mut cells[0..cell_bytes],
-                    &mut marks[0..mark_count],
-                    tally,
-                    &mut text[0..text_length],
-                );
-            }
+            return answer_lent(
+                script,
+                s,
+                &mut cells[0..cell_bytes],
+                &mut marks[0..mark_count],
+                tally,
+            );
         }
     }
     print::text(b"more is lent than there is\n");
@@ -138,35 +83,14 @@ fn answer_lent(
     cells: &mut [u8],
     marks: &mut [u32],
     tally: &mut [[u32; STATUSES]; LETTERS],
-    text: &mut [u8],
 ) -> Script {
     if line::asks(s, b"open") {
-        return desk_asked::opening(script, s, cells, marks, tally);
+        desk_asked::opening(script, s, cells, marks, tally)
+    } else if line::asks(s, b"reply") {
+        desk_asked::replying(script, s, cells, marks, tally)
+    } else {
+        answer_memory(script, s, cells, marks, tally)
     }
-    if line::asks(s, b"reply") {
-        return desk_asked::replying(script, s, cells, marks, tally);
-    }
-    answer_page(script, s, cells, marks, tally, text)
-}
-
-fn answer_page(
-    script: Script,
-    s: &[u8],
-    cells: &mut [u8],
-    marks: &mut [u32],
-    tally: &mut [[u32; STATUSES]; LETTERS],
-    text: &mut [u8],
-) -> Script {
-    if line::asks(s, b"write-page") {
-        return page_asked::writing(script, cells, marks, tally, text);
-    }
-    if line::asks(s, b"read-page") {
-        return page_asked::reading(script, s, cells, marks, tally, text);
-    }
-    if line::asks(s, b"damage-page") {
-        return page_asked::damaging(script, s, cells, marks, tally, text);
-    }
-    answer_memory(script, s, cells, marks, tally)
 }
 
 fn answer_memory(
@@ -177,15 +101,14 @@ fn answer_memory(
     tally: &mut [[u32; STATUSES]; LETTERS],
 ) -> Script {
     if line::asks(s, b"held") {
-        return desk_asked::holding(script, s, cells, marks);
+        desk_asked::holding(script, s, cells, marks)
+    } else if line::asks(s, b"mark") {
+        script::setting_mark(script, s, marks)
+    } else if line::asks(s, b"cell") {
+        script::setting_cell(script, s, cells)
+    } else {
+        answer_tally(script, s, tally)
     }
-    if line::asks(s, b"mark") {
-        return script::setting_mark(script, s, marks);
-    }
-    if line::asks(s, b"cell") {
-        return script::setting_cell(script, s, cells);
-    }
-    answer_tally(script, s, tally)
 }
 
 fn answer_tally(script: Script, s: &[u8], tally: &mut [[u32; STATUSES]; LETTERS]) -> Script {
@@ -209,21 +132,21 @@ fn answer_tally(script: Script, s: &[u8], tally: &mut [[u32; STATUSES]; LETTERS]
 
 fn answer_state(script: Script, s: &[u8]) -> Script {
     if line::asks(s, b"used") {
-        return desk_asked::used(script);
+        desk_asked::used(script)
+    } else {
+        answer_setting(script, s)
     }
-    answer_setting(script, s)
 }
 
 fn answer_setting(script: Script, s: &[u8]) -> Script {
     if line::asks(s, b"bits") {
-        return script::setting_bits(script, s);
+        script::setting_bits(script, s)
+    } else if line::asks(s, b"count") {
+        script::setting_count(script, s)
+    } else if line::asks(s, b"seat") {
+        script::setting_seat(script, s)
+    } else {
+        print::text(b"no such case\n");
+        script
     }
-    if line::asks(s, b"count") {
-        return script::setting_count(script, s);
-    }
-    if line::asks(s, b"seat") {
-        return script::setting_seat(script, s);
-    }
-    print::text(b"no such case\n");
-    script
 }

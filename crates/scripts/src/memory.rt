@@ -48,7 +48,7 @@ pub fn copy_marks(out: &mut [u32], marks: &[u32]) {
 }
 
 // The places from start up to end; no places if end is 0.
-#[derive(Drop)]
+#[derive(Clone, Copy)]
 pub struct Span {
     pub start: usize,
     pub end: usize,

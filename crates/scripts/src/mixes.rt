@@ -23,7 +23,7 @@ const REQUEST_A: [u8; 24] = *b"\x11R 100700000P000000000S\r";
 const REPLY: [u8; 51] = *b"\x12R SOR10000700040000002000000P000000000000000000  \r";
 
 // The one byte in which B's frames and the strays differ from A's: where a request and where a reply has it, and its values.
-#[derive(Drop)]
+#[derive(Clone, Copy)]
 pub struct Apart {
     asked_at: usize,
     told_at: usize,
@@ -50,14 +50,14 @@ pub fn by_address() -> Apart {
 }
 
 // How many mixes were played, and the digest of all of them.
-#[derive(Drop)]
+#[derive(Clone, Copy)]
 struct Played {
     mixes: u64,
     sum: u64,
 }
 
 // The desk of a mix, how many replies to A and to B it was given, and the digest so far.
-#[derive(Drop)]
+#[derive(Clone, Copy)]
 struct Mix {
     desk: Desk,
     row: [Seat; SEATS],

@@ -6,19 +6,17 @@ use digits::put_bytes;
 use frames::reply::{LETTERS, STATUSES};
 use spelling::{line, print};
 
-#[derive(Drop)]
+#[derive(Clone, Copy)]
 pub struct Script {
     pub desk: Desk,
     pub row: [Seat; SEATS],
     // How many bytes and how many marks are lent.
     pub cell_bytes: usize,
     pub mark_count: usize,
-    // How long the text is.
-    pub text_length: usize,
 }
 
-// All zero, except for how much is lent and how long the text is.
-pub fn empty(cell_bytes: usize, mark_count: usize, text_length: usize) -> Script {
+// All zero, except for how much is lent.
+pub fn empty(cell_bytes: usize, mark_count: usize) -> Script {
     let zero = Seat {
         address: 0,
         requester: 0,
@@ -31,13 +29,10 @@ pub fn empty(cell_bytes: usize, mark_count: usize, text_length: usize) -> Script
         row: [zero; SEATS],
         cell_bytes,
         mark_count,
-        text_length,
     }
 }
 
-// The text stays.
 pub fn lend(
-    script: Script,
     cell_bytes: usize,
     mark_count: usize,
     cells: &mut [u8],
@@ -47,11 +42,10 @@ pub fn lend(
     fill_bytes(cells, FRESH_BYTE);
     fill_marks(marks, FRESH_MARK);
     *tally = [[0u32; STATUSES]; LETTERS];
-    empty(cell_bytes, mark_count, script.text_length)
+    empty(cell_bytes, mark_count)
 }
 
 pub fn lending(
-    script: Script,
     s: &[u8],
     cells: &mut [u8],
     marks: &mut [u32],
@@ -61,7 +55,7 @@ pub fn lending(
     let mark_count = line::small(s, 2) as usize;
     print::decimal(capacity(cell_bytes, mark_count) as u64);
     print::end_line();
-    lend(script, cell_bytes, mark_count, cells, marks, tally)
+    lend(cell_bytes, mark_count, cells, marks, tally)
 }
 
 // The same memory with another state and other seats.
@@ -71,20 +65,6 @@ pub fn with(script: Script, desk: Desk, row: [Seat; SEATS]) -> Script {
         row,
         cell_bytes: script.cell_bytes,
         mark_count: script.mark_count,
-        text_length: script.text_length,
-    }
-}
-
-// The same desk with a text of another length.
-pub fn with_text(script: Script, text_length: usize) -> Script {
-    let desk = script.desk;
-    let row = script.row;
-    Script {
-        desk,
-        row,
-        cell_bytes: script.cell_bytes,
-        mark_count: script.mark_count,
-        text_length,
     }
 }
 

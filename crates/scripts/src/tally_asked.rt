@@ -1,10 +1,15 @@
 // The tally of the scripts: how it is set and printed, and looks at it.
-use crate::runs;
-use crate::runs::Told;
 use desk::tally::{LookAnswer, look};
 use digits::refusal as table;
 use frames::reply::{LETTERS, STATUSES};
 use spelling::{line, print};
+
+// What a look reports: the refusal's number, 0 if there is none, and the number that is found, 0 if refused.
+#[derive(Clone, Copy)]
+struct Told {
+    number: u32,
+    held: u32,
+}
 
 pub fn setting(s: &[u8], tally: &mut [[u32; STATUSES]; LETTERS]) {
     print::text(b"set\n");
@@ -43,20 +48,16 @@ pub fn looking(s: &[u8], tally: &[[u32; STATUSES]; LETTERS]) {
     let found = looked(tally, letter, status);
     print::decimal(found.number as u64);
     print::text(b" 0 0");
-    print::also(found.more);
+    print::also(found.held);
     print::end_line();
 }
 
-// The refusal, or the number that is found, 0 if refused.
 fn looked(tally: &[[u32; STATUSES]; LETTERS], letter: u8, status: u8) -> Told {
     match look(tally, letter, status) {
-        LookAnswer::Held(held) => Told {
-            number: 0,
-            more: held,
-        },
+        LookAnswer::Held(held) => Told { number: 0, held },
         LookAnswer::NoSuch => Told {
             number: table::NO_SUCH,
-            more: 0,
+            held: 0,
         },
     }
 }
@@ -73,12 +74,32 @@ pub fn looking_at_all(tally: &[[u32; STATUSES]; LETTERS]) {
 // A line of runs of statuses with the same answer.
 fn print_letter(letter: u8, tally: &[[u32; STATUSES]; LETTERS]) {
     print::decimal(letter as u64);
-    let mut run = runs::empty();
+    let mut last = looked(tally, letter, 0);
+    let mut run: u32 = 0;
     let mut status: u32 = 0;
     while status < 256 {
-        run = runs::joined(run, looked(tally, letter, (status % 256) as u8));
+        let next = looked(tally, letter, (status % 256) as u8);
+        if same(last, next) {
+            run = run % 256 + 1;
+        } else {
+            print_run(run, last);
+            last = next;
+            run = 1;
+        }
         status += 1;
     }
-    runs::print_run(run);
+    print_run(run, last);
     print::end_line();
+}
+
+fn same(a: Told, b: Told) -> bool {
+    (a.number == b.number) & (a.held == b.held)
+}
+
+fn print_run(count: u32, found: Told) {
+    print::also(count);
+    print::text(b"*");
+    print::decimal(found.number as u64);
+    print::text(b".");
+    print::decimal(found.held as u64);
 }

@@ -24,7 +24,7 @@ pub fn read_line(buffer: &mut [u8]) -> usize
 }
 
 // Where a word begins, and where it ends.
-#[derive(Drop)]
+#[derive(Clone, Copy)]
 pub struct Word {
     pub at: usize,
     pub end: usize,

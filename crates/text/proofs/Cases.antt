@@ -2,11 +2,10 @@
 use mathlib.Core.Path.{refl}
 use Rattle.digits.specs.Digits.{digits}
 use Rattle.text.specs.Decimal.{width_within, width, decimal}
-use Rattle.text.specs.Address.{address_shown, shown_address}
 use Rattle.text.specs.Cases.{TextWorked}
 
 pub text_worked : TextWorked
-unfolding decimal width width_within digits address_shown shown_address
+unfolding decimal width width_within digits
 text_worked = record {
   zero = refl;
   nine = refl;
@@ -19,6 +18,4 @@ text_worked = record {
   past_places = refl;
   ends = refl;
   two_lines = refl;
-  addresses = refl;
-  addresses_back = refl;
 }

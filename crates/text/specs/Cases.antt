@@ -1,10 +1,9 @@
--- Worked cases: numbers in decimal, places, the bytes after a column and a line, the lines of a text, and addresses.
-use Rattle.std.specs.Prelude.{[], ◌∷◌, map, ◌≡◌}
+-- Worked cases: numbers in decimal, places, the bytes after a column and a line, and the lines of a text.
+use Rattle.std.specs.Prelude.{[], ◌∷◌, ◌≡◌}
 use Rattle.digits.specs.Text.{codes}
 use Rattle.text.specs.Put.{place_after}
 use Rattle.text.specs.Decimal.{decimal}
 use Rattle.text.specs.Lines.{TAB, LF, lines}
-use Rattle.text.specs.Address.{address_shown, shown_address}
 
 pub record TextWorked : Type 0 where
   pub zero : decimal 0 ≡ codes "0"
@@ -18,5 +17,3 @@ pub record TextWorked : Type 0 where
   pub past_places : place_after 18446744073709551610 6 ≡ 18446744073709551615
   pub ends : TAB ∷ LF ∷ [] ≡ codes "\t\n"
   pub two_lines : lines (codes "a\tb\n\nc") ≡ 2
-  pub addresses : map address_shown (codes " 0123456789") ≡ codes "-0123456789"
-  pub addresses_back : map shown_address (codes "-0123456789") ≡ codes " 0123456789"

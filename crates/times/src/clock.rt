@@ -2,8 +2,8 @@
 ghost use Rattle.std.specs.Prelude.{◌≡◌, ◌+◌, ◌≤◌, ◌<◌, ◌^◌, leb, length};
 ghost use Rattle.std.proofs.lemmas.List.Edits.{sets};
 ghost use Rattle.digits.specs.Digits.{number_at};
-ghost use Rattle.times.specs.Clock.{clockNumber, clock};
-ghost use Rattle.times.specs.inside.Clock.{part_of, ticksFrom};
+ghost use Rattle.times.specs.Clock.{clock_number, clock};
+ghost use Rattle.times.specs.inside.Clock.{part_of, ticks_from};
 
 use digits::{Number, number_at, put_number};
 
@@ -62,7 +62,7 @@ fn part_at(s: &[u8], at: usize, width: usize) -> u64
 }
 
 fn ticks_of(hours: u64, minutes: u64, seconds: u64, fraction: u64) -> Number
-    ensures { result ≡ ticksFrom hours minutes seconds fraction }
+    ensures { result ≡ ticks_from hours minutes seconds fraction }
 {
     if 23 < hours {
         return Number::Wrong;
@@ -91,7 +91,7 @@ fn put_parts(out: &mut [u8], at: usize, ticks: u64)
 
 fn clock_number(ticks: u64) -> u64
     requires { ticks < 2 ^ 32 }
-    ensures { result ≡ clockNumber ticks }
+    ensures { result ≡ clock_number ticks }
 {
     let hours = ticks / 36_000_000;
     let minutes = ticks / 600_000 % 60;

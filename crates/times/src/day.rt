@@ -1,10 +1,10 @@
 // Days of the years 2000 to 2099.
 ghost use Rattle.std.specs.Prelude.{◌≡◌};
-ghost use Rattle.times.specs.Day.{realDay, monthLength, februaryLength, leap};
+ghost use Rattle.times.specs.Day.{real_day, month_length, february_length, leap};
 
 // Whether day, month and year name a real day of the years 2000 to 2099.
 pub fn is_day(day: u32, month: u32, year: u32) -> bool
-    ensures { result ≡ realDay day month year }
+    ensures { result ≡ real_day day month year }
 {
     if year < 2000 {
         return false;
@@ -25,7 +25,7 @@ pub fn is_day(day: u32, month: u32, year: u32) -> bool
 }
 
 fn month_length(month: u32, year: u32) -> u32
-    ensures { result ≡ monthLength month year }
+    ensures { result ≡ month_length month year }
 {
     if month == 2 {
         return february(year);
@@ -38,7 +38,7 @@ fn month_length(month: u32, year: u32) -> u32
 }
 
 fn february(year: u32) -> u32
-    ensures { result ≡ februaryLength year }
+    ensures { result ≡ february_length year }
 {
     if is_leap(year) { 29 } else { 28 }
 }

@@ -1,19 +1,19 @@
 // Net times: a sign, days and a time of day, as one value in ticks, and back.
 ghost use Rattle.std.specs.Prelude.{◌≡◌};
-ghost use Rattle.times.specs.Net.{isNet, netValue, netParts};
+ghost use Rattle.times.specs.Net.{is_net, net_value, net_parts};
 
 use crate::clock::{DAY_TICKS, LAST_TICK};
 use crate::signed::{apart, diff};
 
 // A sign, days, and a time in ticks. They are a net time if is_net takes them.
-#[derive(Drop)]
+#[derive(Clone, Copy)]
 pub struct NetParts {
     pub minus: bool,
     pub days: u64,
     pub time: u32,
 }
 
-#[derive(Drop)]
+#[derive(Clone, Copy)]
 pub enum NetValue {
     Is(i64),
     Wrong,
@@ -21,7 +21,7 @@ pub enum NetValue {
 
 // Whether a net reply can show these parts. Zero has no minus.
 pub fn is_net(parts: NetParts) -> bool
-    ensures { result ≡ isNet parts }
+    ensures { result ≡ is_net parts }
 {
     let zero = (parts.days == 0) & (parts.time == 0);
     (parts.days <= 9_999_999) & (parts.time <= LAST_TICK) & !(parts.minus & zero)
@@ -29,7 +29,7 @@ pub fn is_net(parts: NetParts) -> bool
 
 // The value of a net time; Wrong if the parts are no net time. The minus covers days and time together.
 pub fn net_value(parts: NetParts) -> NetValue
-    ensures { result ≡ netValue parts }
+    ensures { result ≡ net_value parts }
 {
     if !is_net(parts) {
         return NetValue::Wrong;
@@ -45,7 +45,7 @@ pub fn net_value(parts: NetParts) -> NetValue
 
 // The parts of a value: its sign, and the whole days and the time that are left without it.
 pub fn net_parts(value: i64) -> NetParts
-    ensures { result ≡ netParts value }
+    ensures { result ≡ net_parts value }
 {
     let v = apart(value);
     NetParts {

@@ -5,7 +5,7 @@ ghost use Rattle.times.specs.Running.{in_range, RunningAs};
 use crate::clock::{DAY_TICKS, LAST_TICK};
 use crate::signed::diff;
 
-#[derive(Drop)]
+#[derive(Clone, Copy)]
 pub enum Running {
     Ticks(i64),
     Time,
@@ -13,7 +13,7 @@ pub enum Running {
 
 // The numbers from which running time is computed. Taux is its sign (0 plus, 1 minus), days and time.
 #[repr(C)]
-#[derive(Drop)]
+#[derive(Clone, Copy)]
 pub struct RunningOf {
     pub bib: u32,
     pub tnow: u32,

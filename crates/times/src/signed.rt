@@ -1,10 +1,10 @@
 // The two functions that make a signed number or split one; all other arithmetic is unsigned.
 ghost use Rattle.std.specs.Prelude.{◌≡◌, ◌<◌, ◌^◌};
 ghost use Rattle.std.proofs.Math.IntN.{sub_ℕ};
-ghost use Rattle.times.specs.inside.Signed.{apartOf};
+ghost use Rattle.times.specs.inside.Signed.{apart_of};
 
 // A number without its sign, and whether the sign is a minus.
-#[derive(Drop)]
+#[derive(Clone, Copy)]
 pub struct SignAndSize {
     pub minus: bool,
     pub size: u64,
@@ -12,7 +12,7 @@ pub struct SignAndSize {
 
 // For a number below zero, -1 - v never wraps. So every i64 is taken.
 pub fn apart(v: i64) -> SignAndSize
-    ensures { result ≡ apartOf v }
+    ensures { result ≡ apart_of v }
 {
     if v < 0 {
         SignAndSize {

@@ -10,7 +10,7 @@ use crate::spelling::{bytes_text, parse_bytes, parse_number, parse_place, NotACa
 use std::ops::Range;
 
 /// The answer to a line that sets a part of the desk, and the answer to a look that finds no cell.
-pub const SET: &str = "set";
+const SET: &str = "set";
 const NONE: &str = "none";
 
 /// The lines that answer a line of a script, or nothing if the words are no such line.
@@ -98,7 +98,7 @@ fn play_mixes(desk: &mut Desk, pair: &Pair, first: &str, second: &str) -> Result
 }
 
 /// The outcome of a call, and everything that differs from before the call.
-pub fn call(desk: &mut Desk, work: impl FnOnce(&mut Desk) -> Result<usize, Refusal>) -> String {
+fn call(desk: &mut Desk, work: impl FnOnce(&mut Desk) -> Result<usize, Refusal>) -> String {
     let before = desk.clone();
     let (outcome, seat) = match work(desk) {
         Ok(seat) => (DONE.to_string(), seat),
@@ -133,7 +133,7 @@ fn changed_parts(before: &Desk, after: &Desk) -> Vec<String> {
 }
 
 /// The range from the first place that differs to the last.
-pub fn differing<T: PartialEq>(before: &[T], after: &[T]) -> Option<Range<usize>> {
+fn differing<T: PartialEq>(before: &[T], after: &[T]) -> Option<Range<usize>> {
     let differs = |&place: &usize| before[place] != after[place];
     let first = (0..before.len()).find(differs)?;
     let last = (0..before.len()).rfind(differs)?;

@@ -5,7 +5,7 @@ use super::tally::{Outcomes, Tally};
 use std::time::Instant;
 
 /// The names of the refusals, by number, from 1 on.
-const NAMES: [&str; 18] = [
+const NAMES: [&str; 17] = [
     "KIND",
     "LENGTH",
     "END",
@@ -23,7 +23,6 @@ const NAMES: [&str; 18] = [
     "OUT OF PLACE",
     "FULL",
     "NO SUCH",
-    "PAGE",
 ];
 
 pub struct Report {
@@ -108,8 +107,6 @@ impl Report {
             frames,
             records,
             calls,
-            pages_read,
-            pages_written,
             fates: [opened, collected, dynamic, refused],
             too_long,
         } = &self.tally;
@@ -120,14 +117,6 @@ impl Report {
             format!(
                 "openings and replies in them: {}",
                 outcomes_text(calls, "done")
-            ),
-            format!(
-                "pages read in them: {}",
-                outcomes_text(pages_read, "accepted")
-            ),
-            format!(
-                "pages written in them: {}",
-                outcomes_text(pages_written, "written")
             ),
             format!("captures: {}, of which {too_long} too long", self.captures),
             format!(
@@ -179,8 +168,6 @@ mod tests {
         tally.frames[0] = 3;
         tally.frames[5] = 4;
         tally.calls[16] = 1;
-        tally.pages_read[18] = 2;
-        tally.pages_written[0] = 5;
         tally.fates = [1, 2, 0, 3];
         tally.too_long = 1;
         Outcome {
@@ -210,8 +197,6 @@ mod tests {
             "frames read: 14; accepted 6, 5 FIELD 8\n",
             "records written: 0; written 0\n",
             "openings and replies in them: 2; done 0, 16 FULL 2\n",
-            "pages read in them: 4; accepted 0, 18 PAGE 4\n",
-            "pages written in them: 10; written 10\n",
             "captures: 0, of which 2 too long\n",
             "frames found in them: 12; 2 opened, 4 collected, 0 dynamic, 6 refused\n",
             "seeds: 5 to 6; go on with --seed 7\n",

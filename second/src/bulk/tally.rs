@@ -1,8 +1,8 @@
-//! How many frames, records, calls, pages and captures there were, and their outcomes by the answers of
+//! How many frames, records, calls and captures there were, and their outcomes by the answers of
 //! `second`.
 
 /// One count for done and one for each refusal number.
-const OUTCOMES: usize = 19;
+const OUTCOMES: usize = 18;
 
 pub type Outcomes = [u64; OUTCOMES];
 
@@ -14,9 +14,6 @@ pub struct Tally {
     pub records: Outcomes,
     /// Openings and replies in scripts.
     pub calls: Outcomes,
-    /// Texts that were read as pages, and desks that were to be written as pages.
-    pub pages_read: Outcomes,
-    pub pages_written: Outcomes,
     /// The frames found in captures: opened, collected, dynamic and refused.
     pub fates: [u64; 4],
     /// Captures that are too long to have a list.
@@ -27,15 +24,9 @@ impl Tally {
     pub fn take_case(&mut self, case: &str, answer: &[String]) {
         let word = case.split(' ').next().unwrap_or("");
         let first = answer.first().map(String::as_str).unwrap_or("");
-        if word == "damage-page" {
-            take_damage(&mut self.pages_read, first);
-        } else if word == "read-page" {
-            count(&mut self.pages_read, number_of(first), 1);
-        } else if word == "write-page" {
-            count(&mut self.pages_written, number_of(first), 1);
-        } else if word.starts_with("damage-") {
+        if word.starts_with("damage-") {
             for line in answer {
-                take_damage(&mut self.frames, line);
+                self.take_damage(line);
             }
         } else if word.starts_with("read-") {
             count(&mut self.frames, number_of(first), 1);
@@ -43,6 +34,16 @@ impl Tally {
             count(&mut self.records, number_of(first), 1);
         } else if word == "open" || word == "reply" {
             count(&mut self.calls, number_of(first), 1);
+        }
+    }
+
+    /// Takes one line of a damage answer: `PLACE COUNT*NUMBER.OFFSET.SPOILED ..`
+    fn take_damage(&mut self, line: &str) {
+        for run in line.split(' ').skip(1) {
+            if let Some((frames, outcome)) = run.split_once('*') {
+                let number = outcome.split('.').next().and_then(|word| word.parse().ok());
+                count(&mut self.frames, number, frames.parse().unwrap_or(0));
+            }
         }
     }
 
@@ -63,21 +64,8 @@ impl Tally {
         add_all(&mut self.frames, &other.frames);
         add_all(&mut self.records, &other.records);
         add_all(&mut self.calls, &other.calls);
-        add_all(&mut self.pages_read, &other.pages_read);
-        add_all(&mut self.pages_written, &other.pages_written);
         add_all(&mut self.fates, &other.fates);
         self.too_long += other.too_long;
-    }
-}
-
-/// Takes one line of a damage answer: `PLACE COUNT*NUMBER.OFFSET.SPOILED ..`, or of a page
-/// `PLACE COUNT*NUMBER.LINE ..`
-fn take_damage(outcomes: &mut Outcomes, line: &str) {
-    for run in line.split(' ').skip(1) {
-        if let Some((values, outcome)) = run.split_once('*') {
-            let number = outcome.split('.').next().and_then(|word| word.parse().ok());
-            count(outcomes, number, values.parse().unwrap_or(0));
-        }
     }
 }
 
@@ -135,20 +123,6 @@ mod tests {
         assert_eq!(tally.frames[1], 255);
         assert_eq!(tally.frames[2], 0);
         assert_eq!((tally.frames[3], tally.frames[4]), (255, 255 + 245));
-    }
-
-    #[test]
-    fn pages() {
-        let tally = tally(
-            "text 17\nwrite-page\nread-page 16 17\ntext 18\nwrite-page\nread-page 16 18\n\
-             damage-page 17 18\nbits 1\nwrite-page\nread-page 15 18\n",
-        );
-        let written = [tally.pages_written[0], tally.pages_written[7]];
-        assert_eq!((written, tally.pages_written[9]), ([1, 1], 1));
-        let read = [tally.pages_read[0], tally.pages_read[7]];
-        assert_eq!((read, tally.pages_read[18]), ([2, 1], 1 + 255));
-        let frames: u64 = tally.frames.iter().chain(&tally.records).sum();
-        assert_eq!(frames, 0);
     }
 
     #[test]

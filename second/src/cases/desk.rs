@@ -9,7 +9,6 @@ mod looks;
 mod memory;
 mod mixes;
 mod openings;
-mod pages;
 mod random;
 mod replies;
 mod script;
@@ -31,5 +30,4 @@ pub fn add_all(cases: &mut Cases, seed: u64) {
     spoiled::add_all(cases, &mut Random::new(seed, "desk spoiled"));
     random::add_all(cases, &mut Random::new(seed, "desk"));
     mixes::add_all(cases);
-    pages::add_all(cases, &mut Random::new(seed, "desk pages"));
 }

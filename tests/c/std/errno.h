@@ -1,10 +1,8 @@
 /* What the example needs of errno.h. */
 #ifndef STD_ERRNO_H
 #define STD_ERRNO_H
-#define ENOENT 2
 #define EINTR 4
 #define EAGAIN 11
-#define ENAMETOOLONG 36
 int *__errno_location(void);
 #define errno (*__errno_location())
 #endif

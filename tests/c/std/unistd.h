@@ -4,7 +4,5 @@
 #include <stddef.h>
 typedef long ssize_t;
 ssize_t read(int file, void *to, size_t size);
-int close(int file);
-int fsync(int file);
 ssize_t write(int file, const void *from, size_t size);
 #endif

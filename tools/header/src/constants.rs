@@ -9,7 +9,7 @@ use std::path::Path;
 /// Each constant of `enum rei2_limit`, and the two places below the crates that have its number. The first is a constant of
 /// a source. The second is in a file of specs: a definition, a field of a definition, or a case, which is
 /// `NAME ≡ NUMBER` or `NAME ≡ record { FIELD = NUMBER }`.
-const LIMITS: [(&str, [(&str, &str); 2]); 15] = [
+const LIMITS: [(&str, [(&str, &str); 2]); 14] = [
     ("REI2_SEATS", [("desk/src/limits.rt", "SEATS"), ("desk/specs/Limits.antt", "seatCount")]),
     ("REI2_CELLS", [("desk/src/limits.rt", "CELLS"), ("desk/specs/Limits.antt", "mostCells")]),
     ("REI2_CELL_SIZE", [("desk/src/limits.rt", "CELL_SIZE"), ("rei2/specs/Cases.antt", "limits ≡ .cell_size")]),
@@ -23,7 +23,6 @@ const LIMITS: [(&str, [(&str, &str); 2]); 15] = [
     ("REI2_DYNAMIC_LEAD", [("frames/src/dynamic.rt", "DYNAMIC_LEAD"), ("frames/specs/Dynamic.antt", "dynamic .lead")]),
     ("REI2_MOST_INPUT", [("listing/src/lib.rt", "MOST_INPUT"), ("listing/specs/Listing.antt", "mostInput")]),
     ("REI2_LONGEST_LIST", [("listing/src/lib.rt", "LONGEST_LIST"), ("listing/specs/Cases.antt", "longestList ≡")]),
-    ("REI2_LONGEST_PAGE", [("page/src/write.rt", "LONGEST_PAGE"), ("rei2/specs/Cases.antt", "limits ≡ .longest_page")]),
     ("REI2_NAME_SIZE", [("rei2/src/names.rt", "NAME_SIZE"), ("rei2/specs/Names.antt", "nameSize")]),
 ];
 

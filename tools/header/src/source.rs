@@ -102,8 +102,7 @@ impl Source {
             // the module at the start of the path may be imported by a `use`
             path => self.place(&[self.used(&path[0]).unwrap_or_default(), path.to_vec()].concat()),
         };
-        let there = self.imported(name).filter(|_| path.is_empty()).map_or(name.clone(), |(_, there)| there);
-        Source::found(&self.root, &crate_name, &module)?.constant(&there)
+        Source::found(&self.root, &crate_name, &module)?.constant(name)
     }
 
     /// Reads a module that is a file, or that is inside another module: `mod NAME { .. }`.
@@ -127,21 +126,13 @@ impl Source {
 
     /// The path before `name` in the `use` that ends with it: `a::b` is `["a", "b"]`.
     fn used(&self, name: &str) -> Option<Vec<String>> {
-        self.imported(name).map(|(path, _)| path)
-    }
-
-    /// The same path, and the name that it has there: `use a::b::C as D` imports C as D.
-    fn imported(&self, name: &str) -> Option<(Vec<String>, String)> {
         let uses = self.tokens.split(|token| token.text == ";");
-        uses.filter_map(used_path).find_map(|words| {
-            match words.as_slice() {
-                [path @ .., there, word, here] if word == "as" => Some((path, there)).filter(|_| here == name),
-                [path @ .., last] => Some((path, last)).filter(|_| last == name),
-                [] => None,
-            }
-            .filter(|(path, _)| !path.is_empty())
-            .map(|(path, there)| (path.to_vec(), there.clone()))
-        })
+        uses.filter_map(|item| used_path(item).filter(|path| path.last().is_some_and(|last| last == name)))
+            .map(|mut path| {
+                path.pop();
+                path
+            })
+            .find(|path| !path.is_empty())
     }
 }
 

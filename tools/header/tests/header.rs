@@ -6,7 +6,7 @@ use std::sync::atomic::{AtomicUsize, Ordering};
 use std::{env, fs, process};
 
 /// The files without differences, each with its path and its text.
-const FILES: [(&str, &str); 28] = [
+const FILES: [(&str, &str); 26] = [
     ("crates/rei2/src/lib.rt", "pub mod calls;\n"),
     ("crates/rei2/src/calls.rt", CALLS),
     ("crates/rei2/src/names.rt", "pub const NAME_SIZE: usize = 14;\n"),
@@ -29,8 +29,6 @@ const FILES: [(&str, &str); 28] = [
     ("crates/listing/src/line.rt", LINE),
     ("crates/listing/specs/Listing.antt", "abbrev pub mostInput : ℕ\nmostInput = 32768\n"),
     ("crates/listing/specs/Cases.antt", "pub record Worked : Type 0 where\n  pub longest : longestList ≡ 14170\n"),
-    ("crates/page/src/write.rt", WRITE),
-    ("crates/page/src/line.rt", "pub const CELL_SIZE: usize = 52;\npub const ENDS: usize = 210;\n"),
     ("crates/rei2/specs/Reply.antt", NUMBERS),
     ("crates/rei2/specs/Calls.antt", FOUND),
     ("crates/rei2list/src/main.rt", PROGRAM),
@@ -49,7 +47,7 @@ cellSize = reply .size -- bytes
 ";
 
 const LENT: &str = "pub record Lends : Type 0 where
-  pub limits-are : limits ≡ record { in = record { «cell_size» = 9 }; «cell_size» = 51; marks = 256; «longest_page» = 13522 }
+  pub limits-are : limits ≡ record { in = record { «cell_size» = 9 }; «cell_size» = 51; marks = 256 }
 ";
 
 const REPLY: &str = "pub const REPLY_LEAD: u8 = 18;
@@ -143,13 +141,6 @@ use line::ROW;
 pub const MOST_INPUT: usize = 32768;
 pub const LONGEST_LIST: usize = 62 + CELLS * ROW + 2 * (2 * (1 + 5) + 2);
 "#;
-
-const WRITE: &str = "use crate::line::CELL_SIZE as CELL_LINE;
-use crate::line::ENDS;
-use desk::limits::CELL_SIZE;
-use desk::limits::CELLS;
-pub const LONGEST_PAGE: usize = ENDS + CELLS * CELL_LINE + CELL_SIZE - CELL_SIZE;
-";
 
 const LINE: &str = "use frames::dynamic::field;
 pub const ROW: usize = 11 + (field::SPARE - field::STATUS - 2) + 1 + DIGITS;
@@ -278,7 +269,7 @@ enum rei2_limit {
     REI2_REPLY_LEAD = 0x12,
     REI2_DYNAMIC_LEAD = 19,
     REI2_MOST_INPUT = 32768,
-    REI2_LONGEST_LIST = 14170, REI2_LONGEST_PAGE = 13522,
+    REI2_LONGEST_LIST = 14170,
     REI2_NAME_SIZE = 14
 };
 enum rei2_refusal { REI2_DONE = 0, REI2_KIND = 1, REI2_FIELD = 2, REI2_ROOM = 3, REI2_IN_USE = 4 };
@@ -327,7 +318,7 @@ void rei2_nothing(void);
 #endif
 "#;
 
-const RIGHT: &str = "header: 3 functions, 3 structs, 25 constants, 0 differences\n";
+const RIGHT: &str = "header: 3 functions, 3 structs, 24 constants, 0 differences\n";
 
 /// A folder for one test, which is removed at its end.
 struct Folder(PathBuf);
@@ -741,9 +732,6 @@ fn a_limit_has_another_number_in_the_header() {
 fn a_limit_has_another_number_in_a_source() {
     let wanted = ["REI2_SEATS: 64 in desk/src/limits.rt (SEATS), 16 in the header"];
     differs_in("crates/desk/src/limits.rt", "SEATS: usize = 16", "SEATS: usize = 64", &wanted);
-    // a constant that is imported under another name
-    let wanted = ["REI2_LONGEST_PAGE: 13778 in page/src/write.rt (LONGEST_PAGE), 13522 in the header"];
-    differs_in("crates/page/src/line.rt", "= 52", "= 53", &wanted);
     let wanted = ["REI2_REPLY_SIZE: 52 in frames/src/reply.rt (REPLY_SIZE), 51 in the header"];
     differs_in("crates/frames/src/reply.rt", "5_1", "5_2", &wanted);
     differs_in("crates/frames/src/reply.rt", "= CELL_SIZE", "= CELL_SIZE + 1", &wanted);
@@ -767,10 +755,7 @@ fn a_limit_has_another_number_in_a_case() {
     differs_in("crates/listing/specs/Cases.antt", "≡ 14170", "≡ 1417", &wanted);
     let wanted = ["REI2_CELL_SIZE: 50 in rei2/specs/Cases.antt (limits ≡ .cell_size), 51 in the header"];
     differs_in("crates/rei2/specs/Cases.antt", "= 51", "= 50", &wanted);
-    let wanted = [
-        "REI2_CELL_SIZE: no single number in rei2/specs/Cases.antt (limits ≡ .cell_size)",
-        "REI2_LONGEST_PAGE: no single number in rei2/specs/Cases.antt (limits ≡ .longest_page)",
-    ];
+    let wanted = ["REI2_CELL_SIZE: no single number in rei2/specs/Cases.antt (limits ≡ .cell_size)"];
     differs_in("crates/rei2/specs/Cases.antt", "limits ≡ record", "others ≡ record", &wanted);
     differs_in("crates/rei2/specs/Cases.antt", "limits ≡ record", "limits ≡ f record", &wanted);
     let wanted = ["REI2_LONGEST_LIST: no single number in listing/specs/Cases.antt (longestList ≡)"];
@@ -1025,5 +1010,5 @@ fn nothing_exported_is_no_success() {
     let constants = HEADER.find("typedef").expect("the structs come behind the constants");
     fs::write(folder.0.join("rei2.h"), &HEADER[..constants]).expect("the header is written");
     let (status, printed, _) = folder.run(&["crates", "rei2.h"]);
-    assert_eq!((status, printed.as_str()), (1, "header: 0 functions, 0 structs, 25 constants, 0 differences\n"));
+    assert_eq!((status, printed.as_str()), (1, "header: 0 functions, 0 structs, 24 constants, 0 differences\n"));
 }

@@ -89,7 +89,11 @@ fn contracts(c: &Call) -> String {
     };
     let kind = "Stays (outer.ended .signature .params) (outer.ended .kept)";
     let stayed = abbrev("stayed", kind, &clauses(c, Clause::Stays));
-    [stayed, contract("Core", "core"), contract("Refused", "refuser")].join("\n\n")
+    let mut parts = vec![stayed, contract("Core", "core"), contract("Refused", "refuser")];
+    if c.early.is_some() {
+        parts.extend([contract("Tested", "tester"), contract("Early", "answerer")]);
+    }
+    parts.join("\n\n")
 }
 
 /// The triples of the callees in a table.

@@ -1,6 +1,7 @@
 //! The part of a proof about the parameters: what is owned of them at entry and at exit, and the walk between.
 
 use crate::file::{CLAUSES, LOGIC, OUTER, RUN};
+use crate::number::U32;
 use crate::param::{owned, Kind, Param};
 use crate::source::Call;
 use crate::steps::{body, exit_steps, refuse_steps};
@@ -15,7 +16,11 @@ pub fn walked(c: &Call) -> String {
     let lifetimes = spaced(&c.refs(), |p| format!("({} : Lft) ({} : Share)", p.k, p.q));
     let head = format!("module _ {LOGIC} (W : Given 𝓤 H A) {RUN}\n    {lifetimes}\n    {} where", bound(c));
     let mut parts: Vec<String> = c.params.iter().map(names).collect();
-    parts.extend([frame(c), exits(c), refuses(c), handed(c), walk(c)]);
+    parts.extend([frame(c), exits(c), refuses(c), handed(c)]);
+    if c.early.is_some() {
+        parts.extend([refuses_early(c), handed_early(c)]);
+    }
+    parts.push(walk(c));
     format!("{head}\n{}", indented(&parts.join("\n\n"), "  "))
 }
 
@@ -83,6 +88,7 @@ fn frame(c: &Call) -> String {
         abbrev("Post", "Val → SProp 𝓤", &format!("{walk_of} .post bound")),
         abbrev("tokens", "Item 𝓤", &format!("{tokens} ‵ ftrue")),
         abbrev("rows", "List RattleType", &rows),
+        abbrev("refusal", &c.result, &format!("refusal-{} {}", c.law(), c.state().v)),
     ]
     .join("\n\n")
 }
@@ -116,44 +122,108 @@ fn exits(c: &Call) -> String {
     .join("\n")
 }
 
-/// The exit after the call was refused because the row does not have sixteen seats: nothing is changed.
+/// A refusal after which nothing is changed.
+struct Refusal<'a> {
+    name: &'a str,
+    /// A number on which it depends, with its type and without.
+    number: [&'a str; 2],
+    /// The answer.
+    says: &'a str,
+    /// The facts that it needs, and their names.
+    facts: &'a str,
+    known: &'a str,
+    /// The law of the crate that shows XLent.
+    law: &'a str,
+}
+
+/// The exit after the call was refused because the row does not have sixteen seats.
 fn refuses(c: &Call) -> String {
-    let result = &c.result;
     let differs = format!("Dec.eqb (length {}) seatCount ≡ false", c.seats().v);
-    let (values, unchanged) = (spaced(&c.params, |p| p.v.clone()), spaced(&c.muts(), |p| p.v.clone()));
-    let equal = spaced(&c.mut_slices(), |_| "refl".to_string());
-    [
-        format!(
-            "refuses : (r : {result}) (v : Val) → Is {result}D.the-row r (v ∷ []) → {} → {differs} \
-             → ent 𝓤 (⋆ 𝓤 H A {ENTRY}) (Post v)",
-            c.refusal("r")
-        ),
-        "refuses r v is said e =".to_string(),
-        format!("    qed W {ENTRY} ∵ {}", refuse_steps(c)),
-        format!("    by ! (exits r v {unchanged} {equal} is (refused-{} {values} r said e))", c.law()),
-    ]
-    .join("\n")
+    let passed = c.early.as_ref().map(|_| c.test("0"));
+    let refusal = Refusal {
+        name: "refuses",
+        number: ["", ""],
+        says: "refusal",
+        known: if passed.is_some() { "t e" } else { "e" },
+        facts: &passed.map_or(differs.clone(), |passed| format!("{passed} → {differs}")),
+        law: "refused",
+    };
+    refusal.exit(c)
+}
+
+/// The exit after the call was refused because of what the early test found.
+fn refuses_early(c: &Call) -> String {
+    let refusal = Refusal {
+        name: "refuses-early",
+        number: ["(n : ℕ)", "n"],
+        says: &c.early_refusal("n"),
+        facts: &format!("{} → Dec.eqb n 0 ≡ false", c.test("n")),
+        known: "t e",
+        law: "early",
+    };
+    refusal.exit(c)
+}
+
+impl Refusal<'_> {
+    fn exit(&self, c: &Call) -> String {
+        let Refusal { name, number: [typed, number], says, facts, known, law } = self;
+        let Call { result, kind, .. } = c;
+        let (values, unchanged) = (spaced(&c.params, |p| p.v.clone()), spaced(&c.muts(), |p| p.v.clone()));
+        let equal = spaced(&c.mut_slices(), |_| "refl".to_string());
+        let said = format!("(λ (x : {result}). {kind}Lent {values} x {unchanged})");
+        let refused = format!("({law}-{} {values} {number} {known})", c.law());
+        [
+            format!(
+                "{name} : {typed} (r : {result}) (v : Val) → Is {result}D.the-row r (v ∷ []) → r ≡ {says} \
+                 → {facts} → ent 𝓤 (⋆ 𝓤 H A {ENTRY}) (Post v)"
+            ),
+            format!("{name} {number} r v is same {known} ="),
+            format!("    qed W {ENTRY} ∵ {}", refuse_steps(c)),
+            format!("    by ! (exits r v {unchanged} {equal} is (subst {said} (sym same) {refused}))"),
+        ]
+        .join("\n")
+    }
 }
 
 /// The arguments of the refuser and the core.
 fn handed(c: &Call) -> String {
-    let (refused, refused_refs, refs) = (c.refused(), c.refused_refs(), c.core_refs());
+    let (state, refs) = ([c.state()], c.core_refs());
     let spelled = |p: &Param| if p.is_seats { format!("rowVal {} ∷ []", p.v) } else { format!("{} ∷ []", p.s) };
-    let lifetimes = |refs: &[&Param]| nest(refs, |p| p.k.clone());
-    let shares = |refs: &[&Param]| nest(refs, |p| p.q.clone());
-    let (refused_vals, vals) = (nest(&refused, |p| format!("{} ∷ []", p.s)), nest(&c.params, spelled));
-    let refused_ghost = format!("((refused-κs, {}, tt, refused-args, {refused_vals}), tt)", shares(&refused_refs));
+    let shares = nest(&refs, |p| p.q.clone());
+    let (refused_vals, vals) = (nest(&state, |p| spelled(p)), nest(&c.params, spelled));
     let core_type = product(&c.params, |p| if p.is_seats { p.denot() } else { arg_type(p) });
     let core_args = nest(&c.params, |p| if p.is_seats { p.v.clone() } else { arg(p) });
     [
-        abbrev("refused-κs", &format!("Lfts {}", refused_refs.len()), &lifetimes(&refused_refs)),
-        abbrev("RefusedArg", "Type 0", &product(&refused, |p| arg_type(p))),
-        abbrev("refused-args", "RefusedArg", &nest(&refused, |p| arg(p))),
-        abbrev("to-refused", &ghost("Refused"), &refused_ghost),
-        abbrev("κs′", &format!("Lfts {}", refs.len()), &lifetimes(&refs)),
+        abbrev("RefusedArg", "Type 0", &product(&state, |p| p.denot())),
+        abbrev("refused-args", "RefusedArg", &nest(&state, |p| p.v.clone())),
+        abbrev("to-refused", &ghost("Refused"), &format!("((tt, tt, tt, refused-args, {refused_vals}), tt)")),
+        abbrev("κs′", &format!("Lfts {}", refs.len()), &nest(&refs, |p| p.k.clone())),
         abbrev("CoreArg", "Type 0", &core_type),
         abbrev("args", "CoreArg", &core_args),
-        abbrev("to-core", &ghost("Core"), &format!("((κs′, {}, tt, args, {vals}), tt)", shares(&refs))),
+        abbrev("to-core", &ghost("Core"), &format!("((κs′, {shares}, tt, args, {vals}), tt)")),
+    ]
+    .join("\n\n")
+}
+
+/// The arguments of the tester and of the function that answers after an early test.
+fn handed_early(c: &Call) -> String {
+    let (tested, refs, state) = (c.tested(), c.tested_refs(), c.state());
+    let (lifetimes, shares) = (nest(&refs, |p| p.k.clone()), nest(&refs, |p| p.q.clone()));
+    let vals = nest(&tested, |p| format!("{} ∷ []", p.s));
+    let early_vals = nest(&[state.s.clone(), U32.val("n")], |val| format!("{val} ∷ []"));
+    let number = U32.denot();
+    [
+        abbrev("TestArg", "Type 0", &product(&tested, |p| arg_type(p))),
+        abbrev("test-args", "TestArg", &nest(&tested, |p| arg(p))),
+        abbrev("test-κs", &format!("Lfts {}", refs.len()), &lifetimes),
+        abbrev("to-tested", &ghost("Tested"), &format!("((test-κs, {shares}, tt, test-args, {vals}), tt)")),
+        abbrev("EarlyArg", "Type 0", &product(&[state.denot(), number.to_string()], String::clone)),
+        abbrev("early-args n", &format!("{number} → EarlyArg"), &nest(&[&state.v, "n"], |v| v.to_string())),
+        abbrev(
+            "to-early n",
+            &format!("{number} → {}", ghost("Early")),
+            &format!("((tt, tt, tt, early-args n, {early_vals}), tt)"),
+        ),
     ]
     .join("\n\n")
 }

@@ -5,15 +5,19 @@
 //! Exit status: 0 if it wrote the files or they are as it would write them, 1 if a file differs, 2 if it could not be run.
 //!
 //! The prover does not walk a function that takes a slice of structs, so this program writes the walks of such calls. They
-//! differ only in the calls' parameters, in what is looked at to refuse a row, and in whether the whole row is stored, or
-//! one seat, or nothing. A call is read from the source and must have exactly this form:
+//! differ only in the calls' parameters, in whether something is tested before the row, and in whether the whole row is
+//! stored or one seat. A call is read from the source and must have exactly this form:
 //!
 //! ```text
 //! pub extern "C" fn F(seats: &mut [Seat], desk: Desk, cells: &mut [u8], text: &[u8], seat: u32, ..) -> Answer
 //!     ensures { λ r. ⌜ XLent (each parameter at entry) r (each `&mut` parameter at exit) ⌝ }
 //! {
+//!     let early = TESTER(text, seat);             the early test: from here..
+//!     if early != 0 {
+//!         return EARLY(desk, early);
+//!     }                                           ..to here, or none of it
 //!     if seats.len() != SEATS {
-//!         return REFUSER(desk, text);             some of the parameters in their order, none that is `&mut`
+//!         return REFUSER(desk);
 //!     }
 //!     let row = load(seats);
 //!     let out = CORE(row, desk, cells, text, seat);    the parameters in their order, row for seats
@@ -21,9 +25,6 @@
 //!     out.answer
 //! }
 //! ```
-//!
-//! or, if the row is only read, `seats: &[Seat]`, and after the load only `CORE(row, desk, cells, text, seat)`, which is then
-//! the answer.
 //!
 //! A parameter is one of these:
 //!
@@ -33,23 +34,25 @@
 //!   a number or a constant. The constant stands in the module, or in the module that a `use` names, and its value is a
 //!   number or another constant.
 //!
-//! All functions that it calls stand in the module. REFUSER ensures RefusedX (each parameter that it takes, at entry) r.
-//! CORE ensures CoreX (each parameter at entry) r (each other `&mut` parameter at exit). CORE returns a struct of row and
-//! answer or, for `put_seat`, of at, seat and answer, in this order. If the row is only read, CORE returns the answer.
+//! All functions that it calls stand in the module. REFUSER and EARLY take the same struct. TESTER takes some of the
+//! parameters in their order, none that is `&mut`, and returns a `u32`. CORE ensures CoreX (each parameter at entry) r (each
+//! other `&mut` parameter at exit), REFUSER ensures r ≡ refusal-x desk, TESTER ensures TestX (each parameter that it takes,
+//! at entry) r, and EARLY ensures r ≡ early-refusal-x desk n. CORE returns a struct of row and answer or, for `put_seat`, of
+//! at, seat and answer, in this order.
 //!
-//! The crate's proofs/LentLaws has these laws, where x is X in lower case, its words separated by dashes: read-page for
-//! ReadPage.
+//! The crate's proofs/LentLaws has `refusal-x`, `early-refusal-x` and these laws, where x is X in lower case. Those about an
+//! early test are only needed if there is one, and only then do the first two take TestX:
 //!
 //! ```text
-//! done-x     (each parameter) → (r : what CORE returns) (each other `&mut` at exit) → CoreX ..
-//!            → XLent .. (r .answer) (each `&mut` at exit; for seats (r .row), or set seats (r .at) (r .seat));
-//!              if the row is only read, r instead of (r .answer)
-//! refused-x  (each parameter) → (r : the answer) → RefusedX .. r → eqb (length seats) seatCount ≡ false
-//!            → XLent .. r (each `&mut` parameter as it was)
+//! done-x     (each parameter) → TestX .. 0 → (r : what CORE returns) (each other `&mut` at exit) → CoreX ..
+//!            → XLent .. (r .answer) (each `&mut` at exit; for seats (r .row), or set seats (r .at) (r .seat))
+//! refused-x  (each parameter) → TestX .. 0 → eqb (length seats) seatCount ≡ false
+//!            → XLent .. (refusal-x desk) (each `&mut` parameter as it was)
+//! early-x    (each parameter) (n : ℕ) → TestX .. n → eqb n 0 ≡ false
+//!            → XLent .. (early-refusal-x desk n) (each `&mut` parameter as it was)
 //! ```
 //!
-//! XLent stands in specs/Lent, CoreX and RefusedX in specs/inside/Core. proofs/Outs has laws on the parts of what CORE
-//! returns.
+//! XLent stands in specs/Lent, CoreX and TestX in specs/inside/Core. proofs/Outs has laws on the parts of what CORE returns.
 
 mod file;
 mod frame;

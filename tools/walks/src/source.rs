@@ -17,9 +17,11 @@ pub struct Call {
     pub result: String,
     /// The X of its XLent and CoreX.
     pub kind: String,
-    /// The function that answers if the row does not have sixteen seats, and the places of the parameters that it takes.
+    /// What it tests before the row, if it does.
+    pub early: Option<Early>,
+    /// The function that answers if the row does not have sixteen seats, and the place of the parameter that it takes.
     pub refuser: String,
-    refused: Vec<usize>,
+    state: usize,
     /// The call by value, and the struct that it returns.
     pub core: String,
     pub made: String,
@@ -29,6 +31,14 @@ pub struct Call {
     pub homes: Vec<(String, Home)>,
 }
 
+/// A test before that of the row: the function that tests, the places of the parameters that it takes, and the function
+/// that answers if it returns another number than 0.
+pub struct Early {
+    pub tester: String,
+    takes: Vec<usize>,
+    pub answerer: String,
+}
+
 /// What a call stores in the row.
 #[derive(Clone, Copy, Debug, PartialEq)]
 pub enum Stored {
@@ -36,14 +46,17 @@ pub enum Stored {
     Row,
     /// One seat: the call by value returns `at`, `seat` and `answer`.
     Seat,
-    /// Nothing: the row is only read, and the call by value returns the answer.
-    Nothing,
 }
 
 impl Call {
     /// The row of seats.
     pub fn seats(&self) -> &Param {
         self.params.iter().find(|p| p.is_seats).expect("a call has a row of seats")
+    }
+
+    /// The desk's state.
+    pub fn state(&self) -> &Param {
+        &self.params[self.state]
     }
 
     /// The slices and the arrays.
@@ -71,27 +84,30 @@ impl Call {
         self.params.iter().filter(|p| p.changes() && !p.is_seats).collect()
     }
 
-    /// The parameters that the refuser takes.
-    pub fn refused(&self) -> Vec<&Param> {
-        self.refused.iter().map(|place| &self.params[*place]).collect()
+    /// The parameters that are tested before the row.
+    pub fn tested(&self) -> Vec<&Param> {
+        let takes = self.early.iter().flat_map(|early| &early.takes);
+        takes.map(|place| &self.params[*place]).collect()
     }
 
-    /// The slices and the arrays that the refuser takes.
-    pub fn refused_refs(&self) -> Vec<&Param> {
-        self.refused().into_iter().filter(|p| p.is_ref()).collect()
+    /// The slices and the arrays that are tested before the row.
+    pub fn tested_refs(&self) -> Vec<&Param> {
+        self.tested().into_iter().filter(|p| p.is_ref()).collect()
     }
 
-    /// What the refuser ensures of its answer.
-    pub fn refusal(&self, answer: &str) -> String {
-        format!("Refused{} {} {answer}", self.kind, spaced(&self.refused(), |p| p.v.clone()))
+    /// What the tester ensures of the number `n`.
+    pub fn test(&self, n: &str) -> String {
+        format!("Test{} {} {n}", self.kind, spaced(&self.tested(), |p| p.v.clone()))
     }
 
-    /// The x of its laws `done-x` and `refused-x`: X in lower case, its words separated by dashes.
+    /// The answer after an early test that found the number `n`.
+    pub fn early_refusal(&self, n: &str) -> String {
+        format!("early-refusal-{} {} {n}", self.law(), self.state().v)
+    }
+
+    /// The X of its laws `done-x` and `refused-x`.
     pub fn law(&self) -> String {
-        let letter = |(at, c): (usize, char)| {
-            format!("{}{}", if at > 0 && c.is_uppercase() { "-" } else { "" }, c.to_lowercase())
-        };
-        self.kind.char_indices().map(letter).collect()
+        self.kind.to_lowercase()
     }
 
     /// The beginning of the names of the laws about the struct that the call by value returns.
@@ -139,7 +155,7 @@ impl Source<'_> {
     fn call_at(&self, at: usize) -> Option<&str> {
         let ["pub", "extern", "\"C\"", "fn", name, rest @ ..] = &self.tokens[at..] else { return None };
         let signature = rest.split(|token| *token == "{").next()?;
-        signature.windows(3).any(|w| w == ["[", SEAT, "]"]).then_some(name)
+        signature.windows(4).any(|w| w == ["mut", "[", SEAT, "]"]).then_some(name)
     }
 
     /// The call `name`, which begins at `at`.
@@ -150,11 +166,8 @@ impl Source<'_> {
         if !in_order.eq(form.handed.iter().map(String::as_str)) {
             return Err(format!("{name} hands its parameters on in another order"));
         }
-        let refused = refused(name, &form)?;
-        let made = self.made(form.core).ok_or(format!("{name} calls {}, which is not here", form.core))?;
-        if form.stored == Stored::Nothing && made != form.result {
-            return Err(format!("{name} calls {}, which returns another struct", form.core));
-        }
+        let early = form.early.take().map(|test| self.early(name, &form.params, test)).transpose()?;
+        let made = self.result_of(form.core, Reader::structure).ok_or(not_here(name, form.core))?;
         self.count(name, &mut form.params)?;
         Ok(Call {
             crate_name: self.crate_name.to_string(),
@@ -164,12 +177,32 @@ impl Source<'_> {
             params: form.params,
             result: form.result.to_string(),
             kind: form.kind.to_string(),
+            early,
             refuser: form.refuser.to_string(),
-            refused,
+            state: form.state,
             core: form.core.to_string(),
             made: made.to_string(),
             stored: form.stored,
         })
+    }
+
+    /// The early test of the call `name`. The tester takes some of the parameters in their order, none that may change,
+    /// and returns a `u32`.
+    fn early(&self, name: &str, params: &[Param], test: Test) -> Result<Early, String> {
+        let Test { tester, handed, answerer } = test;
+        let mut takes = Vec::new();
+        for word in &handed {
+            let place = params.iter().position(|p| p.name == *word);
+            let place = place.filter(|place| takes.last().is_none_or(|last| last < place));
+            takes.push(place.ok_or(format!("{name} hands {tester} its parameters in another order"))?);
+        }
+        if let Some(place) = takes.iter().find(|place| params[**place].changes()) {
+            return Err(format!("{name} hands {tester} {}, which may change", params[*place].name));
+        }
+        match self.result_of(tester, Reader::word).ok_or(not_here(name, tester))? {
+            "u32" => Ok(Early { tester: tester.to_string(), takes, answerer: answerer.to_string() }),
+            _ => Err(format!("{name} calls {tester}, which does not return a u32")),
+        }
     }
 
     /// Replaces the names of constants in the lengths of arrays by numbers.
@@ -181,13 +214,13 @@ impl Source<'_> {
         Ok(())
     }
 
-    /// The struct that the module's function `name` returns.
-    fn made(&self, name: &str) -> Option<&str> {
+    /// The type that the module's function `name` returns, read by `read`.
+    fn result_of<'b>(&'b self, name: &str, read: impl Fn(&mut Reader<'b>) -> Option<&'b str>) -> Option<&'b str> {
         let at = self.tokens.windows(2).position(|w| w == ["fn", name])?;
         let mut reader = Reader { rest: &self.tokens[at + 2..] };
         reader.list()?;
         reader.all("- >")?;
-        reader.structure()
+        read(&mut reader)
     }
 
     /// The structs of a call, sorted by name, each once, and where they are declared.
@@ -215,19 +248,8 @@ pub fn imported<'a>(tokens: &[&'a str], name: &str) -> Option<(&'a str, &'a str)
     })
 }
 
-/// The places of the parameters that the refuser of the call `name` takes: some of them in their order, none that may change.
-fn refused(name: &str, form: &Form) -> Result<Vec<usize>, String> {
-    let Form { params, refuser, refused, .. } = form;
-    let mut takes = Vec::new();
-    for word in refused {
-        let place = params.iter().position(|p| p.name == *word);
-        let place = place.filter(|place| takes.last().is_none_or(|last| last < place));
-        takes.push(place.ok_or(format!("{name} hands {refuser} its parameters in another order"))?);
-    }
-    match takes.iter().find(|place| params[**place].changes()) {
-        Some(place) => Err(format!("{name} hands {refuser} {}, which may change", params[*place].name)),
-        None => Ok(takes),
-    }
+fn not_here(name: &str, function: &str) -> String {
+    format!("{name} calls {function}, which is not here")
 }
 
 /// The parts of a call, read from its text.
@@ -235,13 +257,21 @@ struct Form<'a> {
     params: Vec<Param>,
     result: &'a str,
     kind: &'a str,
+    early: Option<Test<'a>>,
     refuser: &'a str,
-    /// The arguments of the refuser.
-    refused: Vec<String>,
+    /// The place of the parameter that the refuser takes.
+    state: usize,
     core: &'a str,
     /// The arguments of the core.
     handed: Vec<String>,
     stored: Stored,
+}
+
+/// The parts of an early test: the function that tests, its arguments, and the function that answers.
+struct Test<'a> {
+    tester: &'a str,
+    handed: Vec<String>,
+    answerer: &'a str,
 }
 
 impl<'a> Form<'a> {
@@ -262,40 +292,58 @@ impl<'a> Form<'a> {
 
     /// Reads the call's body, without its first brace.
     fn body(reader: &mut Reader<'a>, mut params: Vec<Param>, result: &'a str, kind: &'a str) -> Option<Form<'a>> {
+        let early = if reader.rest.first() == Some(&"let") { Some(Test::read(reader)?) } else { None };
+        let (early, early_state) = early.unzip();
         reader.all("if")?;
         let seats = reader.word()?;
         reader.all(". len ( ) ! = SEATS { return")?;
         let refuser = reader.word()?;
-        let refused = reader.handed()?;
-        reader.all(&format!("; }} let row = load ( {seats} ) ;"))?;
-        let keeps = reader.rest.first() != Some(&"let");
-        reader.all(if keeps { "" } else { "let out =" })?;
+        reader.all("(")?;
+        let state = reader.word()?;
+        reader.all(&format!(") ; }} let row = load ( {seats} ) ; let out ="))?;
         let core = reader.word()?;
         let handed = reader.handed()?;
-        let stored = if keeps { Stored::Nothing } else { Stored::read(reader, seats)? };
-        reader.all("}")?;
-        let lent = Kind::Slice(if keeps { Loan::Shared } else { Loan::Mut });
-        let row = params.iter_mut().find(|p| p.name == seats && p.kind == lent && p.of == SEAT)?;
+        reader.all(";")?;
+        let stored = Stored::read(reader, seats)?;
+        reader.all("; out . answer }")?;
+        let row = params.iter_mut().find(|p| p.name == seats && p.kind == Kind::Slice(Loan::Mut) && p.of == SEAT)?;
         row.is_seats = true;
+        let same_state = early_state.is_none_or(|early| early == state);
+        let state = params.iter().position(|p| p.name == state && p.kind == Kind::Struct && same_state)?;
         // a variable of this name would hide the parameter
-        if params.iter().any(|p| p.name == "row") {
+        let hidden = |p: &Param| p.name == "row" || p.name == "early" && early.is_some();
+        if params.iter().any(hidden) {
             return None;
         }
-        Some(Form { params, result, kind, refuser, refused, core, handed, stored })
+        Some(Form { params, result, kind, early, refuser, state, core, handed, stored })
     }
 }
 
 impl Stored {
-    /// Reads the call that stores in the row `seats`, and the answer.
+    /// Reads the call that stores in the row `seats`.
     fn read(reader: &mut Reader, seats: &str) -> Option<Stored> {
-        reader.all(";")?;
         let (stored, handed) = match reader.word()? {
             "store" => (Stored::Row, "out . row"),
             "put_seat" => (Stored::Seat, "out . at , out . seat"),
             _ => return None,
         };
-        reader.all(&format!("( {seats} , {handed} ) ; out . answer"))?;
+        reader.all(&format!("( {seats} , {handed} )"))?;
         Some(stored)
+    }
+}
+
+impl<'a> Test<'a> {
+    /// Reads an early test, and the parameter that its answer takes beside the number.
+    fn read(reader: &mut Reader<'a>) -> Option<(Test<'a>, &'a str)> {
+        reader.all("let early =")?;
+        let tester = reader.word()?;
+        let handed = reader.handed()?;
+        reader.all("; if early ! = 0 { return")?;
+        let answerer = reader.word()?;
+        reader.all("(")?;
+        let state = reader.word()?;
+        reader.all(", early ) ; }")?;
+        Some((Test { tester, handed, answerer }, state))
     }
 }
 
@@ -351,7 +399,7 @@ struct Reader<'a> {
 impl<'a> Reader<'a> {
     /// Reads these tokens, which are separated by blanks; nothing if the next tokens are others.
     fn all(&mut self, tokens: &str) -> Option<()> {
-        tokens.split_whitespace().try_for_each(|token| self.next().filter(|next| *next == token).map(|_| ()))
+        tokens.split(' ').try_for_each(|token| self.next().filter(|next| *next == token).map(|_| ()))
     }
 
     fn word(&mut self) -> Option<&'a str> {

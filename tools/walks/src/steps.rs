@@ -1,5 +1,7 @@
 //! The steps of a call: from its entry to its returns, and those of its exits.
 
+mod early;
+
 use crate::param::{lawful, Loan, Param};
 use crate::source::{Call, Stored};
 use crate::text::{joined, product, spaced, step};
@@ -11,15 +13,15 @@ pub fn body(c: &Call) -> String {
     let at = Places::new(c);
     let mut steps = Steps { c, w: Walk::new(at.all, &["tokens", "owned"]), at };
     steps.enters();
+    if c.early.is_some() {
+        steps.tests_early();
+    }
     steps.tests_row();
     steps.refused();
     steps.loads();
     steps.hands_over();
     steps.calls();
-    if c.stored != Stored::Nothing {
-        steps.stores();
-        steps.answers();
-    }
+    steps.stores();
     steps.returns();
     steps.w.text()
 }
@@ -95,17 +97,18 @@ fn strs(names: &[String]) -> Vec<&str> {
 
 /// The locals of a call, in the order in which the compiler makes them.
 struct Places {
+    /// The number that the early test returns, if there is one.
+    early: usize,
     row: usize,
-    /// What the core returns. If nothing is stored, it is the answer.
     out: usize,
     length: usize,
     test: usize,
-    /// The seats, for the load, if they may change.
+    /// The seats, for the load.
     view: (usize, usize),
     /// What is lent again to the core, by its parameter's place.
     lent: BTreeMap<usize, Lent>,
     unit: usize,
-    /// The seats, for the store, if there is one.
+    /// The seats, for the store.
     again: (usize, usize),
     /// How many locals there are.
     all: usize,
@@ -122,26 +125,26 @@ enum Lent {
 
 impl Places {
     fn new(c: &Call) -> Places {
-        let keeps = c.stored == Stored::Nothing;
-        let row = c.params.len() + 1;
-        let out = if keeps { 0 } else { row + 1 };
-        let tests = row.max(out) + 1;
-        let mut next = tests + if keeps { 2 } else { 4 };
+        let is_early = c.early.is_some();
+        let count = c.params.len() + usize::from(is_early);
+        let mut next = count + 7;
         let mut lent = BTreeMap::new();
         for p in c.core_muts() {
             lent.insert(p.index, if p.is_slice() { Lent::Slice(next, next + 1) } else { Lent::Array(next) });
             next += if p.is_slice() { 2 } else { 1 };
         }
         Places {
-            row,
-            out,
-            length: tests,
-            test: tests + 1,
-            view: (tests + 2, tests + 3),
+            early: count,
+            row: count + 1,
+            out: count + 2,
+            // an early test is made before the length is read
+            length: if is_early { count + 4 } else { count + 3 },
+            test: if is_early { count + 3 } else { count + 4 },
+            view: (count + 5, count + 6),
             lent,
             unit: next,
             again: (next + 1, next + 2),
-            all: next + if keeps { 0 } else { 3 },
+            all: next + 3,
         }
     }
 
@@ -163,16 +166,40 @@ impl Places {
 /// A call that was made, with the names that the proof uses.
 struct Made<'a> {
     callee: &'a str,
-    /// The struct that it returns.
+    /// The type of its result, and the row of this type.
     result: &'a str,
+    row: &'a str,
     /// The tokens that it returns.
     tokens: &'a str,
     lifetimes: &'a str,
     args: &'a str,
     /// The type of the last values.
     lasts: &'a str,
-    /// What it ensures of the result r.
+    /// What it ensures.
     said: &'a str,
+    /// The names for the result and for the fact that it ensures this.
+    named: [&'a str; 2],
+}
+
+/// A call that answers for a refused one.
+struct Refusing<'a> {
+    /// What was found, and the name of this fact.
+    remark: &'a str,
+    found: &'a str,
+    /// The callee's names: of its contract, of the fact that it meets it, of its module, of what the contract depends on, and
+    /// of the arguments.
+    contract: &'a str,
+    known: &'a str,
+    callee: &'a str,
+    ghost: &'a str,
+    args: &'a str,
+    /// The steps after which its arguments are owned, and the locals that are passed.
+    owned: Vec<String>,
+    locals: Vec<usize>,
+    /// The answer.
+    says: &'a str,
+    /// The proof of the exit.
+    exit: &'a str,
 }
 
 struct Steps<'a> {
@@ -200,97 +227,99 @@ impl Steps<'_> {
         let seats = c.seats();
         let length = field(w.cell(at.of(seats)), 1);
         w.assign(at.length, &format!("(of-opd ! {length})"), &format!("(tt, record {{ fits = {} .0 }})", seats.room));
-        let test = format!("(bin ! {} (lit ! tt) tt)", copy(w.cell(at.length)));
+        self.guards(self.at.length);
+    }
+
+    /// Tests that a local is not the number in the code.
+    fn guards(&mut self, local: usize) {
+        let Steps { w, at, .. } = self;
+        let test = format!("(bin ! {} (lit ! tt) tt)", copy(w.cell(local)));
         w.assign(at.test, &test, "(tt, tt)");
         w.line(&format!("guards ! {}", copy(w.cell(at.test))));
     }
 
-    /// The branch for a row that does not have sixteen seats: the refuser is called, and nothing is changed.
+    /// The branch for a row that does not have sixteen seats.
     fn refused(&mut self) {
-        let before = self.w.mark();
-        self.w.line("-- not a row of sixteen seats: refused, and nothing is changed");
-        self.w.opens("(λ differs.");
-        self.w.line("");
-        let lends = !self.c.refused_refs().is_empty();
-        if lends {
-            self.lends();
-        }
-        self.calls_refuser();
-        let Steps { c, w, .. } = self;
-        w.swap("drop !", 1, &[]);
-        w.front(&["result"]);
-        w.swap("split !", 1, &["tokens back", "made"]);
-        if lends {
-            puts_together(c, w);
-        } else {
-            w.swap("drop !", 1, &[]);
-        }
-        w.front(&["made"]);
-        w.line("");
-        w.binds(&facts(&c.result), 1, &[]);
-        w.lands(0, &lawful(&c.result, "r", "is"));
-        w.line(&format!("returns-within ! Post refl (look ! {} refl) $", w.cell(0)));
-        w.free();
-        let differs = format!("(is-false (Dec.eqb (length {}) seatCount) differs)", c.seats().v);
-        w.ends(&format!("by ! (refuses r w is e {differs})"), before.parens);
-        w.back(before);
-    }
-
-    /// Takes the parameters apart, and makes a copy of each `&` reference that the refuser takes.
-    fn lends(&mut self) {
-        let Steps { c, w, .. } = self;
-        w.front(&["owned"]);
-        w.split_all("fsplit", &named("own", &c.params), "true");
-        w.front(&["tokens"]);
-        w.split_all("split", &named("token", c.refs()), "no token");
-        c.refused_refs().into_iter().for_each(|p| copies(p, w));
-    }
-
-    /// Passes the refuser the copies, the values, and the tokens, and calls it.
-    fn calls_refuser(&mut self) {
-        let Steps { c, w, at } = self;
-        w.swap("nothing !", 0, &["args"]);
-        for p in c.refused().into_iter().rev() {
-            if p.is_ref() {
-                w.front(&[&format!("copy {}", p.name), "args"]);
-            } else {
-                w.swap(&p.owned(), 0, &["arg"]);
-            }
-            w.swap("fjoin !", 2, &["args"]);
-        }
-        w.swap("nothing !", 0, &["no lent token"]);
-        let lent = w.join_all("join", &named("token", c.refused_refs()), "no lent token", "lent tokens");
-        w.front(&[&lent, "args"]);
-        w.swap("join !", 2, &["entry"]);
-        w.swap("use1 W (raw (Refused 𝓤 H A at-mem run .pre to-refused)) (∗emp 𝓤 _)", 1, &["entry"]);
-        w.line("");
-        let handed: Vec<String> = c.refused().into_iter().map(|p| copy(w.cell(at.of(p)))).collect();
-        let called = "calls-at ! fm (Refused 𝓤 H A at-mem run) known-refused to-refused";
-        w.binds(&format!("{called} {} (λ w.", operands(&handed)), 1, &["post"]);
         let c = self.c;
-        self.after_call(&Made {
+        let passed = if c.early.is_some() { "passed" } else { "" };
+        let differs = format!("(is-false (Dec.eqb (length {}) seatCount) differs)", c.seats().v);
+        self.refuses(&Refusing {
+            remark: "not a row of sixteen seats",
+            found: "differs",
+            contract: "Refused",
+            known: "known-refused",
             callee: "refuser",
-            result: &c.result,
-            tokens: &tokens(&c.refused_refs()),
-            lifetimes: "refused-κs",
+            ghost: "to-refused",
             args: "refused-args",
-            lasts: &product(&c.refused(), |_| "Unit {0}".to_string()),
-            said: &c.refusal("r"),
+            owned: vec![c.state().owned()],
+            locals: vec![self.at.of(c.state())],
+            says: "refusal",
+            exit: &format!("refuses r w is e {passed} {differs}"),
         });
     }
 
-    /// From the callee's postcondition to its result r, the last values zs, and the fact e that it ensures this.
+    /// The branch of a refusal: the function that answers is called, and nothing is changed.
+    fn refuses(&mut self, refusing: &Refusing) {
+        let before = self.w.mark();
+        self.calls_refuser(refusing);
+        let Steps { c, w, .. } = self;
+        w.swap("drop !", 1, &[]);
+        w.front(&["result"]);
+        w.swap("split !", 1, &["no token", "made"]);
+        w.swap("drop !", 1, &[]);
+        w.line("");
+        w.binds(&facts(&format!("{}D.the-row", c.result), "r", "is"), 1, &[]);
+        w.lands(0, &lawful(&c.result, "r", "is"));
+        w.line(&format!("returns-within ! Post refl (look ! {} refl) $", w.cell(0)));
+        w.free();
+        w.ends(&format!("by ! ({})", refusing.exit), before.parens);
+        w.back(before);
+    }
+
+    fn calls_refuser(&mut self, refusing: &Refusing) {
+        let w = &mut self.w;
+        let Refusing { remark, found, contract, known, ghost, owned, .. } = refusing;
+        w.line(&format!("-- {remark}: refused, and nothing is changed"));
+        w.opens(&format!("(λ {found}."));
+        w.line("");
+        w.swap("nothing !", 0, &["args"]);
+        for step in owned.iter().rev() {
+            w.swap(step, 0, &["arg"]);
+            w.swap("fjoin !", 2, &["args"]);
+        }
+        w.swap("nothing !", 0, &["no token"]);
+        w.swap("join !", 2, &["entry"]);
+        w.swap(&format!("use1 W (raw ({contract} 𝓤 H A at-mem run .pre {ghost})) (∗emp 𝓤 _)"), 1, &["entry"]);
+        w.line("");
+        let handed: Vec<String> = refusing.locals.iter().map(|local| copy(w.cell(*local))).collect();
+        let called = format!("calls-at ! fm ({contract} 𝓤 H A at-mem run) {known} {ghost}");
+        w.binds(&format!("{called} {} (λ w.", operands(&handed)), 1, &["post"]);
+        let result = &self.c.result;
+        self.after_call(&Made {
+            callee: refusing.callee,
+            result,
+            row: &format!("{result}D.the-row"),
+            tokens: "‵ ftrue",
+            lifetimes: "tt",
+            args: refusing.args,
+            lasts: &product(owned, |_| "Unit {0}".to_string()),
+            said: &format!("r ≡ {}", refusing.says),
+            named: ["r", "e"],
+        });
+    }
+
+    /// From the callee's postcondition to its result, the last values zs, and the fact that it ensures.
     fn after_call(&mut self, made: &Made) {
-        let Made { callee, result, tokens, lifetimes, args, lasts, said } = made;
+        let Made { callee, result, row, tokens, lifetimes, args, lasts, said, named: [r, e] } = made;
         let w = &mut self.w;
         w.line("");
-        let had = format!("(({tokens}) ⊛ ‵ ({result}D.the-row .own r (w ∷ [])))");
+        let had = format!("(({tokens}) ⊛ ‵ ({row} .own {r} (w ∷ [])))");
         let clauses = format!("{callee}.ended ({callee}.clauses 𝓤 H A at-mem run)");
-        let ensured = format!("raw (ensured 𝓤 H A {clauses} {lifetimes} {args} tt r)");
-        let post = format!("(later (some (λ (r : {result}). {had} ⊛ {ensured})))");
+        let ensured = format!("raw (ensured 𝓤 H A {clauses} {lifetimes} {args} tt {r})");
+        let post = format!("(later (some (λ ({r} : {result}). {had} ⊛ {ensured})))");
         w.swap(&format!("use1 W {post} (id⊢ 𝓤 _)"), 1, &["post"]);
         w.say("await ! tt $");
-        w.binds("pick ! (λ r.", 1, &["post"]);
+        w.binds(&format!("pick ! (λ {r}."), 1, &["post"]);
         w.swap("split !", 1, &["result", "ensures"]);
         w.front(&["ensures"]);
         w.line("");
@@ -301,7 +330,7 @@ impl Steps<'_> {
         w.swap("split !", 1, &["lasts", "fact"]);
         w.front(&["fact"]);
         w.line("");
-        w.binds(&format!("heard ! ({said}) (λ e."), 1, &[]);
+        w.binds(&format!("heard ! ({said}) (λ {e}."), 1, &[]);
     }
 
     /// Takes the parameters apart and loads the row.
@@ -314,22 +343,13 @@ impl Steps<'_> {
         w.line(&format!("let whole-row : {test} ≡ true = is-true ({test}) same in"));
         let full = format!("Dec.eqb→eq (length {v}) seatCount (subst Dec.T (sym whole-row) tt)");
         w.line(&format!("let full : length {v} ≡ seatCount = {full} in"));
-        if s.changes() {
-            w.reborrow(at.of(s), at.view, &s.typed());
-        }
+        w.reborrow(at.of(s), at.view, &s.typed());
         w.line("");
         takes_apart(c, w);
         w.line("");
         w.front(&[&own(s), &token(s)]);
-        w.line("");
-        if s.changes() {
-            let handed = operands(&[copy(w.cell(at.view.1))]);
-            w.binds(&format!("loads {} ! fm known-load (λ i j. {handed}) (λ is-row.", lent_seats(s)), 0, &[]);
-        } else {
-            // when the operand is read, there is one item less before the locals
-            let handed = operands(&[copy(w.cell(at.of(s)) - 1)]);
-            w.binds(&format!("reads {} ! fm known-load (λ i. {handed}) (λ is-row.", lent_seats(s)), 1, &[]);
-        }
+        let handed = operands(&[copy(w.cell(at.view.1))]);
+        w.opens(&format!("loads {} ! fm known-load (λ i j. {handed}) (λ is-row.", lent_seats(s)));
         let laws = "SeatD.the-row (LL.lawful SeatD.the-type SeatL.the-laws 𝓤 H A W) seatCount";
         w.lands(at.row, &format!("(array-lawful 𝓤 H A W {laws} .typed {v} _ is-row .0)"));
     }
@@ -380,11 +400,13 @@ impl Steps<'_> {
         self.after_call(&Made {
             callee: "core",
             result: &c.made,
+            row: &format!("{}D.the-row", c.made),
             tokens: &tokens(&c.core_refs()),
             lifetimes: "κs′",
             args: "args",
             lasts: &lasts,
             said: &said,
+            named: ["r", "e"],
         });
         self.takes_back();
     }
@@ -407,11 +429,8 @@ impl Steps<'_> {
         w.front(&["made"]);
         w.line("");
         let made = &c.made;
-        w.binds(&facts(made), 1, &[]);
+        w.binds(&facts(&format!("{made}D.the-row"), "r", "is"), 1, &[]);
         w.lands(at.out, &lawful(made, "r", "is"));
-        if c.stored == Stored::Nothing {
-            return;
-        }
         let cell = format!("(λ (u : Val). ‵ (fat fullShare {made}L.mir {} 0 u))", local(at.out));
         let place = w.cell(at.out);
         w.say(&format!("rewrite ! {place} {cell} (ap only ({made}L.lowers .val-is r (w ∷ []) is)) refl $"));
@@ -421,8 +440,10 @@ impl Steps<'_> {
     fn stores(&mut self) {
         let Steps { c, w, at } = self;
         let s = c.seats();
-        let is_row = c.stored == Stored::Row;
-        let (noun, fields) = if is_row { ("row", 0..1) } else { ("seat", 0..2) };
+        let (noun, fields) = match c.stored {
+            Stored::Row => ("row", 0..1),
+            Stored::Seat => ("seat", 0..2),
+        };
         w.line(&format!("-- the {noun} is stored"));
         w.reborrow(at.of(s), at.again, &s.typed());
         w.line("");
@@ -431,26 +452,23 @@ impl Steps<'_> {
         let parts = fields.map(|part| field(w.cell(at.out) - 1, part));
         let handed: Vec<String> = [copy(w.cell(at.again.1) - 1)].into_iter().chain(parts).collect();
         let (lent, handed, is) = (lent_seats(s), operands(&handed), is_part(c, noun));
-        w.line(&if is_row {
-            format!("stores {lent} (r .row) {is} ! fm known-store (λ i. {handed}) $")
-        } else {
-            let fits = format!("({}-at-fits r (w ∷ []) is)", c.out());
-            format!("puts {lent} (r .at) (r .seat) {fits} {is} ! fm known-put (λ i. {handed}) $")
+        w.line(&match c.stored {
+            Stored::Row => format!("stores {lent} (r .row) {is} ! fm known-store (λ i. {handed}) $"),
+            Stored::Seat => {
+                let fits = format!("({}-at-fits r (w ∷ []) is)", c.out());
+                format!("puts {lent} (r .at) (r .seat) {fits} {is} ! fm known-put (λ i. {handed}) $")
+            }
         });
         w.rename(&format!("final {}", s.name));
         w.lands(at.unit, "(tt, tt)");
     }
 
-    /// Takes the answer out of what the core returned.
-    fn answers(&mut self) {
-        let Steps { c, w, at } = self;
-        let answer = field(w.cell(at.out), if c.stored == Stored::Row { 1 } else { 2 });
-        w.assign(0, &format!("(of-opd ! {answer})"), &lawful(&c.result, "(r .answer)", &is_part(c, "answer")));
-    }
-
     /// Returns the answer.
     fn returns(&mut self) {
-        let Steps { c, w, .. } = self;
+        let Steps { c, w, at } = self;
+        let answer_is = is_part(c, "answer");
+        let answer = field(w.cell(at.out), if c.stored == Stored::Row { 1 } else { 2 });
+        w.assign(0, &format!("(of-opd ! {answer})"), &lawful(&c.result, "(r .answer)", &answer_is));
         w.line(&format!("returns ! (look ! {} refl) $", w.cell(0)));
         w.free();
         w.line("");
@@ -459,17 +477,13 @@ impl Steps<'_> {
         let (row, row_length) = match c.stored {
             Stored::Row => ("(r .row)".to_string(), format!("({} .1 .0 .1 ∙ sym full)", is_part(c, "row"))),
             Stored::Seat => (format!("(set {v} (r .at) (r .seat))"), format!("(length-set {v} (r .at) (r .seat))")),
-            Stored::Nothing => (String::new(), String::new()),
-        };
-        let (answer, answer_is) = match c.stored {
-            Stored::Nothing => ("r", "is".to_string()),
-            _ => ("(r .answer)", is_part(c, "answer")),
         };
         let finals = spaced(&c.muts(), |p| if p.is_seats { row.clone() } else { last(p) });
         let lengths = spaced(&c.mut_slices(), |p| if p.is_seats { &row_length } else { &p.len }.clone());
         let (values, lasts) = (spaced(&c.params, |p| p.v.clone()), spaced(&c.core_muts(), |p| last(p)));
-        let said = format!("(done-{} {values} r {lasts} e)", c.law());
-        w.ends(&format!("by ! (exits {answer} _ {finals} {lengths} {answer_is} {said})"), 0);
+        let passed = if c.early.is_some() { "passed" } else { "" };
+        let said = format!("(done-{} {values} {passed} r {lasts} e)", c.law());
+        w.ends(&format!("by ! (exits (r .answer) _ {finals} {lengths} {answer_is} {said})"), 0);
     }
 }
 
@@ -500,15 +514,6 @@ fn copies(p: &Param, w: &mut Walk) {
     w.swap("split !", 1, &[&own(p), &format!("copy {}", p.name)]);
 }
 
-/// Puts together what was taken apart for the refuser. Its tokens are at the head.
-fn puts_together(c: &Call, w: &mut Walk) {
-    w.split_all("split", &named("token", c.refused_refs()), "no lent token");
-    w.swap("drop !", 1, &[]);
-    let owned = w.join_all("fjoin", &named("own", &c.params), "true", "owned");
-    let tokens = w.join_all("join", &named("token", c.refs()), "no token", "tokens");
-    w.front(&["made", &tokens, &owned]);
-}
-
 /// Joins all tokens into one item. What is owned of each reference at exit comes after it.
 fn gathers(c: &Call, w: &mut Walk) {
     w.front(&["tokens back"]);
@@ -522,10 +527,9 @@ fn gathers(c: &Call, w: &mut Walk) {
     w.keep(&strs(&kept));
 }
 
-/// The step from the owned value r of the struct `of` to the fact that it is in its row.
-fn facts(of: &str) -> String {
-    let row = format!("{of}D.the-row");
-    format!("facts ! {row} (Is {row}) (shows 𝓤 H A {row}) r (w ∷ []) (λ is.")
+/// The step from the owned value `r` of a row to the fact that it is in its row.
+fn facts(row: &str, r: &str, is: &str) -> String {
+    format!("facts ! {row} (Is {row}) (shows 𝓤 H A {row}) {r} (w ∷ []) (λ {is}.")
 }
 
 /// The tokens of references, as a callee returns them.

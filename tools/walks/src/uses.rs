@@ -1,7 +1,7 @@
 //! The `use` lines of a proof.
 
 use crate::param::{Kind, Loan, Param};
-use crate::source::{Call, Stored};
+use crate::source::{Call, Early, Stored};
 use crate::text::joined;
 use std::collections::{BTreeMap, BTreeSet};
 
@@ -54,17 +54,27 @@ use denote.Signature.{plain}
 use Rattle·desk.specs.Limits.{seatCount}
 ";
 
+/// The names of the kit that an early test needs, each with its module.
+const EARLY: [(&str, &str); 6] = [
+    ("denote.Plain", "uint-lawful"),
+    ("denote.Plain", "uint-makes"),
+    ("mir.Syntax", "tyInt"),
+    ("mir.Syntax", "w32"),
+    ("mir.Val", "vint"),
+    ("types.Run", "store"),
+];
+
 /// The names of the kit that a call needs that stores one seat, each with its module.
 const SEAT: [(&str, &str); 2] = [("lib.ListN", "length-set"), ("lib.ListN", "set")];
 
 /// The functions that a call calls, in their order: the name of each in the proof, and its own name.
 pub fn callees(c: &Call) -> Vec<(&str, &str)> {
+    let early = c.early.iter().flat_map(|early| [("tested", early.tester.as_str()), ("early", &early.answerer)]);
     let stored = match c.stored {
-        Stored::Row => Some(("store", "store")),
-        Stored::Seat => Some(("put", "put_seat")),
-        Stored::Nothing => None,
+        Stored::Row => ("store", "store"),
+        Stored::Seat => ("put", "put_seat"),
     };
-    [("refused", c.refuser.as_str()), ("load", "load"), ("core", &c.core)].into_iter().chain(stored).collect()
+    early.chain([("refused", c.refuser.as_str()), ("load", "load"), ("core", &c.core), stored]).collect()
 }
 
 /// All `use` lines of a call's proof.
@@ -85,8 +95,9 @@ pub fn uses(c: &Call) -> String {
 
 /// The `use` lines for names of the kit that only some calls need.
 fn of_kit(c: &Call) -> String {
+    let early = if c.early.is_some() { &EARLY[..] } else { &[] };
     let seat = if c.stored == Stored::Seat { &SEAT[..] } else { &[] };
-    let all = c.params.iter().flat_map(for_param).chain(seat.iter().copied());
+    let all = c.params.iter().flat_map(for_param).chain([early, seat].concat());
     let mut names: BTreeMap<&str, BTreeSet<&str>> = BTreeMap::new();
     for (module, name) in all.filter(|(module, name)| !in_head(module, name)) {
         names.entry(module).or_default().insert(name);
@@ -137,18 +148,22 @@ fn of_crate(c: &Call) -> String {
     let Call { crate_name, module, kind, refuser, core, .. } = c;
     let (specs, proofs) = (format!("Rattle·{crate_name}·specs.specs"), format!("Rattle·{crate_name}·proofs.proofs"));
     let (law, out) = (c.law(), c.out());
-    let parts = |parts: String| format!("use {proofs}.Outs.{{{parts}, {out}-answer-is}}\n");
     let (steps, parts) = match c.stored {
-        Stored::Row => ("Store, loads, stores", parts(format!("{out}-row-is"))),
-        Stored::Seat => ("Put, loads, puts", parts(format!("{out}-at-fits, {out}-seat-is"))),
-        Stored::Nothing => ("reads", String::new()),
+        Stored::Row => ("Store, loads, stores", format!("{out}-row-is")),
+        Stored::Seat => ("Put, loads, puts", format!("{out}-at-fits, {out}-seat-is")),
     };
+    let early = |text: String| if c.early.is_some() { text } else { String::new() };
+    let (test, laws) = (early(format!(", Test{kind}")), early(format!(", early-refusal-{law}, early-{law}")));
+    let aliases = c.early.iter().map(|Early { tester, answerer, .. }| {
+        format!("use {proofs}.{module}.{tester} as tester\nuse {proofs}.{module}.{answerer} as answerer\n")
+    });
     [
-        format!("use {specs}.Lent.{{{kind}Lent}}\nuse {specs}.inside.Core.{{Core{kind}, Refused{kind}}}\n"),
+        format!("use {specs}.Lent.{{{kind}Lent}}\nuse {specs}.inside.Core.{{Core{kind}{test}}}\n"),
         format!("use {proofs}.Rows.{{guards, is-true, is-false}}\nuse {proofs}.Views.{{gives-up}}\n"),
         format!("use {proofs}.Steps.{{rowVal, Load, {steps}}}\n"),
-        parts,
-        format!("use {proofs}.LentLaws.{{done-{law}, refused-{law}}}\n"),
+        format!("use {proofs}.Outs.{{{parts}, {out}-answer-is}}\n"),
+        format!("use {proofs}.LentLaws.{{refusal-{law}, done-{law}, refused-{law}{laws}}}\n"),
+        aliases.collect(),
         format!("use {proofs}.{module}.{refuser} as refuser\nuse {proofs}.{module}.{core} as core\n"),
     ]
     .concat()

@@ -162,8 +162,8 @@ impl Walk {
 
     /// The step by which a local gets a value. `typed` is the proof that the value has the local's type.
     pub fn init(&mut self, k: usize, typed: &str) -> String {
-        assert!(self.full.insert(k), "local {k} gets a value twice");
-        format!("(init ! {} refl {typed})", self.cell(k))
+        let step = if self.full.insert(k) { "init" } else { "store" };
+        format!("({step} ! {} refl {typed})", self.cell(k))
     }
 
     pub fn assign(&mut self, k: usize, value: &str, typed: &str) {

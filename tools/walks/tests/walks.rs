@@ -57,12 +57,12 @@ pub extern "C" fn rei2_look(
 }
 
 #[no_mangle]
-pub extern "C" fn rei2_count(seats: &[u8]) -> u32 {
+pub extern "C" fn rei2_count(seats: &[Seat]) -> u32 {
     0
 }
 "#;
 
-/// A module with a call that takes numbers and arrays, and whose refuser takes more than the state.
+/// A module with a call that takes numbers and arrays, and that tests something before the row.
 const PAGE: &str = r#"use crate::answers::Answer;
 use desk::limits::KINDS;
 use desk::state::Desk;
@@ -74,6 +74,8 @@ struct Out {
     pub row: [Seat; SEATS],
     pub answer: Answer,
 }
+
+fn test_page(counts: &[[[u8; 4]; 2]; 7], text: &[u8], seat: u32) -> u32 {}
 
 fn page_row(
     row: [Seat; SEATS],
@@ -103,8 +105,12 @@ pub extern "C" fn rei2_page(
         (now (counts .entry)) (now (text .entry)) seat whole r
         (now (seats .exit)) (now (tally .exit)) (now (cells .exit)) (now (line .exit)) ⌝ }
 {
+    let early = test_page(counts, text, seat);
+    if early != 0 {
+        return no_page(desk, early);
+    }
     if seats.len() != SEATS {
-        return no_page(desk, counts, text, seat);
+        return no_desk(desk);
     }
     let row = load(seats);
     let out = page_row(row, desk, tally, cells, line, counts, text, seat, whole);
@@ -262,27 +268,26 @@ fn has_no_form(module: &str, call: &str) {
 
 // ---- the repository's files
 
-const CALLS: [&str; 6] = ["rei2_reset", "rei2_open", "rei2_reply", "rei2_capture", "rei2_write_page", "rei2_read_page"];
-
 #[test]
 fn the_files_of_the_repository_are_what_it_writes() {
     let repo = Repo::as_here();
-    assert_eq!(repo.walks(&[]), says(0, "walks: 6 walks written\n", ""));
-    for call in CALLS {
+    assert_eq!(repo.walks(&[]), says(0, "walks: 4 walks written\n", ""));
+    for call in ["rei2_reset", "rei2_open", "rei2_reply", "rei2_capture"] {
         assert!(read(&repo.proof(call)) == read(&proof(&here(), call)), "{call}");
     }
-    assert_eq!(walks(&here(), &["--check"]), says(0, "walks: 6 walks are as written\n", ""));
+    assert_eq!(walks(&here(), &["--check"]), says(0, "walks: 4 walks are as written\n", ""));
 }
 
 #[test]
 fn a_check_fails_where_a_file_differs_by_a_byte() {
     let repo = Repo::as_here();
-    for call in CALLS {
+    let calls = ["rei2_reset", "rei2_open", "rei2_reply", "rei2_capture"];
+    for call in calls {
         fs::create_dir_all(repo.proof(call).parent().expect("a file has a folder")).expect("a folder is made");
         fs::copy(proof(&here(), call), repo.proof(call)).expect("a file is copied");
     }
-    assert_eq!(repo.walks(&["--check"]), says(0, "walks: 6 walks are as written\n", ""));
-    for call in CALLS {
+    assert_eq!(repo.walks(&["--check"]), says(0, "walks: 4 walks are as written\n", ""));
+    for call in calls {
         let right = fs::read(repo.proof(call)).expect("the file is read");
         let mut changed = right.clone();
         changed[right.len() / 2] ^= 1;
@@ -385,7 +390,7 @@ fn numbers_are_passed_by_value() {
 #[test]
 fn the_other_call_of_the_module_is_not_changed() {
     assert!(written(&with_numbers(), "rei2_take") == written(MODULE, "rei2_take"));
-    stand(&written(MODULE, "rei2_take"), 0, &["denote.Plain", "Ref.{M"]);
+    stand(&written(MODULE, "rei2_take"), 0, &["denote.Plain", "Ref.{M", "early", "store !", "Tested"]);
 }
 
 #[test]
@@ -410,20 +415,20 @@ fn arrays_are_lent_by_their_references() {
             "(len-seats, (tt, (tt, (len-cells, (tt, (tt, (tt, (tt, (tt, tt)))))))))",
         ],
     );
-    // a refusal leaves it as it was
+    // both refusals leave it as it was
     stand(
         &proof,
-        1,
+        2,
         &[&format!("use1 W (‵ (fres γ-tally ({tally} .coded .code v-tally))) (W .names .obs-res γ-tally")],
     );
     // two are lent again to the call by value. Each has one local. Before the locals are 16 items: of the 6 references, of
     // the copies of 2 of them, of 6 lifetimes, and two ends
-    let at = |local: usize| 16 + 2 * (22 - local);
+    let at = |local: usize| 16 + 2 * (23 - local);
     let lent = |from: usize, to: usize| {
         let hop = format!("(hop ! (look ! {} refl) (stop !))", at(from));
         format!("assigns ! (addr ! (from ! {hop})) (from ! (stop !)) (init ! {} refl (tt, tt)) $\n", at(to))
     };
-    stand(&proof, 1, &[&lent(3, 16), &lent(5, 19)]);
+    stand(&proof, 1, &[&lent(3, 17), &lent(5, 20)]);
     stand(&proof, 0, &["room-tally", "len-tally", "room-counts", "Array u32 KINDS"]);
 }
 
@@ -441,91 +446,85 @@ fn the_lengths_of_arrays_are_those_of_the_source() {
 }
 
 #[test]
-fn the_refuser_says_what_is_refused() {
+fn a_test_comes_before_the_row() {
     let proof = written(PAGE, "rei2_page");
-    stand(
-        &proof,
-        1,
-        &[
-            "use Rattle·rei2·specs.specs.inside.Core.{CorePage, RefusedPage}\n",
-            "use Rattle·rei2·proofs.proofs.LentLaws.{done-page, refused-page}\n",
-            "use Rattle·rei2·proofs.proofs.lent.no_page as refuser\n",
-            "→ RefusedPage v-desk v-counts v-text v-seat r → Dec.eqb (length v-seats) seatCount ≡ false → ent",
-            "(refused-page v-seats v-desk v-tally v-cells v-line v-counts v-text v-seat v-whole r said e)",
-            "(done-page v-seats v-desk v-tally v-cells v-line v-counts v-text v-seat v-whole r ",
-            "  refused-κs = (κ-counts, (κ-text, tt))\n",
-            "  RefusedArg = Desk × (RefT (List (List (List ℕ))) × (RefT (List ℕ) × (ℕ × Unit {0})))\n",
-            "  refused-args = (v-desk, (x-counts v-counts, (x-text v-text, (v-seat, tt))))\n",
-            "  to-refused = ((refused-κs, (q-counts, (q-text, tt)), tt, refused-args, \
-             (s-desk ∷ [], (s-counts ∷ [], (s-text ∷ [], (s-seat ∷ [], tt))))), tt)\n",
-        ],
-    );
+    stand(&proof, 1, &[
+        "use Rattle·rei2·specs.specs.inside.Core.{CorePage, TestPage}\n",
+        "use Rattle·rei2·proofs.proofs.LentLaws.{refusal-page, done-page, refused-page, early-refusal-page, early-page}\n",
+        "use Rattle·rei2·proofs.proofs.lent.test_page as tester\n",
+        "use Rattle·rei2·proofs.proofs.lent.no_page as answerer\n",
+        "→ r ≡ early-refusal-page v-desk n → TestPage v-counts v-text v-seat n → Dec.eqb n 0 ≡ false → ent",
+        "→ r ≡ refusal → TestPage v-counts v-text v-seat 0 → Dec.eqb (length v-seats) seatCount ≡ false → ent",
+        "(early-page v-seats v-desk v-tally v-cells v-line v-counts v-text v-seat v-whole n t e)",
+        "(refused-page v-seats v-desk v-tally v-cells v-line v-counts v-text v-seat v-whole t e)",
+        "(done-page v-seats v-desk v-tally v-cells v-line v-counts v-text v-seat v-whole passed r ",
+        "let passed : TestPage v-counts v-text v-seat 0 = subst (λ (k : ℕ). TestPage v-counts v-text v-seat k) \
+         (Dec.eqb→eq n 0 (subst Dec.T (sym (is-true (Dec.eqb n 0) none)) tt)) t in\n",
+        "  to-early n = ((tt, tt, tt, early-args n, (s-desk ∷ [], (vint w32 n ∷ [], tt))), tt)\n",
+        "  test-κs = (κ-counts, (κ-text, tt))\n",
+        "  early-args n = (v-desk, (n, tt))\n",
+    ]);
     in_order(
         &proof,
         &[
             "    walk =\n",
+            "calls-at ! fm (Tested 𝓤 H A at-mem run) known-tested to-tested ",
+            "guards ! ",
+            "calls-at ! fm (Early 𝓤 H A at-mem run) known-early (to-early n) ",
+            "by ! (refuses-early n r w is e t (is-false (Dec.eqb n 0) found))",
             "guards ! ",
             "calls-at ! fm (Refused 𝓤 H A at-mem run) known-refused to-refused ",
-            "by ! (refuses r w is e (is-false (Dec.eqb (length v-seats) seatCount) differs))",
+            "by ! (refuses r w is e passed (is-false (Dec.eqb (length v-seats) seatCount) differs))",
             "known-load ",
             "calls-at ! fm (Core 𝓤 H A at-mem run) known-core to-core ",
             "known-store ",
+            "code.calls-rei2·lent·test-page ",
             "code.calls-rei2·lent·no-page ",
+            "code.calls-rei2·lent·no-desk ",
         ],
     );
+    // the second test is stored in the local of the first
+    stand(&proof, 1, &["(store ! "]);
 }
 
 #[test]
-fn what_the_refuser_takes_is_handed_over_and_put_together_again() {
+fn what_is_tested_is_handed_over_and_put_together_again() {
     let proof = written(PAGE, "rei2_page");
     let counts = "(shr-copy 𝓤 H A W (named 4) κ-counts (Array (Array (Array u8 4) 2) 7) .twice (x-counts v-counts) ";
     let text = "(shr-slice-copy 𝓤 H A W (named 5) κ-text u8 .twice (x-text v-text) ";
-    // a copy of each reference for the refuser, and one for the call by value
+    // a copy of each reference for the tester, and one for the call by value
     stand(&proof, 2, &[counts, text]);
-    // local k of 23 has the place 2 * (22 - k) after the entry's item, those of 9 parameters, 4 tokens, and two ends
-    let handed = |k: usize| format!("(load ! (from ! (stop !)) (look ! {} refl))", 2 * (22 - k) + 1 + 9 + 4 + 2);
-    let handed = [2, 6, 7, 8]
-        .map(handed)
-        .iter()
-        .rev()
-        .fold("(no-more !)".to_string(), |rest, operand| format!("(and-then ! {operand} {rest})"));
+    let look = |place: usize| format!("(load ! (from ! (stop !)) (look ! {place} refl))");
+    // local k of 24 has the place 2 * (23 - k) after the entry's item, those of 9 parameters, 4 tokens, and two ends
+    let tester = [6, 7, 8].map(|k| look(2 * (23 - k) + 1 + 9 + 4 + 2));
+    // after the entry's item, the tokens, and what is owned
+    let answerer = [2, 10].map(|k| look(2 * (23 - k) + 3));
     in_order(
         &proof,
         &[
             &format!("{counts}(s-counts ∷ [])) $ split ! $ "),
             &format!("{text}(s-text ∷ [])) $ split ! $ nothing ! $ owned ! u32 (Is u32) (uint-makes 𝓤 H A W w32) v-seat _ is-seat"),
-            " $ fjoin ! $ move ! (2 ∷ 0 ∷ []) $ fjoin ! $ move ! (3 ∷ 0 ∷ []) $ fjoin ! $ owned ! DeskD.the-row",
-            " $ fjoin ! $ nothing ! $",
-            " use1 W (raw (Refused 𝓤 H A at-mem run .pre to-refused)) (∗emp 𝓤 _) $\n",
-            &handed,
-            "heard ! (RefusedPage v-desk v-counts v-text v-seat r) (λ e. drop ! $ split ! $ split ! $ move ! (1 ∷ []) $ split ! $",
-            " join ! $ move ! (2 ∷ 0 ∷ 1 ∷ []) $\n",
-            "facts ! AnswerD.the-row (Is AnswerD.the-row) (shows 𝓤 H A AnswerD.the-row) r (w ∷ []) (λ is.\n",
+            " $ fjoin ! $ move ! (2 ∷ 0 ∷ []) $ fjoin ! $ move ! (3 ∷ 0 ∷ []) $ fjoin ! $ nothing ! $",
+            " use1 W (raw (Tested 𝓤 H A at-mem run .pre to-tested)) (∗emp 𝓤 _) $\n",
+            &format!("(and-then ! {} (and-then ! {} (and-then ! {} (no-more !))))", tester[0], tester[1], tester[2]),
+            "drop ! $ split ! $ move ! (1 ∷ []) $\n",
+            "facts ! u32 (Is u32) (shows 𝓤 H A u32) n (w ∷ []) (λ is-n.\n",
+            "(ap only (is-n .0)) refl $\n",
+            " move ! (2 ∷ 0 ∷ []) $ join ! $\n",
+            &format!("assigns ! (bin ! {} (lit ! tt) tt)", look(2 * (23 - 10) + 2)),
+            " nothing ! $ owned ! u32 (Is u32) (uint-makes 𝓤 H A W w32) n _ (refl, is-n .1) $ fjoin ! $ owned ! DeskD.the-row",
+            &format!("known-early (to-early n) (and-then ! {} (and-then ! {} (no-more !)))", answerer[0], answerer[1]),
         ],
     );
     stand(
         &proof,
         1,
         &[
+            "  EarlyArg = Desk × (ℕ × Unit {0})\n",
+            "  TestArg = RefT (List (List (List ℕ))) × (RefT (List ℕ) × (ℕ × Unit {0}))\n",
+            "  test-args = (x-counts v-counts, (x-text v-text, (v-seat, tt)))\n",
             "use denote.Ref.{MutRef, ShrRef, mut-tells, ptr-vals, shr-copy, shr-tells}\n",
             "shr-tells (named 4) (κs .1 .1 .1 .1 .0) (Array (Array (Array u8 4) 2) 7), (shr-slice-tells (named 5)",
-        ],
-    );
-}
-
-#[test]
-fn a_refuser_that_takes_values_only() {
-    let proof = written(&refuser("desk, whole"), "rei2_page");
-    stand(
-        &proof,
-        1,
-        &[
-            "  refused-κs = tt\n",
-            "  refused-args = (v-desk, (v-whole, tt))\n",
-            "→ RefusedPage v-desk v-whole r → Dec.eqb ",
-            // nothing is taken apart for it
-            "(λ differs.\n        nothing ! $ owned ! bool (Is bool) (bool-makes 𝓤 H A W) v-whole _ is-whole $ fjoin ! $ owned ! DeskD",
-            "heard ! (RefusedPage v-desk v-whole r) (λ e. drop ! $ split ! $ drop ! $\n",
         ],
     );
 }
@@ -550,7 +549,7 @@ fn one_seat_is_stored() {
             "use Rattle·rei2·specs.specs.declared.lent.One.{One}\n",
             "use Rattle·rei2·proofs.proofs.Steps.{rowVal, Load, Put, loads, puts}\n",
             "use Rattle·rei2·proofs.proofs.Outs.{one-at-fits, one-seat-is, one-answer-is}\n",
-            "use Rattle·rei2·proofs.proofs.LentLaws.{done-take, refused-take}\n",
+            "use Rattle·rei2·proofs.proofs.LentLaws.{refusal-take, done-take, refused-take}\n",
             "use Rattle·rei2·proofs.proofs.lent.put_seat.Met as put-thm\n",
             "-- the seat is stored\n",
             "code.env #put put-def.routine code.calls-rei2·lent·put-seat (put-thm.met 𝓤 H 𝓜 𝓖 𝓡)",
@@ -579,46 +578,19 @@ fn one_seat_is_stored() {
     assert!(written(&with_seat(), "rei2_look") == written(MODULE, "rei2_look"));
 }
 
-/// The module in which `rei2_take` only reads the row.
-fn with_reading() -> String {
-    let module = replaced(MODULE, "frame: &[u8]) -> Out {}", "frame: &[u8]) -> Answer {}");
-    let module = replaced(&module, "rei2_take(seats: &mut [Seat]", "rei2_take(seats: &[Seat]");
-    let module = replaced(&module, "        (now (seats .exit)) (now (cells .exit))", "        (now (cells .exit))");
-    let module = replaced(&module, "TakeLent", "TakeAllLent");
-    let core = "take_row(row, desk, cells, frame)";
-    replaced(&module, &format!("    let out = {core};\n    {STORE}\n    out.answer\n"), &format!("    {core}\n"))
-}
-
 #[test]
-fn the_row_is_only_read() {
-    let proof = written(&with_reading(), "rei2_take");
+fn one_seat_is_stored_after_an_early_test() {
+    let proof = written(&edited_page(STORE, PUT), "rei2_page");
+    let values = "v-seats v-desk v-tally v-cells v-line v-counts v-text v-seat v-whole passed r ";
     stand(
         &proof,
         1,
         &[
-            "use Rattle·rei2·proofs.proofs.Steps.{rowVal, Load, reads}\n",
-            "use Rattle·rei2·proofs.proofs.LentLaws.{done-take-all, refused-take-all}\n",
-            "(shr-slice-copy 𝓤 H A W (named 0) κ-seats SeatD.the-row .twice (x-seats v-seats) (s-seats ∷ []))",
-            "by ! (exits r _ (zs .1 .1 .0) len-cells is (done-take-all v-seats v-desk v-cells v-frame r (zs .1 .1 .0) e))",
+            "(out-at-fits r (w ∷ []) is)",
+            &format!("(done-page {values}"),
+            ".LentLaws.{refusal-page, done-page, refused-page, early-refusal-page, early-page}\n",
         ],
     );
-    stand(&proof, 0, &["Out", "stores", "Store", "-store", "loads", "is stored", "(r .answer)", "gives-up SeatD"]);
-    // the other call stores the row
-    assert!(written(&with_reading(), "rei2_look") == written(MODULE, "rei2_look"));
-}
-
-#[test]
-fn the_row_is_only_read_in_another_way() {
-    let core = "take_row(row, desk, cells, frame)";
-    let instead = |other: &str| replaced(&with_reading(), &format!("    {core}\n"), &format!("    {other}\n"));
-    for other in [format!("{core};"), format!("let out = {core};\n    out"), format!("{STORE}\n    {core}")] {
-        has_no_form(&instead(&other), "rei2_take");
-    }
-    refuses(&instead("no_desk(desk)"), "rei2_take hands its parameters on in another order");
-    let mutable = replaced(&with_reading(), "rei2_take(seats: &[Seat]", "rei2_take(seats: &mut [Seat]");
-    has_no_form(&mutable, "rei2_take");
-    let other = replaced(&with_reading(), "frame: &[u8]) -> Answer {}", "frame: &[u8]) -> Out {}");
-    refuses(&other, "rei2_take calls take_row, which returns another struct");
 }
 
 #[test]
@@ -626,14 +598,29 @@ fn the_locals_are_those_of_the_compiler() {
     let locals = |module: &str, call: &str| written(module, call).matches("alloc1 ! (λ l").count();
     // the result; the parameters; row, out, the length, the test, the seats for the load and again for the store, the unit
     assert_eq!(locals(MODULE, "rei2_look"), 1 + 2 + 9);
-    // without a store there are no out, no seats that are lent again, and no unit; the cells are lent again
-    assert_eq!(locals(&with_reading(), "rei2_take"), 1 + 4 + 3 + 2);
     // and two for the cells
     assert_eq!(locals(MODULE, "rei2_take"), 1 + 4 + 9 + 2);
     // and none for the parts of one seat
     assert_eq!(locals(&with_seat(), "rei2_take"), 1 + 4 + 9 + 2);
-    // and one for each array
-    assert_eq!(locals(PAGE, "rei2_page"), 1 + 9 + 9 + 2 + 2);
+    // and one for each array, and the number of the early test
+    assert_eq!(locals(PAGE, "rei2_page"), 1 + 9 + 9 + 2 + 2 + 1);
+}
+
+#[test]
+fn numbers_and_arrays_without_an_early_test() {
+    let proof = written(&edited_page(EARLY, ""), "rei2_page");
+    let whole = written(PAGE, "rei2_page");
+    stand(&proof, 0, &["Test", "test", "early", "Early", "passed", "store !", "tyInt"]);
+    assert_eq!(proof.matches("alloc1 ! (λ l").count() + 1, whole.matches("alloc1 ! (λ l").count());
+    stand(
+        &proof,
+        1,
+        &[
+            "use Rattle·rei2·proofs.proofs.LentLaws.{refusal-page, done-page, refused-page}\n",
+            "(done-page v-seats v-desk v-tally v-cells v-line v-counts v-text v-seat v-whole r ",
+            "(refused-page v-seats v-desk v-tally v-cells v-line v-counts v-text v-seat v-whole e)",
+        ],
+    );
 }
 
 #[test]
@@ -651,6 +638,22 @@ fn parentheses_are_closed() {
     }
 }
 
+#[test]
+fn an_early_test_of_values_only() {
+    let module = edited_page("test_page(counts, text, seat);", "test_page(desk, whole);");
+    let module = replaced(
+        &module,
+        "test_page(counts: &[[[u8; 4]; 2]; 7], text: &[u8], seat: u32)",
+        "test_page(desk: Desk, whole: bool)",
+    );
+    let proof = written(&module, "rei2_page");
+    stand(
+        &proof,
+        1,
+        &["  test-κs = tt\n", "  test-args = (v-desk, (v-whole, tt))\n", "let passed : TestPage v-desk v-whole 0 = "],
+    );
+}
+
 // ---- calls that do not have the right form
 
 #[test]
@@ -659,7 +662,7 @@ fn the_guard_is_missing_or_another() {
     has_no_form(&edited_look(guard, ""), "rei2_look");
     has_no_form(&edited_look("seats.len() != SEATS", "seats.len() < SEATS"), "rei2_look");
     has_no_form(&edited_look("seats.len() != SEATS", "seats.len() != 17"), "rei2_look");
-    has_no_form(&edited_look("return no_desk(desk)", "return"), "rei2_look");
+    has_no_form(&edited_look("return no_desk(desk)", "return no_desk(other)"), "rei2_look");
     has_no_form(&edited("    let row = load(seats); // sixteen seats\n", ""), "rei2_take");
 }
 
@@ -723,6 +726,7 @@ fn another_contract() {
 fn other_parameters() {
     let desk = "    seats: &mut [Seat],\n    desk: Desk,\n";
     has_no_form(&edited_look(desk, "    seats: &'a mut [Seat],\n    desk: Desk,\n"), "rei2_look");
+    has_no_form(&edited_look(desk, "    seats: &mut [Seat],\n    desk: u32,\n"), "rei2_look"); // no_desk takes a struct
     has_no_form(&edited_look(desk, "    seats: &mut [Seat],\n    desk: [u8; 4],\n"), "rei2_look");
     has_no_form(&edited("frame: &[u8]) -> Answer", "frame: &[u64]) -> Answer"), "rei2_take");
     has_no_form(&edited("fn rei2_take(", "fn rei2_take<'a>("), "rei2_take");
@@ -733,6 +737,9 @@ fn other_numbers() {
     for number in ["u16", "i64", "char", "f32", "&u32", "&mut u32"] {
         has_no_form(&edited_pages("    seat: u32,\n", &format!("    seat: {number},\n")), "rei2_page");
     }
+    // a number is not refused for: the answer takes a struct
+    let module = edited_page("return no_desk(desk)", "return no_desk(seat)");
+    has_no_form(&module.replace("no_page(desk, early)", "no_page(seat, early)"), "rei2_page");
     let order = "rei2_page hands its parameters on in another order";
     refuses(&edited_page("text, seat, whole);\n", "text, whole, seat);\n"), order);
     refuses(&edited_page("text, seat, whole);\n", "text, 7, whole);\n"), order);
@@ -769,24 +776,61 @@ fn lengths_that_are_not_known() {
     refuses(&edited_page("use desk::limits::KINDS;\n", ""), &unknown("KINDS"));
 }
 
-/// The module in which the refuser of `rei2_page` takes these arguments.
-fn refuser(handed: &str) -> String {
-    edited_page("no_page(desk, counts, text, seat)", &format!("no_page({handed})"))
+/// The early test of `rei2_page`, and its test of the row.
+const EARLY: &str = "    let early = test_page(counts, text, seat);
+    if early != 0 {
+        return no_page(desk, early);
+    }
+";
+const ROW: &str = "    if seats.len() != SEATS {
+        return no_desk(desk);
+    }
+";
+
+#[test]
+fn an_early_test_at_another_place_or_with_another_answer() {
+    let early = |old: &str, new: &str| edited_page(EARLY, &replaced(EARLY, old, new));
+    has_no_form(&edited_page(&[EARLY, ROW].concat(), &[ROW, EARLY].concat()), "rei2_page");
+    has_no_form(&edited_page(EARLY, &[EARLY, EARLY].concat()), "rei2_page");
+    has_no_form(&edited_page(ROW, ""), "rei2_page");
+    has_no_form(&early("no_page(desk, early)", "no_page(desk)"), "rei2_page");
+    has_no_form(&early("no_page(desk, early)", "no_page(early, desk)"), "rei2_page");
+    has_no_form(&early("no_page(desk, early)", "no_page(desk, seat)"), "rei2_page");
+    has_no_form(&early("no_page(desk, early)", "no_page(other, early)"), "rei2_page");
+    has_no_form(&early("no_page(desk, early)", "no_page(desk, early, seat)"), "rei2_page");
+    has_no_form(&early("early != 0", "early != 1"), "rei2_page");
+    has_no_form(&early("early != 0", "early > 0"), "rei2_page");
+    has_no_form(&early("let early", "let line"), "rei2_page");
+    has_no_form(&early("let early", "let mut early"), "rei2_page");
 }
 
 #[test]
-fn a_refuser_that_takes_other_parameters() {
-    for handed in ["text, counts, seat", "counts, counts, seat", "desk, other", "desk, 7", "desk, *text"] {
-        refuses(&refuser(handed), "rei2_page hands no_page its parameters in another order");
+fn an_early_test_of_other_parameters() {
+    let early = |handed: &str| edited_page("test_page(counts, text, seat);", &format!("test_page({handed});"));
+    for handed in
+        ["text, counts, seat", "counts, counts, seat", "counts, other, seat", "counts, text, 7", "counts, *text, seat"]
+    {
+        refuses(&early(handed), "rei2_page hands test_page its parameters in another order");
     }
-    refuses(&refuser("desk, tally, text"), "rei2_page hands no_page tally, which may change");
-    refuses(&refuser("seats, desk"), "rei2_page hands no_page seats, which may change");
+    refuses(&early("tally, text, seat"), "rei2_page hands test_page tally, which may change");
+    refuses(&early("seats, text, seat"), "rei2_page hands test_page seats, which may change");
+}
+
+#[test]
+fn an_early_test_that_is_not_in_the_module_or_returns_no_number() {
+    refuses(&edited_page("fn test_page(", "fn tested_page("), "rei2_page calls test_page, which is not here");
+    for other in ["u64", "bool", "Answer"] {
+        let module = edited_page("seat: u32) -> u32 {}", &format!("seat: u32) -> {other} {{}}"));
+        refuses(&module, "rei2_page calls test_page, which does not return a u32");
+    }
 }
 
 #[test]
 fn a_parameter_that_a_variable_hides() {
-    let module = PAGE.replace("whole: bool", "row: bool").replace(" whole", " row");
-    has_no_form(&module, "rei2_page");
+    for name in ["early", "row"] {
+        let module = PAGE.replace("whole: bool", &format!("{name}: bool")).replace(" whole", &format!(" {name}"));
+        has_no_form(&module, "rei2_page");
+    }
     let module = PAGE.replace("whole: bool", "out: bool").replace(" whole", " out");
     assert!(written(&module, "rei2_page").contains("(v-out : Bool)"));
 }

@@ -1,24 +1,14 @@
 -- What the calls by value return, from which the lent calls are made.
 use Rattle.std.specs.Prelude.{List, [], ◌≡◌, ℕ, set}
-use Rattle.digits.specs.declared.refusal.Refusal.{Refusal}
-use Rattle.digits.specs.Refusals.{ROOM, DESK, PAGE}
-use Rattle.digits.specs.Told.{refuses}
 use Rattle.desk.specs.declared.state.Seat.{Seat}
 use Rattle.desk.specs.declared.state.Desk.{Desk}
 use Rattle.desk.specs.Memory.{Memory, memory}
 use Rattle.desk.specs.Calls.{Outcome, resets, opens, replies}
 use Rattle.desk.specs.Capture.{captures}
-use Rattle.page.specs.declared.read.PageCheck.{PageCheck}
-use Rattle.page.specs.declared.read.PageCheck.TheVariants.{Good, Page}
-use Rattle.page.specs.Version.{one}
-use Rattle.page.specs.Reading.{PageChecked}
-use Rattle.rei2.specs.declared.request.WrittenAnswer.{WrittenAnswer}
-use Rattle.rei2.specs.declared.lent.DeskAnswer.{DeskAnswer}
-use Rattle.rei2.specs.declared.lent.CapturedAnswer.{CapturedAnswer}
 use Rattle.rei2.specs.declared.lent.Out.{Out}
 use Rattle.rei2.specs.declared.lent.One.{One}
 use Rattle.rei2.specs.declared.lent.Captured.{Captured}
-use Rattle.rei2.specs.Lent.{desk_answer, capture_answer, page_answer, read_answer, answer_of, captured_of, WritePageLent, ReadPageLent}
+use Rattle.rei2.specs.Lent.{answer_of, captured_of}
 
 abbrev pub out_of : Outcome → Out
 out_of o = record { row = o.after.row; answer = answer_of o }
@@ -31,36 +21,6 @@ pub record OneSeat (row : List Seat) (o : Outcome) (r : One) : Type 0 where
 -- with the cells, the marks and the tally after the call
 abbrev pub Stored : Memory → List ℕ → List ℕ → List (List ℕ) → Type 0
 Stored after cells' marks' tally' = (cells' ≡ after.cells) × ((marks' ≡ after.marks) × (tally' ≡ after.tally))
-
--- ---- the answers if the row does not have sixteen seats
-
--- such a row has no room for the desk of a page
-abbrev pub without_room : PageCheck → Refusal
-without_room Good = ROOM
-without_room (Page n) = PAGE n
-
-module _ (desk : Desk) where
-  abbrev pub RefusedReset : DeskAnswer → Type 0
-  RefusedReset r = r ≡ desk_answer desk (refuses DESK)
-
-  abbrev pub RefusedOpen : DeskAnswer → Type 0
-  RefusedOpen = RefusedReset
-
-  abbrev pub RefusedReply : DeskAnswer → Type 0
-  RefusedReply = RefusedReset
-
-  abbrev pub RefusedCapture : CapturedAnswer → Type 0
-  RefusedCapture r = r ≡ capture_answer desk (refuses DESK)
-
-  abbrev pub RefusedWritePage : WrittenAnswer → Type 0
-  RefusedWritePage r = r ≡ page_answer (refuses DESK)
-
-  pub record RefusedReadPage (text : List ℕ) (r : DeskAnswer) : Type 0 where
-    pub check : PageCheck
-    pub checked : PageChecked one text check
-    pub answer : r ≡ read_answer desk (refuses (without_room check))
-
--- ---- the calls by value
 
 module _ (row : List Seat) (desk : Desk) where
   -- cells and marks are not looked at
@@ -82,9 +42,3 @@ module _ (row : List Seat) (desk : Desk) where
     CoreCapture r cells' marks' tally' =
         let o = captures (memory desk row cells marks tally) frame in
         (r ≡ record { row = o.after.row; answer = captured_of o }) × Stored o.after cells' marks' tally'
-
-    abbrev pub CoreWritePage : WrittenAnswer → List ℕ → Type 0
-    CoreWritePage = WritePageLent row desk cells marks tally frame
-
-    abbrev pub CoreReadPage : Out → List ℕ → List ℕ → List (List ℕ) → Type 0
-    CoreReadPage r = ReadPageLent row desk cells marks tally frame r.answer r.row

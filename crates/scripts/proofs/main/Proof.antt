@@ -6,10 +6,10 @@ use Rattle.scripts.proofs.main.Tie as tie
 use lib.ListN.{length}
 
 abbrev invariant-loop : tie.invariant-loop
-invariant-loop buffer₀ cells₀ marks₀ tally₀ text₀ script₀ turns₀ buffer cells marks tally text script turns = (length buffer ≡ 1024) × ((length cells ≡ 15400) × (length marks ≡ 310))
+invariant-loop buffer₀ cells₀ marks₀ tally₀ script₀ turns₀ buffer cells marks tally script turns = (length buffer ≡ 1024) × ((length cells ≡ 15400) × (length marks ≡ 310))
 
 abbrev decreases-loop : tie.decreases-loop
-decreases-loop buffer₀ cells₀ marks₀ tally₀ text₀ script₀ turns₀ buffer cells marks tally text script turns = turns
+decreases-loop buffer₀ cells₀ marks₀ tally₀ script₀ turns₀ buffer cells marks tally script turns = turns
 
 empty-requires : tie.Need-empty-requires invariant-loop decreases-loop
 empty-requires c κs = search rules

@@ -6,7 +6,6 @@ mod conversations;
 mod full;
 mod mixed;
 mod nearly;
-mod pages;
 mod wild;
 
 use super::frames::{
@@ -29,14 +28,13 @@ pub fn piece(seed: u64, scripts: u64) -> Vec<Vec<String>> {
 
 fn script(random: &mut Random) -> Vec<String> {
     let mut cases = Cases::default();
-    match random.below(80) {
+    match random.below(64) {
         0..=15 => super::random::add_script(&mut cases, random),
         16..=31 => conversations::add(&mut cases, random),
         32..=49 => nearly::add(&mut cases, random),
         50..=57 => full::add(&mut cases, random),
         58..=61 => wild::add(&mut cases, random),
-        62..=63 => mixed::add(&mut cases, random),
-        _ => pages::add(&mut cases, random),
+        _ => mixed::add(&mut cases, random),
     }
     cases.text.lines().map(str::to_string).collect()
 }
@@ -49,7 +47,7 @@ fn lend<'a>(cases: &'a mut Cases, cells: usize, random: &mut Random) -> Script<'
 }
 
 /// A random key. It often has one or two parts in common with other keys.
-pub fn random_key(random: &mut Random) -> Key {
+fn random_key(random: &mut Random) -> Key {
     let address = random_address(random);
     let requester = random.pick(b"11AAaaz09ZBb");
     let number = match random.below(4) {
@@ -60,7 +58,7 @@ pub fn random_key(random: &mut Random) -> Key {
 }
 
 /// This many keys, all different. About a third differ from another one in the address alone.
-pub fn different_keys(count: usize, random: &mut Random) -> Vec<Key> {
+fn different_keys(count: usize, random: &mut Random) -> Vec<Key> {
     let mut keys = Vec::new();
     while keys.len() < count {
         let key = match random.below(3) {
@@ -254,7 +252,7 @@ mod tests {
         for number in [1, 2, 3, 4, 5, 9, 10, 11, 12, 13, 14, 15, 16] {
             assert!(tally.calls[number] > 3, "{number} {:?}", tally.calls);
         }
-        assert_eq!([6, 7, 8, 17, 18].map(|number| tally.calls[number]), [0; 5]);
+        assert_eq!([6, 7, 8, 17].map(|number| tally.calls[number]), [0; 4]);
         let looks = lines.iter().zip(&answers);
         let looks = looks.filter(|(line, _)| line.starts_with("look "));
         let (found, refused): (Vec<_>, Vec<_>) =
@@ -263,48 +261,6 @@ mod tests {
         assert!(not_zero.count() > 20);
         assert!(refused.len() > 20);
         assert!(refused.iter().all(|(_, answer)| answer[0] == "17 0 0 0"));
-    }
-
-    #[test]
-    fn pages_have_all_their_outcomes() {
-        let mut tally = Tally::default();
-        let scripts = piece(2, 300);
-        let lines = scripts.iter().flatten();
-        let lines: Vec<&String> = lines.filter(|line| !line.starts_with("mixes")).collect();
-        let text: String = lines.iter().map(|line| format!("{line}\n")).collect();
-        let answers = answers::by_case(text.as_bytes()).expect("cases");
-        for (line, answer) in lines.iter().zip(&answers) {
-            if !line.starts_with("damage-page") {
-                tally.take_case(line, answer);
-            }
-        }
-        let (read, written) = (tally.pages_read, tally.pages_written);
-        assert!(
-            [0, 7, 18].iter().all(|&number| read[number] > 5),
-            "{read:?}"
-        );
-        assert!(
-            [0, 7, 9].iter().all(|&number| written[number] > 5),
-            "{written:?}"
-        );
-        assert_eq!(read.iter().sum::<u64>(), read[0] + read[7] + read[18]);
-        assert_eq!(
-            written.iter().sum::<u64>(),
-            written[0] + written[7] + written[9]
-        );
-    }
-
-    /// The text is the script's own, too: before any other line about it there is a new text.
-    #[test]
-    fn every_script_begins_with_its_own_text() {
-        for script in piece(1, 300) {
-            let is_about_text = |line: &&String| line.contains("text") || line.contains("-page");
-            let first = script.iter().find(is_about_text);
-            assert!(
-                first.is_none_or(|line| line.starts_with("text ")),
-                "{first:?}"
-            );
-        }
     }
 
     #[test]

@@ -1,7 +1,7 @@
 //! Scripts about what makes a desk. Each clause but that of the tally is broken in turn and both
 //! calls are tried. Then the clause is mended and both calls are tried again.
 
-pub mod changes;
+mod changes;
 
 use super::frames::{patched, reply, reply_with_bib, request, request_for, R, ROW_OF_P, Z};
 use super::script::{seat_of, Script};
@@ -19,7 +19,7 @@ pub fn add_all(cases: &mut Cases) {
 }
 
 /// The good desk, made by calls.
-pub fn lay(cases: &mut Cases) -> Script<'_> {
+fn lay(cases: &mut Cases) -> Script<'_> {
     let mut script = Script::lend_cells(cases, CELLS);
     script.open_all(&KEYS);
     for (bib, (status, seat)) in RECORDS.into_iter().enumerate() {

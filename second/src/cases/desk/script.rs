@@ -1,8 +1,6 @@
 //! A script that is being made. Each line is also played on a desk, so that what a script has
 //! changed can be put back.
 
-mod pages;
-
 use super::frames::{request, Key};
 use crate::cases::Cases;
 use crate::desk::tally::Tally;
@@ -14,8 +12,6 @@ use std::ops::Range;
 pub struct Script<'a> {
     cases: &'a mut Cases,
     desk: Desk,
-    /// The text beside the desk, from the script's own first text on.
-    text: Vec<u8>,
     lines: usize,
 }
 
@@ -25,7 +21,6 @@ impl<'a> Script<'a> {
         Script {
             cases,
             desk,
-            text: Vec::new(),
             lines: 0,
         }
     }

@@ -159,25 +159,27 @@ fn locals_are_allocated_and_freed_in_order() {
 }
 
 #[test]
-#[should_panic(expected = "local 1 gets a value twice")]
-fn a_local_gets_a_value_once() {
-    let mut w = Walk::new(2, &["a"]);
-    w.assign(1, "v", "tt");
-    w.lands(1, "tt");
-}
-
-#[test]
-fn a_local_gets_a_value_once_in_each_branch() {
+fn a_local_that_has_a_value_is_overwritten() {
     let mut w = Walk::new(2, &["a"]);
     w.assign(1, "v", "tt");
     let mark = w.mark();
+    w.assign(1, "u", "tt");
     w.lands(0, "tt");
+    let lines = [
+        "",
+        "assigns ! v (from ! (stop !)) (init ! 0 refl tt) $",
+        "assigns ! u (from ! (stop !)) (store ! 0 refl tt) $",
+        "land ! (from ! (stop !)) (init ! 2 refl tt) $",
+    ];
+    assert_eq!(w.text(), lines.join("\n"));
+    // it is forgotten once
     w.free();
     assert!(w
         .text()
         .ends_with("\nforget ! 2 refl $ forget ! 0 refl $\nmove ! (2 ∷ 3 ∷ []) $ free1 ! $ free1 ! $ free0 ! $"));
+    // before the mark only one local had a value
     w.back(mark);
-    assert_eq!(w.init(0, "tt"), "(init ! 2 refl tt)");
+    assert_eq!([w.init(0, "tt"), w.init(1, "tt")], ["(init ! 2 refl tt)", "(store ! 0 refl tt)"]);
 }
 
 #[test]

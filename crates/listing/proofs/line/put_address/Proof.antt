@@ -5,7 +5,7 @@ use lib.ListN.{get_or}
 use borrow.Author.Rules.{rules}
 use Rattle.text.specs.Lines.{TAB}
 use Rattle.text.proofs.PutLaws.{put_then}
-use Rattle.text.specs.Address.{address_shown}
+use Rattle.listing.specs.Text.{address_shown}
 use Rattle.listing.proofs.ColumnLaws.{address_part}
 use Rattle.listing.proofs.line.put_address.Statement.{statement}
 use Rattle.listing.proofs.line.put_address.Tie as tie

@@ -209,7 +209,7 @@ module _ {M : Type 1} {𝓤 : Ura M} (𝓛 : Logic 𝓤) (at_mem : Memory → SP
         assigns ! (bin ! (load ! (from ! (stop !)) (look ! 2 refl)) (lit ! tt) tt) (from ! (stop !)) (init ! 3 refl (tt, tt)) $
         rewrite ! 3 (λ (y : Bool). ‵ (fat full_share ty_bool l₆ 0 (vbool y))) over refl $ leaves_loop ! (load ! (from ! (stop !)) (look ! 3 refl)) $
         exec ! C Λ (En l₀ l₁ l₂ l₃ l₄ l₅ l₆ l₇ l₈ l₉ l₁₀ l₁₁ l₁₂) rest (at_ret (En l₀ l₁ l₂ l₃ l₄ l₅ l₆ l₇ l₈ l₉ l₁₀ l₁₁ l₁₂) Post) $
-        move ! (1 ∷ []) $ rewrite ! 0 (λ (l : List Seat). ‵ (row R full_share l l₂ 0)) (so-far-all t.i (at_end t over)) refl $
+        move ! (1 ∷ []) $ rewrite ! 0 (λ (l : List Seat). ‵ (row R full_share l l₂ 0)) (so-far-all t.i (at-end t over)) refl $
         local_whole ! R spell (LL.tells T.the_type T'.the_laws) N ys l₂ 0 full (λ is.
         assigns ! (of_opd ! (load ! (from ! (stop !)) (look ! 0 refl))) (from ! (stop !)) (init ! 14 refl ((Array-Lawful 𝓛 R (LL.lawful T.the_type T'.the_laws 𝓛) N).typed ys _ is).0) $
         move ! (2 ∷ 15 ∷ []) $ shuts_slice ! tt R q' ys b o $
@@ -221,8 +221,8 @@ module _ {M : Type 1} {𝓤 : Ura M} (𝓛 : Logic 𝓤) (at_mem : Memory → SP
         next_fits : (t : Turn N) → t.i < N → t.i + 1 < 2 ^ 64
         next_fits t h = omega arith
 
-        at_end : (t : Turn N) → Dec.ltb t.i N ≡ false → t.i ≡ N
-        at_end t over = le_antisymm t.le (Dec.nltb→le t.i N (subst (λ (y : Bool). Dec.T (not y)) (sym over) tt))
+        at-end : (t : Turn N) → Dec.ltb t.i N ≡ false → t.i ≡ N
+        at-end t over = le_antisymm t.le (Dec.nltb→le t.i N (subst (λ (y : Bool). Dec.T (not y)) (sym over) tt))
 
 module _ {M : Type 1} {𝓤 : Ura M} (𝓛 : Logic 𝓤) (at_mem : Memory → SProp 𝓤) (run : Routine → Fun 𝓤) where
   open 𝓛 use {H}

@@ -58,12 +58,12 @@ use Rattle.desk.specs.declared.state.Seat.{Seat}
 use Rattle.desk.specs.contracts.state.Seat as SeatD
 use Rattle.desk.proofs.state.Seat.TheLaws as SeatL
 use Rattle.rei2.specs.Lent.{ReplyLent}
-use Rattle.rei2.specs.inside.Core.{CoreReply, RefusedReply}
+use Rattle.rei2.specs.inside.Core.{CoreReply}
 use Rattle.rei2.proofs.Rows.{guards, is_true, is_false}
 use Rattle.rei2.proofs.Views.{gives_up}
 use Rattle.rei2.proofs.Steps.{row_val, Load, Put, loads, puts}
 use Rattle.rei2.proofs.Outs.{one_at_fits, one_seat_is, one_answer_is}
-use Rattle.rei2.proofs.LentLaws.{done_reply, refused_reply}
+use Rattle.rei2.proofs.LentLaws.{refusal_reply, done_reply, refused_reply}
 use Rattle.rei2.specs.contracts.lent.no_desk as refuser
 use Rattle.rei2.specs.contracts.lent.reply_seat as core
 use Rattle.rei2.proofs.lent.no_desk.Symbol as refused-def
@@ -94,7 +94,7 @@ Refused 𝓛 at_mem run = triple_of 𝓛 refuser.signature (refuser.spec 𝓛 at
 
 module _ {M : Type 1} {𝓤 : Ura M} (𝓛 : Logic 𝓤) (at_mem : Memory → SProp 𝓤) (run : Routine → Fun 𝓤)
     (κ-seats : Lft) (q-seats : Share) (κ-cells : Lft) (q-cells : Share) (κ-marks : Lft) (q-marks : Share) (κ-tally : Lft) (q-tally : Share) (κ-frame : Lft) (q-frame : Share)
-    (b-seats o-seats : ℕ) (γ-seats : GName) (v-seats : List Seat) (room-seats : Room SeatD.the_row (length v-seats)) (v-desk : Desk) (is_desk_holds : Is DeskD.the_row v-desk (LL.vals DeskD.the_type DeskL.the_laws v-desk)) (b-cells o-cells : ℕ) (γ-cells : GName) (v-cells : List ℕ) (room-cells : Room u8 (length v-cells)) (b-marks o-marks : ℕ) (γ-marks : GName) (v-marks : List ℕ) (room-marks : Room u32 (length v-marks)) (b-tally o-tally : ℕ) (γ-tally : GName) (v-tally : List (List ℕ)) (b-frame o-frame : ℕ) (γ-frame : GName) (v-frame : List ℕ) (room-frame : Room u8 (length v-frame)) where
+    (b-seats o-seats : ℕ) (γ-seats : GName) (v-seats : List Seat) (room-seats : Room SeatD.the_row (length v-seats)) (v-desk : Desk) (is-desk : Is DeskD.the_row v-desk (LL.vals DeskD.the_type DeskL.the_laws v-desk)) (b-cells o-cells : ℕ) (γ-cells : GName) (v-cells : List ℕ) (room-cells : Room u8 (length v-cells)) (b-marks o-marks : ℕ) (γ-marks : GName) (v-marks : List ℕ) (room-marks : Room u32 (length v-marks)) (b-tally o-tally : ℕ) (γ-tally : GName) (v-tally : List (List ℕ)) (b-frame o-frame : ℕ) (γ-frame : GName) (v-frame : List ℕ) (room-frame : Room u8 (length v-frame)) where
   open 𝓛 use {H}
 
   abbrev s-seats : Val
@@ -169,21 +169,21 @@ module _ {M : Type 1} {𝓤 : Ura M} (𝓛 : Logic 𝓤) (at_mem : Memory → SP
   abbrev rows : List RattleType
   rows = MutSlice (named 0) κ-seats SeatD.the_row ∷ DeskD.the_row ∷ MutSlice (named 1) κ-cells u8 ∷ MutSlice (named 2) κ-marks u32 ∷ MutRef (named 3) κ-tally (Array (Array u32 3) 33) ∷ ShrSlice (named 4) κ-frame u8 ∷ []
 
+  abbrev refusal : DeskAnswer
+  refusal = refusal_reply v-desk
+
   exits : (r : DeskAnswer) (v : Val) (z-seats : List Seat) (z-cells : List ℕ) (z-marks : List ℕ) (z-tally : List (List ℕ)) (len-seats : length z-seats ≡ length v-seats) (len-cells : length z-cells ≡ length v-cells) (len-marks : length z-marks ≡ length v-marks) → Is DeskAnswerD.the_row r (v ∷ []) → ReplyLent v-seats v-desk v-cells v-marks v-tally v-frame r z-seats z-cells z-marks z-tally
       → ent 𝓤 (⋆ 𝓛 (tokens ∷ ‵ (finally SeatD.the_row γ-seats z-seats) ∷ ‵ (finally u8 γ-cells z-cells) ∷ ‵ (finally u32 γ-marks z-marks) ∷ ‵ (fres γ-tally ((Array (Array u32 3) 33).coded.code z-tally)) ∷ ‵ (Own-frame) ∷ [])) (Post v)
   exits r v z-seats z-cells z-marks z-tally len-seats len-cells len-marks is said =
       qed 𝓛 (tokens ∷ ‵ (finally SeatD.the_row γ-seats z-seats) ∷ ‵ (finally u8 γ-cells z-cells) ∷ ‵ (finally u32 γ-marks z-marks) ∷ ‵ (fres γ-tally ((Array (Array u32 3) 33).coded.code z-tally)) ∷ ‵ (Own-frame) ∷ []) ∵
       suffices ! _ (ends_at 𝓛 outer.ended stayed (outer.clauses 𝓛 at_mem run) bound v r (z-seats, (tt, (z-cells, (z-marks, (z-tally, (tt, tt)))))) (len-seats, (tt, (len-cells, (len-marks, (tt, (tt, tt))))))) $ says ! said $ frame ! $ nothing ! $
-      move ! (5 ∷ 0 ∷ []) $ fjoin ! $ move ! (4 ∷ 0 ∷ []) $ fjoin ! $ move ! (3 ∷ 0 ∷ []) $ fjoin ! $ move ! (2 ∷ 0 ∷ []) $ fjoin ! $ owned ! DeskD.the_row (Is DeskD.the_row) (LL.makes DeskD.the_type DeskL.the_plain 𝓛) v-desk _ is_desk_holds $ fjoin ! $ move ! (1 ∷ 0 ∷ []) $ fjoin ! $ frame ! $
+      move ! (5 ∷ 0 ∷ []) $ fjoin ! $ move ! (4 ∷ 0 ∷ []) $ fjoin ! $ move ! (3 ∷ 0 ∷ []) $ fjoin ! $ move ! (2 ∷ 0 ∷ []) $ fjoin ! $ owned ! DeskD.the_row (Is DeskD.the_row) (LL.makes DeskD.the_type DeskL.the_plain 𝓛) v-desk _ is-desk $ fjoin ! $ move ! (1 ∷ 0 ∷ []) $ fjoin ! $ frame ! $
       owned ! DeskAnswerD.the_row (Is DeskAnswerD.the_row) (LL.makes DeskAnswerD.the_type DeskAnswerL.the_plain 𝓛) r _ is $ done !
 
-  refuses : (r : DeskAnswer) (v : Val) → Is DeskAnswerD.the_row r (v ∷ []) → RefusedReply v-desk r → Dec.eqb (length v-seats) seat_count ≡ false → ent 𝓤 (⋆ 𝓛 (tokens ∷ ‵ (owns rows a vals) ∷ [])) (Post v)
-  refuses r v is said e =
+  refuses : (r : DeskAnswer) (v : Val) → Is DeskAnswerD.the_row r (v ∷ []) → r ≡ refusal → Dec.eqb (length v-seats) seat_count ≡ false → ent 𝓤 (⋆ 𝓛 (tokens ∷ ‵ (owns rows a vals) ∷ [])) (Post v)
+  refuses r v is same e =
       qed 𝓛 (tokens ∷ ‵ (owns rows a vals) ∷ []) ∵ move ! (1 ∷ []) $ fsplit ! $ move ! (1 ∷ []) $ fsplit ! $ move ! (1 ∷ []) $ fsplit ! $ move ! (1 ∷ []) $ fsplit ! $ move ! (1 ∷ []) $ fsplit ! $ move ! (1 ∷ []) $ fsplit ! $ move ! (1 ∷ []) $ move ! (6 ∷ []) $ use1 𝓛 (‵ (finally SeatD.the_row γ-seats v-seats)) (gives_up SeatD.the_row κ-seats κ-seats q-seats γ-seats b-seats o-seats v-seats 𝓛 (named 0) (named 0)) $ move ! (5 ∷ []) $ use1 𝓛 (‵ (finally u8 γ-cells v-cells)) (gives_up u8 κ-cells κ-cells q-cells γ-cells b-cells o-cells v-cells 𝓛 (named 1) (named 1)) $ move ! (5 ∷ []) $ use1 𝓛 (‵ (finally u32 γ-marks v-marks)) (gives_up u32 κ-marks κ-marks q-marks γ-marks b-marks o-marks v-marks 𝓛 (named 2) (named 2)) $ move ! (5 ∷ []) $ fsplit ! $ move ! (1 ∷ []) $ fsplit ! $ use1 𝓛 (‵ (fres γ-tally ((Array (Array u32 3) 33).coded.code v-tally))) (𝓛.names.obs-res γ-tally ((Array (Array u32 3) 33).coded.code v-tally)) $ keep ! (9 ∷ 5 ∷ 4 ∷ 3 ∷ 0 ∷ 7 ∷ []) $
-      by ! (exits r v v-seats v-cells v-marks v-tally refl refl refl is (refused_reply v-seats v-desk v-cells v-marks v-tally v-frame r said e))
-
-  abbrev refused-κs : Lfts 0
-  refused-κs = tt
+      by ! (exits r v v-seats v-cells v-marks v-tally refl refl refl is (subst (λ (x : DeskAnswer). ReplyLent v-seats v-desk v-cells v-marks v-tally v-frame x v-seats v-cells v-marks v-tally) (sym same) (refused_reply v-seats v-desk v-cells v-marks v-tally v-frame e)))
 
   abbrev RefusedArg : Type 0
   RefusedArg = Desk × Unit {0}
@@ -192,7 +192,7 @@ module _ {M : Type 1} {𝓤 : Ura M} (𝓛 : Logic 𝓤) (at_mem : Memory → SP
   refused-args = (v-desk, tt)
 
   abbrev to-refused : (Refused 𝓛 at_mem run).Ghost
-  to-refused = ((refused-κs, tt, tt, refused-args, (s-desk ∷ [], tt)), tt)
+  to-refused = ((tt, tt, tt, refused-args, (s-desk ∷ [], tt)), tt)
 
   abbrev κs' : Lfts 4
   κs' = (κ-cells, (κ-marks, (κ-tally, (κ-frame, tt))))
@@ -211,17 +211,17 @@ module _ {M : Type 1} {𝓤 : Ura M} (𝓛 : Logic 𝓤) (at_mem : Memory → SP
     walk =
         qed 𝓛 (tokens ∷ ‵ (owns rows a vals) ∷ []) ∵ enter ! C Λ code.function (s-seats ∷ s-desk ∷ s-cells ∷ s-marks ∷ s-tally ∷ s-frame ∷ []) _ $
         alloc1 ! (λ l₀. alloc1 ! (λ l₁. alloc1 ! (λ l₂. alloc1 ! (λ l₃. alloc1 ! (λ l₄. alloc1 ! (λ l₅. alloc1 ! (λ l₆. alloc1 ! (λ l₇. alloc1 ! (λ l₈. alloc1 ! (λ l₉. alloc1 ! (λ l₁₀. alloc1 ! (λ l₁₁. alloc1 ! (λ l₁₂. alloc1 ! (λ l₁₃. alloc1 ! (λ l₁₄. alloc1 ! (λ l₁₅. alloc1 ! (λ l₁₆. alloc1 ! (λ l₁₇. alloc1 ! (λ l₁₈. alloc1 ! (λ l₁₉. alloc1 ! (λ l₂₀. alloc0 ! $ params1 ! $
-        pass1 ! (init ! 38 refl (tt, (tt, (record { fits = room-seats.0 }, tt)))) $ pass1 ! (init ! 36 refl ((LL.lawful DeskD.the_type DeskL.the_laws 𝓛).typed v-desk _ is_desk_holds).0) $ pass1 ! (init ! 34 refl (tt, (tt, (record { fits = room-cells.0 }, tt)))) $ pass1 ! (init ! 32 refl (tt, (tt, (record { fits = room-marks.0 }, tt)))) $ pass1 ! (init ! 30 refl (tt, tt)) $ pass1 ! (init ! 28 refl (tt, (tt, (record { fits = room-frame.0 }, tt)))) $ pass0 ! $
+        pass1 ! (init ! 38 refl (tt, (tt, (record { fits = room-seats.0 }, tt)))) $ pass1 ! (init ! 36 refl ((LL.lawful DeskD.the_type DeskL.the_laws 𝓛).typed v-desk _ is-desk).0) $ pass1 ! (init ! 34 refl (tt, (tt, (record { fits = room-cells.0 }, tt)))) $ pass1 ! (init ! 32 refl (tt, (tt, (record { fits = room-marks.0 }, tt)))) $ pass1 ! (init ! 30 refl (tt, tt)) $ pass1 ! (init ! 28 refl (tt, (tt, (record { fits = room-frame.0 }, tt)))) $ pass0 ! $
         assigns ! (of_opd ! (load ! (from ! (fld ! refl (stop !))) (look_in ! 38 (sub ! 1 refl (whole !))))) (from ! (stop !)) (init ! 22 refl (tt, record { fits = room-seats.0 })) $
         assigns ! (bin ! (load ! (from ! (stop !)) (look ! 22 refl)) (lit ! tt) tt) (from ! (stop !)) (init ! 20 refl (tt, tt)) $
         guards ! (load ! (from ! (stop !)) (look ! 20 refl))
         -- not a row of sixteen seats: refused, and nothing is changed
         (λ differs.
-        nothing ! $ owned ! DeskD.the_row (Is DeskD.the_row) (LL.makes DeskD.the_type DeskL.the_plain 𝓛) v-desk _ is_desk_holds $ fjoin ! $ nothing ! $ join ! $ use1 𝓛 (raw ((Refused 𝓛 at_mem run).pre to-refused)) (∗emp 𝓤 _) $
+        nothing ! $ owned ! DeskD.the_row (Is DeskD.the_row) (LL.makes DeskD.the_type DeskL.the_plain 𝓛) v-desk _ is-desk $ fjoin ! $ nothing ! $ join ! $ use1 𝓛 (raw ((Refused 𝓛 at_mem run).pre to-refused)) (∗emp 𝓤 _) $
         calls_at ! fm (Refused 𝓛 at_mem run) known-refused to-refused (and_then ! (load ! (from ! (stop !)) (look ! 37 refl)) (no_more !)) (λ w.
-        use1 𝓛 (later (some (λ (r : DeskAnswer). ((‵ ftrue) ⊛ ‵ ((DeskAnswerD.the_row).own_val r (w ∷ []))) ⊛ raw (ensured 𝓛 refuser.ended (refuser.clauses 𝓛 at_mem run) refused-κs refused-args tt r)))) (id⊢ 𝓤 _) $ await ! tt $ pick ! (λ r. split ! $ move ! (1 ∷ []) $
-        use1 𝓛 (some (λ (zs : Unit {0} × Unit {0}). ‵ (lasts refuser.ended refused-κs refused-args zs) ⊛ raw (fact 𝓤 (RefusedReply v-desk r)))) (id⊢ 𝓤 _) $ pick ! (λ zs. split ! $ move ! (1 ∷ []) $
-        heard ! (RefusedReply v-desk r) (λ e. drop ! $ split ! $ drop ! $
+        use1 𝓛 (later (some (λ (r : DeskAnswer). ((‵ ftrue) ⊛ ‵ ((DeskAnswerD.the_row).own_val r (w ∷ []))) ⊛ raw (ensured 𝓛 refuser.ended (refuser.clauses 𝓛 at_mem run) tt refused-args tt r)))) (id⊢ 𝓤 _) $ await ! tt $ pick ! (λ r. split ! $ move ! (1 ∷ []) $
+        use1 𝓛 (some (λ (zs : Unit {0} × Unit {0}). ‵ (lasts refuser.ended tt refused-args zs) ⊛ raw (fact 𝓤 (r ≡ refusal)))) (id⊢ 𝓤 _) $ pick ! (λ zs. split ! $ move ! (1 ∷ []) $
+        heard ! (r ≡ refusal) (λ e. drop ! $ split ! $ drop ! $
         facts ! DeskAnswerD.the_row (Is DeskAnswerD.the_row) (shows 𝓛 DeskAnswerD.the_row) r (w ∷ []) (λ is.
         land ! (from ! (stop !)) (init ! 40 refl ((LL.lawful DeskAnswerD.the_type DeskAnswerL.the_laws 𝓛).typed r _ is).0) $
         returns_within ! Post refl (look ! 40 refl) $
@@ -244,7 +244,7 @@ module _ {M : Type 1} {𝓤 : Ura M} (𝓛 : Logic 𝓤) (at_mem : Memory → SP
         assigns ! (agg ! (and_then ! (load ! (from ! (stop !)) (look ! 23 refl)) (and_then ! (load ! (from ! (fld ! refl (stop !))) (look_in ! 45 (sub ! 1 refl (whole !)))) (no_more !)))) (from ! (stop !)) (init ! 21 refl (tt, (tt, (record { fits = room-marks.0 }, tt)))) $
         assigns ! (addr ! (from ! (hop ! (look ! 43 refl) (stop !)))) (from ! (stop !)) (init ! 19 refl (tt, tt)) $
         -- the call by value
-        move ! (7 ∷ []) $ move ! (0 ∷ 9 ∷ []) $ fjoin ! $ move ! (9 ∷ []) $ fjoin ! $ move ! (9 ∷ []) $ fjoin ! $ move ! (9 ∷ []) $ fjoin ! $ owned ! DeskD.the_row (Is DeskD.the_row) (LL.makes DeskD.the_type DeskL.the_plain 𝓛) v-desk _ is_desk_holds $ fjoin ! $ owned ! (Array SeatD.the_row seat_count) (Is (Array SeatD.the_row seat_count)) (Array-Makes 𝓛 SeatD.the_row (LL.makes SeatD.the_type SeatL.the_plain 𝓛) seat_count) v-seats _ is_row $ fjoin ! $ move ! (4 ∷ 3 ∷ []) $ join ! $ move ! (4 ∷ 0 ∷ []) $ join ! $ move ! (4 ∷ 0 ∷ []) $ join ! $ move ! (4 ∷ 0 ∷ []) $ join ! $ join ! $ use1 𝓛 (raw ((Core 𝓛 at_mem run).pre to-core)) (∗emp 𝓤 _) $
+        move ! (7 ∷ []) $ move ! (0 ∷ 9 ∷ []) $ fjoin ! $ move ! (9 ∷ []) $ fjoin ! $ move ! (9 ∷ []) $ fjoin ! $ move ! (9 ∷ []) $ fjoin ! $ owned ! DeskD.the_row (Is DeskD.the_row) (LL.makes DeskD.the_type DeskL.the_plain 𝓛) v-desk _ is-desk $ fjoin ! $ owned ! (Array SeatD.the_row seat_count) (Is (Array SeatD.the_row seat_count)) (Array-Makes 𝓛 SeatD.the_row (LL.makes SeatD.the_type SeatL.the_plain 𝓛) seat_count) v-seats _ is_row $ fjoin ! $ move ! (4 ∷ 3 ∷ []) $ join ! $ move ! (4 ∷ 0 ∷ []) $ join ! $ move ! (4 ∷ 0 ∷ []) $ join ! $ move ! (4 ∷ 0 ∷ []) $ join ! $ join ! $ use1 𝓛 (raw ((Core 𝓛 at_mem run).pre to-core)) (∗emp 𝓤 _) $
         calls_at ! fm (Core 𝓛 at_mem run) known-core to-core (and_then ! (load ! (from ! (stop !)) (look ! 30 refl)) (and_then ! (load ! (from ! (stop !)) (look ! 40 refl)) (and_then ! (load ! (from ! (stop !)) (look ! 16 refl)) (and_then ! (load ! (from ! (stop !)) (look ! 12 refl)) (and_then ! (load ! (from ! (stop !)) (look ! 10 refl)) (and_then ! (load ! (from ! (stop !)) (look ! 32 refl)) (no_more !))))))) (λ w.
         use1 𝓛 (later (some (λ (r : One). ((‵ (flft κ-cells q-cells) ⊛ ‵ (flft κ-marks q-marks) ⊛ ‵ (flft κ-tally q-tally) ⊛ ‵ (flft κ-frame q-frame) ⊛ ‵ ftrue) ⊛ ‵ ((OneD.the_row).own_val r (w ∷ []))) ⊛ raw (ensured 𝓛 core.ended (core.clauses 𝓛 at_mem run) κs' args tt r)))) (id⊢ 𝓤 _) $ await ! tt $ pick ! (λ r. split ! $ move ! (1 ∷ []) $
         use1 𝓛 (some (λ (zs : Unit {0} × (Unit {0} × (List ℕ × (List ℕ × (List (List ℕ) × (Unit {0} × Unit {0})))))). ‵ (lasts core.ended κs' args zs) ⊛ raw (fact 𝓤 (CoreReply v-seats v-desk v-cells v-marks v-tally v-frame r zs.1.1.0 zs.1.1.1.0 zs.1.1.1.1.0)))) (id⊢ 𝓤 _) $ pick ! (λ zs. split ! $ move ! (1 ∷ []) $

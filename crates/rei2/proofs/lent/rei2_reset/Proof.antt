@@ -57,12 +57,12 @@ use Rattle.desk.specs.declared.state.Seat.{Seat}
 use Rattle.desk.specs.contracts.state.Seat as SeatD
 use Rattle.desk.proofs.state.Seat.TheLaws as SeatL
 use Rattle.rei2.specs.Lent.{ResetLent}
-use Rattle.rei2.specs.inside.Core.{CoreReset, RefusedReset}
+use Rattle.rei2.specs.inside.Core.{CoreReset}
 use Rattle.rei2.proofs.Rows.{guards, is_true, is_false}
 use Rattle.rei2.proofs.Views.{gives_up}
 use Rattle.rei2.proofs.Steps.{row_val, Load, Store, loads, stores}
 use Rattle.rei2.proofs.Outs.{out_row_is, out_answer_is}
-use Rattle.rei2.proofs.LentLaws.{done_reset, refused_reset}
+use Rattle.rei2.proofs.LentLaws.{refusal_reset, done_reset, refused_reset}
 use Rattle.rei2.specs.contracts.lent.no_desk as refuser
 use Rattle.rei2.specs.contracts.lent.reset_row as core
 use Rattle.rei2.proofs.lent.no_desk.Symbol as refused-def
@@ -93,7 +93,7 @@ Refused 𝓛 at_mem run = triple_of 𝓛 refuser.signature (refuser.spec 𝓛 at
 
 module _ {M : Type 1} {𝓤 : Ura M} (𝓛 : Logic 𝓤) (at_mem : Memory → SProp 𝓤) (run : Routine → Fun 𝓤)
     (κ-seats : Lft) (q-seats : Share) (κ-tally : Lft) (q-tally : Share)
-    (b-seats o-seats : ℕ) (γ-seats : GName) (v-seats : List Seat) (room-seats : Room SeatD.the_row (length v-seats)) (v-desk : Desk) (is_desk_holds : Is DeskD.the_row v-desk (LL.vals DeskD.the_type DeskL.the_laws v-desk)) (b-tally o-tally : ℕ) (γ-tally : GName) (v-tally : List (List ℕ)) where
+    (b-seats o-seats : ℕ) (γ-seats : GName) (v-seats : List Seat) (room-seats : Room SeatD.the_row (length v-seats)) (v-desk : Desk) (is-desk : Is DeskD.the_row v-desk (LL.vals DeskD.the_type DeskL.the_laws v-desk)) (b-tally o-tally : ℕ) (γ-tally : GName) (v-tally : List (List ℕ)) where
   open 𝓛 use {H}
 
   abbrev s-seats : Val
@@ -141,21 +141,21 @@ module _ {M : Type 1} {𝓤 : Ura M} (𝓛 : Logic 𝓤) (at_mem : Memory → SP
   abbrev rows : List RattleType
   rows = MutSlice (named 0) κ-seats SeatD.the_row ∷ DeskD.the_row ∷ MutRef (named 1) κ-tally (Array (Array u32 3) 33) ∷ []
 
+  abbrev refusal : DeskAnswer
+  refusal = refusal_reset v-desk
+
   exits : (r : DeskAnswer) (v : Val) (z-seats : List Seat) (z-tally : List (List ℕ)) (len-seats : length z-seats ≡ length v-seats) → Is DeskAnswerD.the_row r (v ∷ []) → ResetLent v-seats v-desk v-tally r z-seats z-tally
       → ent 𝓤 (⋆ 𝓛 (tokens ∷ ‵ (finally SeatD.the_row γ-seats z-seats) ∷ ‵ (fres γ-tally ((Array (Array u32 3) 33).coded.code z-tally)) ∷ [])) (Post v)
   exits r v z-seats z-tally len-seats is said =
       qed 𝓛 (tokens ∷ ‵ (finally SeatD.the_row γ-seats z-seats) ∷ ‵ (fres γ-tally ((Array (Array u32 3) 33).coded.code z-tally)) ∷ []) ∵
       suffices ! _ (ends_at 𝓛 outer.ended stayed (outer.clauses 𝓛 at_mem run) bound v r (z-seats, (tt, (z-tally, tt))) (len-seats, (tt, (tt, tt)))) $ says ! said $ frame ! $ nothing ! $
-      move ! (2 ∷ 0 ∷ []) $ fjoin ! $ owned ! DeskD.the_row (Is DeskD.the_row) (LL.makes DeskD.the_type DeskL.the_plain 𝓛) v-desk _ is_desk_holds $ fjoin ! $ move ! (1 ∷ 0 ∷ []) $ fjoin ! $ frame ! $
+      move ! (2 ∷ 0 ∷ []) $ fjoin ! $ owned ! DeskD.the_row (Is DeskD.the_row) (LL.makes DeskD.the_type DeskL.the_plain 𝓛) v-desk _ is-desk $ fjoin ! $ move ! (1 ∷ 0 ∷ []) $ fjoin ! $ frame ! $
       owned ! DeskAnswerD.the_row (Is DeskAnswerD.the_row) (LL.makes DeskAnswerD.the_type DeskAnswerL.the_plain 𝓛) r _ is $ done !
 
-  refuses : (r : DeskAnswer) (v : Val) → Is DeskAnswerD.the_row r (v ∷ []) → RefusedReset v-desk r → Dec.eqb (length v-seats) seat_count ≡ false → ent 𝓤 (⋆ 𝓛 (tokens ∷ ‵ (owns rows a vals) ∷ [])) (Post v)
-  refuses r v is said e =
+  refuses : (r : DeskAnswer) (v : Val) → Is DeskAnswerD.the_row r (v ∷ []) → r ≡ refusal → Dec.eqb (length v-seats) seat_count ≡ false → ent 𝓤 (⋆ 𝓛 (tokens ∷ ‵ (owns rows a vals) ∷ [])) (Post v)
+  refuses r v is same e =
       qed 𝓛 (tokens ∷ ‵ (owns rows a vals) ∷ []) ∵ move ! (1 ∷ []) $ fsplit ! $ move ! (1 ∷ []) $ fsplit ! $ move ! (1 ∷ []) $ fsplit ! $ move ! (1 ∷ []) $ move ! (3 ∷ []) $ use1 𝓛 (‵ (finally SeatD.the_row γ-seats v-seats)) (gives_up SeatD.the_row κ-seats κ-seats q-seats γ-seats b-seats o-seats v-seats 𝓛 (named 0) (named 0)) $ move ! (2 ∷ []) $ fsplit ! $ move ! (1 ∷ []) $ fsplit ! $ use1 𝓛 (‵ (fres γ-tally ((Array (Array u32 3) 33).coded.code v-tally))) (𝓛.names.obs-res γ-tally ((Array (Array u32 3) 33).coded.code v-tally)) $ keep ! (6 ∷ 3 ∷ 0 ∷ []) $
-      by ! (exits r v v-seats v-tally refl is (refused_reset v-seats v-desk v-tally r said e))
-
-  abbrev refused-κs : Lfts 0
-  refused-κs = tt
+      by ! (exits r v v-seats v-tally refl is (subst (λ (x : DeskAnswer). ResetLent v-seats v-desk v-tally x v-seats v-tally) (sym same) (refused_reset v-seats v-desk v-tally e)))
 
   abbrev RefusedArg : Type 0
   RefusedArg = Desk × Unit {0}
@@ -164,7 +164,7 @@ module _ {M : Type 1} {𝓤 : Ura M} (𝓛 : Logic 𝓤) (at_mem : Memory → SP
   refused-args = (v-desk, tt)
 
   abbrev to-refused : (Refused 𝓛 at_mem run).Ghost
-  to-refused = ((refused-κs, tt, tt, refused-args, (s-desk ∷ [], tt)), tt)
+  to-refused = ((tt, tt, tt, refused-args, (s-desk ∷ [], tt)), tt)
 
   abbrev κs' : Lfts 1
   κs' = (κ-tally, tt)
@@ -183,17 +183,17 @@ module _ {M : Type 1} {𝓤 : Ura M} (𝓛 : Logic 𝓤) (at_mem : Memory → SP
     walk =
         qed 𝓛 (tokens ∷ ‵ (owns rows a vals) ∷ []) ∵ enter ! C Λ code.function (s-seats ∷ s-desk ∷ s-tally ∷ []) _ $
         alloc1 ! (λ l₀. alloc1 ! (λ l₁. alloc1 ! (λ l₂. alloc1 ! (λ l₃. alloc1 ! (λ l₄. alloc1 ! (λ l₅. alloc1 ! (λ l₆. alloc1 ! (λ l₇. alloc1 ! (λ l₈. alloc1 ! (λ l₉. alloc1 ! (λ l₁₀. alloc1 ! (λ l₁₁. alloc1 ! (λ l₁₂. alloc1 ! (λ l₁₃. alloc0 ! $ params1 ! $
-        pass1 ! (init ! 24 refl (tt, (tt, (record { fits = room-seats.0 }, tt)))) $ pass1 ! (init ! 22 refl ((LL.lawful DeskD.the_type DeskL.the_laws 𝓛).typed v-desk _ is_desk_holds).0) $ pass1 ! (init ! 20 refl (tt, tt)) $ pass0 ! $
+        pass1 ! (init ! 24 refl (tt, (tt, (record { fits = room-seats.0 }, tt)))) $ pass1 ! (init ! 22 refl ((LL.lawful DeskD.the_type DeskL.the_laws 𝓛).typed v-desk _ is-desk).0) $ pass1 ! (init ! 20 refl (tt, tt)) $ pass0 ! $
         assigns ! (of_opd ! (load ! (from ! (fld ! refl (stop !))) (look_in ! 24 (sub ! 1 refl (whole !))))) (from ! (stop !)) (init ! 14 refl (tt, record { fits = room-seats.0 })) $
         assigns ! (bin ! (load ! (from ! (stop !)) (look ! 14 refl)) (lit ! tt) tt) (from ! (stop !)) (init ! 12 refl (tt, tt)) $
         guards ! (load ! (from ! (stop !)) (look ! 12 refl))
         -- not a row of sixteen seats: refused, and nothing is changed
         (λ differs.
-        nothing ! $ owned ! DeskD.the_row (Is DeskD.the_row) (LL.makes DeskD.the_type DeskL.the_plain 𝓛) v-desk _ is_desk_holds $ fjoin ! $ nothing ! $ join ! $ use1 𝓛 (raw ((Refused 𝓛 at_mem run).pre to-refused)) (∗emp 𝓤 _) $
+        nothing ! $ owned ! DeskD.the_row (Is DeskD.the_row) (LL.makes DeskD.the_type DeskL.the_plain 𝓛) v-desk _ is-desk $ fjoin ! $ nothing ! $ join ! $ use1 𝓛 (raw ((Refused 𝓛 at_mem run).pre to-refused)) (∗emp 𝓤 _) $
         calls_at ! fm (Refused 𝓛 at_mem run) known-refused to-refused (and_then ! (load ! (from ! (stop !)) (look ! 23 refl)) (no_more !)) (λ w.
-        use1 𝓛 (later (some (λ (r : DeskAnswer). ((‵ ftrue) ⊛ ‵ ((DeskAnswerD.the_row).own_val r (w ∷ []))) ⊛ raw (ensured 𝓛 refuser.ended (refuser.clauses 𝓛 at_mem run) refused-κs refused-args tt r)))) (id⊢ 𝓤 _) $ await ! tt $ pick ! (λ r. split ! $ move ! (1 ∷ []) $
-        use1 𝓛 (some (λ (zs : Unit {0} × Unit {0}). ‵ (lasts refuser.ended refused-κs refused-args zs) ⊛ raw (fact 𝓤 (RefusedReset v-desk r)))) (id⊢ 𝓤 _) $ pick ! (λ zs. split ! $ move ! (1 ∷ []) $
-        heard ! (RefusedReset v-desk r) (λ e. drop ! $ split ! $ drop ! $
+        use1 𝓛 (later (some (λ (r : DeskAnswer). ((‵ ftrue) ⊛ ‵ ((DeskAnswerD.the_row).own_val r (w ∷ []))) ⊛ raw (ensured 𝓛 refuser.ended (refuser.clauses 𝓛 at_mem run) tt refused-args tt r)))) (id⊢ 𝓤 _) $ await ! tt $ pick ! (λ r. split ! $ move ! (1 ∷ []) $
+        use1 𝓛 (some (λ (zs : Unit {0} × Unit {0}). ‵ (lasts refuser.ended tt refused-args zs) ⊛ raw (fact 𝓤 (r ≡ refusal)))) (id⊢ 𝓤 _) $ pick ! (λ zs. split ! $ move ! (1 ∷ []) $
+        heard ! (r ≡ refusal) (λ e. drop ! $ split ! $ drop ! $
         facts ! DeskAnswerD.the_row (Is DeskAnswerD.the_row) (shows 𝓛 DeskAnswerD.the_row) r (w ∷ []) (λ is.
         land ! (from ! (stop !)) (init ! 26 refl ((LL.lawful DeskAnswerD.the_type DeskAnswerL.the_laws 𝓛).typed r _ is).0) $
         returns_within ! Post refl (look ! 26 refl) $
@@ -212,7 +212,7 @@ module _ {M : Type 1} {𝓤 : Ura M} (𝓛 : Logic 𝓤) (at_mem : Memory → SP
         land ! (from ! (stop !)) (init ! 24 refl ((Array-Lawful 𝓛 SeatD.the_row (LL.lawful SeatD.the_type SeatL.the_laws 𝓛) seat_count).typed v-seats _ is_row).0) $
         assigns ! (addr ! (from ! (hop ! (look ! 26 refl) (stop !)))) (from ! (stop !)) (init ! 12 refl (tt, tt)) $
         -- the call by value
-        move ! (5 ∷ []) $ move ! (0 ∷ 5 ∷ []) $ fjoin ! $ owned ! DeskD.the_row (Is DeskD.the_row) (LL.makes DeskD.the_type DeskL.the_plain 𝓛) v-desk _ is_desk_holds $ fjoin ! $ owned ! (Array SeatD.the_row seat_count) (Is (Array SeatD.the_row seat_count)) (Array-Makes 𝓛 SeatD.the_row (LL.makes SeatD.the_type SeatL.the_plain 𝓛) seat_count) v-seats _ is_row $ fjoin ! $ move ! (4 ∷ 3 ∷ []) $ join ! $ join ! $ use1 𝓛 (raw ((Core 𝓛 at_mem run).pre to-core)) (∗emp 𝓤 _) $
+        move ! (5 ∷ []) $ move ! (0 ∷ 5 ∷ []) $ fjoin ! $ owned ! DeskD.the_row (Is DeskD.the_row) (LL.makes DeskD.the_type DeskL.the_plain 𝓛) v-desk _ is-desk $ fjoin ! $ owned ! (Array SeatD.the_row seat_count) (Is (Array SeatD.the_row seat_count)) (Array-Makes 𝓛 SeatD.the_row (LL.makes SeatD.the_type SeatL.the_plain 𝓛) seat_count) v-seats _ is_row $ fjoin ! $ move ! (4 ∷ 3 ∷ []) $ join ! $ join ! $ use1 𝓛 (raw ((Core 𝓛 at_mem run).pre to-core)) (∗emp 𝓤 _) $
         calls_at ! fm (Core 𝓛 at_mem run) known-core to-core (and_then ! (load ! (from ! (stop !)) (look ! 21 refl)) (and_then ! (load ! (from ! (stop !)) (look ! 25 refl)) (and_then ! (load ! (from ! (stop !)) (look ! 9 refl)) (no_more !)))) (λ w.
         use1 𝓛 (later (some (λ (r : Out). ((‵ (flft κ-tally q-tally) ⊛ ‵ ftrue) ⊛ ‵ ((OutD.the_row).own_val r (w ∷ []))) ⊛ raw (ensured 𝓛 core.ended (core.clauses 𝓛 at_mem run) κs' args tt r)))) (id⊢ 𝓤 _) $ await ! tt $ pick ! (λ r. split ! $ move ! (1 ∷ []) $
         use1 𝓛 (some (λ (zs : Unit {0} × (Unit {0} × (List (List ℕ) × Unit {0}))). ‵ (lasts core.ended κs' args zs) ⊛ raw (fact 𝓤 (CoreReset v-seats v-desk v-tally r zs.1.1.0)))) (id⊢ 𝓤 _) $ pick ! (λ zs. split ! $ move ! (1 ∷ []) $

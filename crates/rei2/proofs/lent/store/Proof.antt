@@ -210,7 +210,7 @@ module _ {M : Type 1} {𝓤 : Ura M} (𝓛 : Logic 𝓤) (at_mem : Memory → SP
         rewrite ! 3 (λ (y : Bool). ‵ (fat full_share ty_bool l₅ 0 (vbool y))) over refl $ leaves_loop ! (load ! (from ! (stop !)) (look ! 3 refl)) $
         exec ! C Λ (En l₀ l₁ l₂ l₃ l₄ l₅ l₆ l₇ l₈ l₉ l₁₀ l₁₁) rest (at_ret (En l₀ l₁ l₂ l₃ l₄ l₅ l₆ l₇ l₈ l₉ l₁₀ l₁₁) Post) $
         assigns ! (of_opd ! (unit_lit !)) (from ! (stop !)) (init ! 12 refl (tt, tt)) $
-        rewrite ! 0 (λ (l : List Seat). ‵ (row R full_share l b o)) (so-far-all t.i (at_end t over)) refl $
+        rewrite ! 0 (λ (l : List Seat). ‵ (row R full_share l b o)) (so-far-all t.i (at-end t over)) refl $
         move ! (0 ∷ 13 ∷ 14 ∷ 15 ∷ []) $ closes_slice ! tt R ys rs same_length b o $
         move ! (3 ∷ []) $ local_whole ! R spell (LL.tells T.the_type T'.the_laws) N rs l₃ 0 row-full (λ _.
         returns ! (look ! 15 refl) $ forget ! 0 refl $ forget ! 5 refl $ forget ! 6 refl $ forget ! 13 refl $ forget ! 14 refl $ forget ! 15 refl $
@@ -221,8 +221,8 @@ module _ {M : Type 1} {𝓤 : Ura M} (𝓛 : Logic 𝓤) (at_mem : Memory → SP
         next_fits : (t : Turn N) → t.i < N → t.i + 1 < 2 ^ 64
         next_fits t h = omega arith
 
-        at_end : (t : Turn N) → Dec.ltb t.i N ≡ false → t.i ≡ N
-        at_end t over = le_antisymm t.le (Dec.nltb→le t.i N (subst (λ (y : Bool). Dec.T (not y)) (sym over) tt))
+        at-end : (t : Turn N) → Dec.ltb t.i N ≡ false → t.i ≡ N
+        at-end t over = le_antisymm t.le (Dec.nltb→le t.i N (subst (λ (y : Bool). Dec.T (not y)) (sym over) tt))
 
 module _ {M : Type 1} {𝓤 : Ura M} (𝓛 : Logic 𝓤) (at_mem : Memory → SProp 𝓤) (run : Routine → Fun 𝓤) where
   open 𝓛 use {H}

@@ -120,12 +120,6 @@ slice-aggregate-put-name-19 c = search rules
 put-name-requires-19 : tie.Need-put-name-requires-19
 put-name-requires-19 c κs = search rules
 
-slice-aggregate-put-name-20 : tie.Need-slice-aggregate-put-name-20
-slice-aggregate-put-name-20 c = search rules
-
-put-name-requires-20 : tie.Need-put-name-requires-20
-put-name-requires-20 c κs = search rules
-
 same_length : tie.Need-same-length
 same_length c = search rules
 
@@ -238,15 +232,9 @@ same-length-19 : tie.Need-same-length-19
 same-length-19 c = search rules
 
 returns-19 : tie.Need-returns-19
-returns-19 c = named _ _ _ _ _ (ap name_of c.before.before.before.before.before.match.keys19 ∙ names_tell.page 0) c.before.before.put-name19.ensures
-
-same-length-20 : tie.Need-same-length-20
-same-length-20 c = search rules
-
-returns-20 : tie.Need-returns-20
-returns-20 c =
+returns-19 c =
     let n = c.before.before.before.before.before.before.before.args.refusal in
-    named _ _ _ _ _ (names_tell.others n (none_below 19 n c.before.before.before.before.before.match.rest)) c.before.before.put-name20.ensures
+    named _ _ _ _ _ (names_tell.others n (none_below 18 n c.before.before.before.before.before.match.rest)) c.before.before.put-name19.ensures
 
 pub rei2-refusal-name-spec : {M : Type 1} → statement M
 rei2-refusal-name-spec =
@@ -290,8 +278,6 @@ rei2-refusal-name-spec =
     put-name-requires-18
     slice-aggregate-put-name-19
     put-name-requires-19
-    slice-aggregate-put-name-20
-    put-name-requires-20
     same_length
     returns
     same-length-2
@@ -329,6 +315,4 @@ rei2-refusal-name-spec =
     same-length-18
     returns-18
     same-length-19
-    returns-19
-    same-length-20
-    returns-20)
+    returns-19)

@@ -1,6 +1,6 @@
 //! Several requesters at once, with their answers mixed.
 
-use super::{add_all_looks, add_call, add_look, different_keys, lend, pages};
+use super::{add_all_looks, add_call, add_look, different_keys, lend};
 use crate::cases::desk::frames::request;
 use crate::cases::Cases;
 use crate::random::Random;
@@ -18,7 +18,6 @@ pub fn add(cases: &mut Cases, random: &mut Random) {
         match random.below(24) {
             0 | 1 => add_look(&mut script, random),
             2 if random.once_in(4) => script.reset(),
-            3 if random.once_in(2) => pages::add_step(&mut script, random),
             _ => add_call(&mut script, &keys, random),
         }
     }

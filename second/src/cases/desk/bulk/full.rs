@@ -1,7 +1,7 @@
 //! Desks that are filled to their last cell or nearly, and what is asked of them then. Most have
 //! many seats in use.
 
-use super::{add_call, add_look, different_keys, lend, pages, random_key};
+use super::{add_call, add_look, different_keys, lend, random_key};
 use crate::cases::desk::frames::{random_reply, random_request, request, Key, E, R, Z};
 use crate::cases::desk::script::Script;
 use crate::cases::Cases;
@@ -50,9 +50,8 @@ fn fill(script: &mut Script, keys: &[Key], random: &mut Random) {
 }
 
 fn add_step(script: &mut Script, keys: &[Key], random: &mut Random) {
-    match random.below(9) {
+    match random.below(8) {
         0 => add_look(script, random),
-        8 => pages::add_step(script, random),
         1 => {
             let other = random_key(random);
             script.open(&random_request(random, other));

@@ -3,7 +3,7 @@
 
 mod together;
 
-use super::{add_call, add_look, different_keys, lend, open_keys, pages, random_key};
+use super::{add_call, add_look, different_keys, lend, open_keys, random_key};
 use crate::cases::desk::frames::{random_reply, random_request, request, E, R, Z};
 use crate::cases::desk::random::{random_change, tally};
 use crate::cases::desk::script::Script;
@@ -172,9 +172,8 @@ fn nudge_seat(seat: &mut Seat, random: &mut Random) {
 fn ask(script: &mut Script, random: &mut Random) {
     let keys = open_keys(script);
     for _ in 0..1 + random.place(3) {
-        match random.below(7) {
+        match random.below(6) {
             0 => add_look(script, random),
-            6 => pages::add_step(script, random),
             1 => {
                 let other = random_key(random);
                 script.open(&random_request(random, other));

@@ -1,7 +1,7 @@
 //! Arbitrary states. They hardly ever make a desk, but seats in use, held cells and the tally can
 //! still be asked for.
 
-use super::{add_call, add_look, lend, open_keys, pages, random_key};
+use super::{add_call, add_look, lend, open_keys, random_key};
 use crate::cases::desk::frames::random_reply;
 use crate::cases::desk::script::{seat_of, Script};
 use crate::cases::frames::any_number;
@@ -21,9 +21,6 @@ pub fn add(cases: &mut Cases, random: &mut Random) {
         }
         for _ in 0..1 + random.place(4) {
             add_look(&mut script, random);
-        }
-        if random.once_in(2) {
-            pages::add_step(&mut script, random);
         }
         let keys = open_keys(&script);
         add_call(&mut script, &keys, random);
