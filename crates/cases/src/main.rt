@@ -1,4 +1,6 @@
 // Reads cases from standard input, one on each line, and prints the answer to each. docs/CASES.md describes both.
+#![tactic(auto)]
+
 mod damage;
 mod dynamic_asked;
 mod finder_asked;

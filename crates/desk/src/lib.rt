@@ -1,4 +1,6 @@
 // The desk: seats for open requests, and replies sorted to them. There is a module for the state and one for each call.
+#![tactic(auto)]
+
 pub mod capture;
 pub mod clauses;
 mod columns;

@@ -1,4 +1,6 @@
 // Reading and writing bytes and numbers at places of lent memory. Every function takes any slice, any place and any width.
+#![tactic(auto)]
+
 pub mod refusal;
 
 ghost use Rattle.std.specs.Prelude.{◌≡◌, ◌+◌, min, get_or, set};

@@ -76,9 +76,10 @@ pub fn of_field(field: u8, spoiled: u8) -> Refusal
 pub fn of_page(line: u32) -> Refusal
     ensures { result ≡ R.PAGE line }
 {
+    let spoiled = 0;
     Refusal {
         number: PAGE,
         offset: line,
-        spoiled: 0,
+        spoiled,
     }
 }

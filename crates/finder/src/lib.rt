@@ -1,4 +1,6 @@
 // Cuts a capture into frames. Each call returns the next frame from a cursor on.
+#![tactic(auto)]
+
 ghost use Rattle.std.specs.Prelude.{◌≡◌, true, false, ◌<◌, length, get_or};
 ghost use Rattle.finder.specs.Leads.{is_lead};
 ghost use Rattle.finder.specs.Pieces.{found_from};

@@ -1,4 +1,6 @@
 // Frames: reading and writing each kind, with a module for each.
+#![tactic(auto)]
+
 pub mod check;
 pub mod dynamic;
 mod fields;

@@ -1,4 +1,6 @@
 // Finds the lines of a text, one per call.
+#![tactic(auto)]
+
 ghost use Rattle.std.specs.Prelude.{◌≡◌};
 ghost use Rattle.lines.specs.Places.{line_at};
 

@@ -1,4 +1,6 @@
 // The list of a capture.
+#![tactic(auto)]
+
 mod line;
 mod rows;
 mod store;

@@ -1,4 +1,6 @@
 // Lists the captures in the files that its arguments name, one after the other.
+#![tactic(auto)]
+
 use listing::{LONGEST_LIST, ListAnswer, MOST_INPUT, list};
 
 fn main() {

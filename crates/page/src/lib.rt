@@ -1,4 +1,6 @@
 // The desk as a page of text: writing it, and reading it again.
+#![tactic(auto)]
+
 mod framed;
 mod line;
 pub mod read;

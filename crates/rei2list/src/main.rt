@@ -1,5 +1,7 @@
 // Lists the capture on standard input. A program has no exit status in this language: a list is whole if its last line begins with `end`, and
 // whatever fails says so in one line on standard error.
+#![tactic(auto)]
+
 use libc::{STDERR_FILENO, STDIN_FILENO, STDOUT_FILENO};
 use listing::{LONGEST_LIST, ListAnswer, MOST_INPUT, list};
 

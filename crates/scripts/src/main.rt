@@ -1,4 +1,6 @@
 // Reads scripts of a desk from standard input, a line each, and prints the answer to each. docs/CASES.md describes both.
+#![tactic(auto)]
+
 mod desk_asked;
 mod desk_told;
 mod digest;

@@ -1,5 +1,7 @@
 // Puts bytes one after the other on an output. A call takes output, place and what to put, and returns the place after it.
 // Bytes that have no room are dropped but still counted. So the same calls can measure a text.
+#![tactic(auto)]
+
 ghost use Rattle.std.specs.Prelude.{◌≡◌, [], ◌∷◌};
 ghost use Rattle.text.specs.Put.{placeAfter, Put};
 ghost use Rattle.text.specs.Decimal.{width, decimal};
