@@ -1,0 +1,11 @@
+-- `cases::finder_asked::print_frames` is safe and ends.
+use Prim.Native.Nat.{◌-◌, ◌≤◌}
+use borrow.Author.Rules.{rules}
+use lib.ListN.{length}
+use Rattle.cases.proofs.finder_asked.print_frames.Given as goal
+
+abbrev pub invariant-loop-turn : goal.invariant-loop-turn
+invariant-loop-turn l = l.turn ≤ length l.s
+
+abbrev pub decreases-loop-turn : goal.decreases-loop-turn
+decreases-loop-turn l = length l.s - l.turn

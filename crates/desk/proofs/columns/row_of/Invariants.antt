@@ -1,0 +1,21 @@
+-- `desk::columns::row_of` meets its contract.
+use Prim.Native.Nat.{ℕ, ◌+◌, ◌-◌, ◌≤◌, ◌<◌}
+use mathlib.Core.Path.{◌≡◌, refl, sym, ◌∙◌}
+use native.Mathlib.Omega.{arith}
+use mathlib.Core.List.{List}
+use lib.ListN.{length, set, length-set}
+use lib.Seq.{ext_get_or, get_or-set_same, get_or-set_other}
+use Rattle.desk.specs.declared.state.Seat.{Seat}
+use Rattle.desk.proofs.Below.{eq-case}
+use Rattle.desk.proofs.ColumnLaws.{length_row, seat_at_law}
+use Rattle.desk.specs.Limits.{seat_count}
+use Rattle.desk.specs.Seats.{zero_seat, seat_at}
+use Rattle.desk.specs.inside.Columns.{row_of}
+use borrow.Author.Rules.{rules}
+use Rattle.desk.proofs.columns.row_of.Given as goal
+
+abbrev pub invariant-loop-i : goal.invariant-loop-i
+invariant-loop-i l = (l.i ≤ seat_count) × ((length l.row ≡ seat_count) × ((j : ℕ) → j < l.i → seat_at l.row j ≡ seat_at (row_of l.keys l.held l.ended) j))
+
+abbrev pub decreases-loop-i : goal.decreases-loop-i
+decreases-loop-i l = seat_count - l.i

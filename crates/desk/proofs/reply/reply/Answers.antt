@@ -1,0 +1,6 @@
+-- `desk::reply::reply` meets its contract.
+use borrow.Author.Rules.{rules}
+use Rattle.desk.proofs.reply.reply.Goals as goal
+
+pub returns : goal.returns
+returns c = rw c.with_seat.ensures c.reply_step-step.ensures.1

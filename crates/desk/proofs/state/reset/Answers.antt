@@ -1,0 +1,7 @@
+-- `desk::state::reset` meets its contract.
+use mathlib.Core.Path.{refl}
+use borrow.Author.Rules.{rules}
+use Rattle.desk.proofs.state.reset.Goals as goal
+
+pub returns : goal.returns
+returns c = record { empty = rw c.no_seat.ensures refl; zero = c.clear.ensures }

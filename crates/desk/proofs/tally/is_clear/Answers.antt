@@ -1,0 +1,26 @@
+-- `desk::tally::is_clear` meets its contract.
+use native.Mathlib.Omega.{arith}
+use mathlib.Core.Path.{◌≡◌, refl, sym, ap, ◌∙◌}
+use Prim.Native.Nat.{ℕ, ◌+◌, ◌-◌, ◌≤◌}
+use lib.Dec.{eqb}
+use lib.ListN.{get_or}
+use Rattle.desk.specs.Below.{all_below}
+use Rattle.desk.specs.inside.Counted.{row_clear, is_clear}
+use Rattle.desk.proofs.Below.{all_next, all_end}
+use Rattle.desk.proofs.TallyLaws.{row_or}
+use borrow.Author.Rules.{rules}
+use Rattle.desk.proofs.tally.is_clear.Goals as goal
+
+pub loop-i-init : goal.loop-i-init
+unfolding all_below
+loop-i-init c = (search rules, refl)
+
+pub loop-i-preserved : goal.loop-i-preserved
+loop-i-preserved c =
+    let i : ℕ = c.loop-i.i in
+    let t = c.args.tally.now in
+    (search rules, row_or t i c.loop-i.any c.loop-i.invariant.1)
+
+pub returns : goal.returns
+unfolding is_clear
+returns c = all_end c.loop-i.i 33 _ (search rules) c.loop-i.invariant.1

@@ -1,0 +1,18 @@
+-- `desk::tally::is_clear` meets its contract.
+use native.Mathlib.Omega.{arith}
+use mathlib.Core.Path.{◌≡◌, refl, sym, ap, ◌∙◌}
+use Prim.Native.Nat.{ℕ, ◌+◌, ◌-◌, ◌≤◌}
+use lib.Dec.{eqb}
+use lib.ListN.{get_or}
+use Rattle.desk.specs.Below.{all_below}
+use Rattle.desk.specs.inside.Counted.{row_clear, is_clear}
+use Rattle.desk.proofs.Below.{all_next, all_end}
+use Rattle.desk.proofs.TallyLaws.{row_or}
+use borrow.Author.Rules.{rules}
+use Rattle.desk.proofs.tally.is_clear.Given as goal
+
+abbrev pub invariant-loop-i : goal.invariant-loop-i
+invariant-loop-i l = (l.i ≤ 33) × (eqb l.any 0 ≡ all_below l.i (row_clear l.tally))
+
+abbrev pub decreases-loop-i : goal.decreases-loop-i
+decreases-loop-i l = 33 - l.i

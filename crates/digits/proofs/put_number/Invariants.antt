@@ -1,0 +1,14 @@
+-- `digits::put_number` meets its contract: each turn is one step of `put_from`.
+use native.Mathlib.Omega.{arith}
+use mathlib.Core.Path.{◌≡◌, refl, sym, ◌∙◌}
+use borrow.Author.Rules.{rules}
+use lib.ListN.{length}
+use Rattle.digits.proofs.Writing.{put_from, put_step, put_done, some_text, none_text, over_text}
+use Rattle.digits.proofs.put_number.Given as goal
+
+abbrev pub invariant-loop-left : goal.invariant-loop-left
+invariant-loop-left l =
+    (put_from l.initial.out l.at l.width l.n ≡ put_from l.out l.at l.left l.m) × (length l.out ≡ length l.initial.out)
+
+abbrev pub decreases-loop-left : goal.decreases-loop-left
+decreases-loop-left l = l.left

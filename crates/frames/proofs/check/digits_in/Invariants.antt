@@ -1,0 +1,17 @@
+-- `frames::check::digits_in` meets its contract: `good` says whether the bytes so far are digits.
+use mathlib.Core.Bool.{◌&&◌, and_assoc}
+use mathlib.Core.Path.{◌≡◌, refl}
+use Prim.Native.Nat.{◌-◌}
+use Rattle.digits.specs.Digits.{is_digit}
+use lib.ListN.{get_or}
+use lib.Dec.{leb}
+use borrow.Author.Rules.{rules}
+use Rattle.frames.specs.Shape.{all_from}
+use Rattle.frames.proofs.TimingLaws.{run_goes, run_done}
+use Rattle.frames.proofs.check.digits_in.Given as goal
+
+abbrev pub invariant-loop-i : goal.invariant-loop-i
+invariant-loop-i l = all_from is_digit l.s l.from (l.to - l.from) ≡ l.good && all_from is_digit l.s l.i (l.to - l.i)
+
+abbrev pub decreases-loop-i : goal.decreases-loop-i
+decreases-loop-i l = l.to - l.i

@@ -1,0 +1,15 @@
+-- `frames::check::raw_in` meets its contract: `good` says whether the bytes so far are raw.
+use mathlib.Core.Bool.{◌&&◌}
+use mathlib.Core.Path.{◌≡◌, refl}
+use Prim.Native.Nat.{◌-◌}
+use Rattle.frames.specs.Rules.{is_raw}
+use borrow.Author.Rules.{rules}
+use Rattle.frames.specs.Shape.{all_from}
+use Rattle.frames.proofs.TimingLaws.{run_goes, run_done}
+use Rattle.frames.proofs.check.raw_in.Given as goal
+
+abbrev pub invariant-loop-i : goal.invariant-loop-i
+invariant-loop-i l = all_from is_raw l.s l.from (l.to - l.from) ≡ l.good && all_from is_raw l.s l.i (l.to - l.i)
+
+abbrev pub decreases-loop-i : goal.decreases-loop-i
+decreases-loop-i l = l.to - l.i

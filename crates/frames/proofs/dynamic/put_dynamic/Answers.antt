@@ -1,0 +1,46 @@
+-- `frames::dynamic::put_dynamic` meets its contract: its stores are a single run.
+use mathlib.Core.Path.{◌∙◌}
+use borrow.Author.Rules.{rules}
+use Rattle.frames.specs.Kind.{frame_of}
+use Rattle.frames.proofs.DynamicLaws.{stores_frame}
+use Rattle.frames.proofs.dynamic.put_dynamic.Goals as goal
+
+pub shape_of-out : goal.shape_of-out
+shape_of-out c =
+    c.put_byte-4.auto.out
+    ∙ c.put_byte-3.auto.out
+    ∙ c.put_number-9.auto.out
+    ∙ c.put_number-8.auto.out
+    ∙ c.put_clock.auto.out
+    ∙ c.put_number-7.auto.out
+    ∙ c.put_number-6.auto.out
+    ∙ c.put_number-5.auto.out
+    ∙ c.put_number-4.auto.out
+    ∙ c.put_number-3.auto.out
+    ∙ c.put_number-2.auto.out
+    ∙ c.put_number.auto.out
+    ∙ c.put_byte-2.auto.out
+    ∙ c.put_byte.auto.out
+    ∙ c.put_head.auto.out
+
+pub returns : goal.returns
+unfolding frame_of
+returns c =
+    let a = c.args in
+    rw (
+      c.put_byte-4.ensures,
+      c.put_byte-3.ensures,
+      c.put_number-9.ensures,
+      c.put_number-8.ensures,
+      c.put_clock.ensures,
+      c.put_number-7.ensures,
+      c.put_number-6.ensures,
+      c.put_number-5.ensures,
+      c.put_number-4.ensures,
+      c.put_number-3.ensures,
+      c.put_number-2.ensures,
+      c.put_number.ensures,
+      c.put_byte-2.ensures,
+      c.put_byte.ensures,
+      c.put_head.ensures,
+    ) (stores_frame a.r a.out.now)

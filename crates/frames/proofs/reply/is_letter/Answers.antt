@@ -1,0 +1,11 @@
+-- `frames::reply::is_letter` meets its contract: set and list agree at each of the 256 bytes, which is computed.
+use mathlib.Core.Path.{refl, ◌∙◌}
+use Rattle.digits.specs.Text.{one_of, in_set}
+use Rattle.frames.specs.Reply.{is_letter}
+use borrow.Author.Rules.{rules}
+use Rattle.digits.proofs.Tables.{agreed}
+use Rattle.frames.proofs.reply.is_letter.Goals as goal
+
+pub returns : goal.returns
+unfolding in_set is_letter one_of
+returns c = c.in_set.ensures ∙ agreed (in_set _ _) is_letter 256 refl c.args.b c.ranges.b.fits

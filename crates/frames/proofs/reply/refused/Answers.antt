@@ -1,0 +1,6 @@
+-- `frames::reply::refused` meets its contract.
+use borrow.Author.Rules.{rules}
+use Rattle.frames.proofs.reply.refused.Goals as goal
+
+pub returns : goal.returns
+returns c = rw c.zero_reply.ensures

@@ -1,0 +1,17 @@
+-- `frames::request::request_at` meets its contract.
+use borrow.Author.Rules.{rules}
+use Rattle.frames.proofs.request.request_at.Goals as goal
+
+pub returns : goal.returns
+returns c =
+    rw (
+      c.byte_at-4.ensures,
+      c.number_or_none-5.ensures,
+      c.number_or_none-4.ensures,
+      c.number_or_none-3.ensures,
+      c.byte_at-3.ensures,
+      c.number_or_none-2.ensures,
+      c.number_or_none.ensures,
+      c.byte_at-2.ensures,
+      c.byte_at.ensures,
+    )

@@ -1,0 +1,13 @@
+-- `frames::timing::put_raw` meets its contract.
+use mathlib.Core.Path.{◌≡◌}
+use lib.ListN.{length}
+use borrow.Author.Rules.{rules}
+use Rattle.frames.proofs.TimingLaws.{raw_stores}
+use Rattle.frames.proofs.timing.put_raw.Goals as goal
+
+pub returns : goal.returns
+returns c =
+    let a = c.args in
+    let h : 10 ≡ length a.t1 = slice-aggregate-put-bytes c.before.before.before.before.before.before.before.before in
+    let k : 8 ≡ length a.t2 = slice-aggregate-put-bytes-2 c.before.before.before in
+    rw (c.put_bytes-2.ensures, c.put_bytes.ensures) (raw_stores a.out.now a.t1 a.t2 h k)

@@ -1,0 +1,18 @@
+-- `frames::timing::zero_run` meets its contract: `good` says whether the bytes so far are zero.
+use native.Mathlib.Omega.{arith}
+use native.Mathlib.Nat.{sub-zero}
+use mathlib.Core.Bool.{Bool, ◌&&◌}
+use mathlib.Core.Path.{◌≡◌, refl}
+use Prim.Native.Nat.{◌-◌, ◌≤◌}
+use Prim.Native.Nat.{ℕ}
+use lib.Dec.{eqb}
+use borrow.Author.Rules.{rules}
+use Rattle.frames.specs.Shape.{all_from}
+use Rattle.frames.proofs.TimingLaws.{run_goes, run_done}
+use Rattle.frames.proofs.timing.zero_run.Given as goal
+
+abbrev pub invariant-loop-i : goal.invariant-loop-i
+invariant-loop-i l = (all_from (λ b. eqb b 0) l.s 0 l.n ≡ l.good && all_from (λ b. eqb b 0) l.s l.i (l.n - l.i)) × (l.i ≤ l.n)
+
+abbrev pub decreases-loop-i : goal.decreases-loop-i
+decreases-loop-i l = l.n - l.i

@@ -1,0 +1,27 @@
+-- `lines::next_line` meets its contract: the line ends where the line from the byte at i on ends.
+use Prim.Native.Nat.{◌-◌}
+use mathlib.Core.Path.{◌≡◌, sym, ◌∙◌}
+use native.Mathlib.Omega.{arith}
+use borrow.Author.Rules.{rules}
+use lib.ListN.{length}
+use Rattle.lines.specs.Places.{line_at}
+use Rattle.lines.proofs.PlaceLaws.{begun_at, begun_here, past_byte, at_LF, at_end}
+use Rattle.lines.proofs.next_line.Goals as goal
+
+pub loop-i-init : goal.loop-i-init
+loop-i-init c = begun_here _ _
+
+pub returns-then-s-i-eq-LF : goal.returns-then-s-i-eq-LF
+returns-then-s-i-eq-LF c =
+    let a = c.args in
+    sym (c.loop-i.invariant ∙ at_LF a.s.now a.at c.loop-i.i (omega arith) c.if-s-i-eq-LF.true)
+
+pub loop-i-preserved : goal.loop-i-preserved
+loop-i-preserved c =
+    let a = c.args in
+    c.loop-i.invariant ∙ past_byte a.s.now a.at c.loop-i.i (omega arith) c.if-s-i-eq-LF.false
+
+pub returns : goal.returns
+returns c =
+    let a = c.args in
+    sym (c.loop-i.invariant ∙ at_end a.s.now a.at c.loop-i.i (omega arith))

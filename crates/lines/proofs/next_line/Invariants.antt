@@ -1,0 +1,15 @@
+-- `lines::next_line` meets its contract: the line ends where the line from the byte at i on ends.
+use Prim.Native.Nat.{◌-◌}
+use mathlib.Core.Path.{◌≡◌, sym, ◌∙◌}
+use native.Mathlib.Omega.{arith}
+use borrow.Author.Rules.{rules}
+use lib.ListN.{length}
+use Rattle.lines.specs.Places.{line_at}
+use Rattle.lines.proofs.PlaceLaws.{begun_at, begun_here, past_byte, at_LF, at_end}
+use Rattle.lines.proofs.next_line.Given as goal
+
+abbrev pub invariant-loop-i : goal.invariant-loop-i
+invariant-loop-i l = line_at l.s l.at ≡ begun_at l.at (line_at l.s l.i)
+
+abbrev pub decreases-loop-i : goal.decreases-loop-i
+decreases-loop-i l = length l.s - l.i

@@ -1,0 +1,19 @@
+-- `listing::take` meets its contract.
+use Rattle.listing.proofs.ListLaws.{taken_as, never_no_desk}
+use mathlib.Core.Path.{refl}
+use borrow.Author.Rules.{rules}
+use Rattle.listing.proofs.take.Goals as goal
+
+pub returns-in-Taken : goal.returns-in-Taken
+returns-in-Taken c =
+    let a = c.args in
+    let r = c.reset-e.ensures in
+    let k = rw (r.empty, r.zero) at c.take_capture-d.ensures in
+    taken_as a.cells.now a.marks.now a.capture.now _ _ (rw c.in-Taken.is at k) refl
+
+pub returns-in-NoDesk : goal.returns-in-NoDesk
+returns-in-NoDesk c =
+    let a = c.args in
+    let r = c.reset-e.ensures in
+    let k = rw (r.empty, r.zero) at c.take_capture-d.ensures in
+    never_no_desk a.cells.now a.marks.now a.capture.now _ (rw c.in-NoDesk.is at k)

@@ -1,0 +1,13 @@
+-- `page::store::store` meets its contract.
+use Rattle.std.proofs.Common.{◌≡◌, ℕ, ◌-◌, ◌≤◌, List, length, refl, ap, ◌∙◌, arith, length-set, rules}
+use lib.Seq.{length-sets}
+use Rattle.desk.specs.Tally.{Table}
+use Rattle.page.specs.inside.Stored.{begins_at, stored_cells, stored_marks, stored_tally}
+use Rattle.page.proofs.TurnLaws.{frame_here, cells_more, marks_more, tally_more}
+use Rattle.page.proofs.store.store.Given as goal
+
+abbrev pub invariant-loop-j : goal.invariant-loop-j
+invariant-loop-j l = Sofar l.text l.from l.held l.initial.cells l.initial.marks l.cells l.marks l.tally l.at l.j
+
+abbrev pub decreases-loop-j : goal.decreases-loop-j
+decreases-loop-j l = l.held - l.j

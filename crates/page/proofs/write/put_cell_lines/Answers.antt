@@ -1,0 +1,36 @@
+-- `page::write::put_cell_lines` meets its contract.
+use Rattle.std.proofs.Common.{◌≡◌, ◌-◌, ◌≤◌, length, refl, ◌∙◌, arith, rules}
+use Rattle.text.specs.Put.{Put}
+use Rattle.text.proofs.PutLaws.{put_none}
+use Rattle.desk.proofs.ClauseLaws.{part_cell}
+use Rattle.page.specs.Version.{one}
+use Rattle.page.specs.Page.{cell_lines}
+use Rattle.page.specs.inside.Writing.{of_cells}
+use Rattle.page.proofs.RowLaws.{cell_long, cells_more}
+use Rattle.page.proofs.write.put_cell_lines.Goals as goal
+
+pub loop-j-init : goal.loop-j-init
+unfolding cell_lines
+loop-j-init c = (search rules, (refl, put_none c.args.out.now c.args.at (omega arith)))
+
+pub overflow_cast-marks : goal.overflow_cast-marks
+overflow_cast-marks c = let h = c.requires.seats c.loop-j.j (search rules) in omega (arith, h)
+
+pub put_cell_line-p-requires : goal.put_cell_line-p-requires
+put_cell_line-p-requires c =
+    let l = c.loop-j in
+    (c.requires.seats l.j (search rules), rw (part_cell c.args.cells.now l.j) (cell_long c.args.cells.now l.j (omega (arith, c.requires))))
+
+pub loop-j-preserved : goal.loop-j-preserved
+loop-j-preserved c =
+    let a = c.args in
+    let l = c.loop-j in (
+      search rules,
+      (
+        c.put_cell_line-p.auto.out ∙ l.invariant.1.0,
+        cells_more a.out.now a.at l.p _ _ _ (omega arith) a.cells.now a.marks.now l.j l.invariant.1.1 c.put_cell_line-p.ensures,
+      ),
+    )
+
+pub returns : goal.returns
+returns c = let e : c.loop-j.j ≡ c.args.count = search rules in rw e at c.loop-j.invariant.1.1

@@ -1,0 +1,11 @@
+-- `scripts::main` is safe and ends.
+use mathlib.Core.Path.{◌≡◌}
+use borrow.Author.Rules.{rules}
+use lib.ListN.{length}
+use Rattle.scripts.proofs.main.Given as goal
+
+abbrev pub invariant-loop-turns : goal.invariant-loop-turns
+invariant-loop-turns l = (length l.buffer ≡ 1024) × ((length l.cells ≡ 15400) × (length l.marks ≡ 310))
+
+abbrev pub decreases-loop-turns : goal.decreases-loop-turns
+decreases-loop-turns l = l.turns
