@@ -14,7 +14,7 @@ use Rattle.digits.proofs.Tests.{and_true, and_l, and_r}
 use Rattle.times.specs.Clock.{is_time}
 use Rattle.times.specs.Net.{is_net}
 use Rattle.frames.specs.declared.timing.TimingKind.{TimingKind}
-use Rattle.frames.specs.declared.timing.TimingKind.TheVariants.{Clock as clockKind, Net as netKind, Raw as rawKind}
+use Rattle.frames.specs.declared.timing.TimingKind.TheVariants.{Clock as clock_kind, Net as net_kind, Raw as raw_kind}
 use Rattle.frames.specs.declared.reply.StaticReply.{StaticReply}
 use Rattle.frames.specs.Rules.{between, space, is_address, is_raw, is_requester, is_output}
 use Rattle.frames.specs.Status.{is_status}
@@ -160,19 +160,19 @@ dynamic_printed =
 
 timed_printed : (kind : TimingKind) → Printed (timed kind)
 unfolding timed is_sign is_raw between
-timed_printed clockKind =
+timed_printed clock_kind =
     printed_suits tt
     (time_printed tt λ _ _.
     printed {f = real_date} tt (λ (d : ℕ × (ℕ × ℕ)) _. every_both is_raw (digits 2 d.0) (digits 2 d.1.0 ++ digits 4 d.1.1) (digits_raw 2 d.0) (every_both is_raw (digits 2 d.1.0) (digits 4 d.1.1) (digits_raw 2 d.1.0) (digits_raw 4 d.1.1))) λ _ _.
     raw_printed 2 tt λ _ _.
     printed_suits tt printed_end)
-timed_printed netKind =
+timed_printed net_kind =
     printed_suits tt
     (time_printed tt λ ticks _.
     printed {f = net_days ticks} tt (λ (d : ℕ × ℕ) q. and_true (listed_raw _ refl d.0 (and_l (is_sign d.0) (is_net (net_of ticks d.0 d.1)) q)) (digits_raw 7 d.1)) λ _ _.
     raw_printed 2 tt λ _ _.
     printed_suits tt printed_end)
-timed_printed rawKind =
+timed_printed raw_kind =
     printed_suits tt
     (raw_printed 10 tt λ _ _.
     raw_printed 8 tt λ _ _.

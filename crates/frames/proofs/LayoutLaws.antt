@@ -132,19 +132,19 @@ module _ {Q R : Type 0} (of : R → Q) (whole : Q → R) where
   within_write (suits at test rest) r = within_write rest r
   within_write (end q) r = refl
 
-  module _ (W : Q → Type 0) (U : R → Type 0) (ofWhole : (q : Q) → of (whole q) ≡ q) (down : (r : R) → U r → W (of r)) (up : (q : Q) → W q → U (whole q)) where
+  module _ (W : Q → Type 0) (U : R → Type 0) (of_whole : (q : Q) → of (whole q) ≡ q) (down : (r : R) → U r → W (of r)) (up : (q : Q) → W q → U (whole q)) where
     pub within_sound : {L : Layout Q} {P : Q → Type 0} {F : Type 0} {n : ℕ} → Sound W L P F n → (O : R → Type 0) (G : Type 0) → (G → F)
         → ((r : R) → O r → P (of r)) → ((q : Q) → P q → O (whole q)) → ((r : R) → O r → whole (of r) ≡ r) → Sound U (within of whole L) O G n
     within_sound (field_sound {A} {at} {n} {f} {part} {next} {P} {F} {Fit} some fits inverse shown fit rest) O G facts inner outer same =
         field_sound some fits inverse shown (λ r u. fit (of r) (down r u))
         (λ v good. within_sound (rest v good) (λ r. O r × (part (of r) ≡ v)) (G × Fit v) (λ g. (facts g.0, g.1))
         (λ r o. (inner r o.0, o.1))
-        (λ q k. (outer q k.0, ap part (ofWhole q) ∙ k.1))
+        (λ q k. (outer q k.0, ap part (of_whole q) ∙ k.1))
         (λ r o. same r o.0))
     within_sound (suits_sound {at} {n} {test} {rest} some sound) O G facts inner outer same =
         suits_sound some (within_sound sound (λ r. O r × (test (of r) ≡ true)) G facts
         (λ r o. (inner r o.0, o.1))
-        (λ q k. (outer q k.0, ap test (ofWhole q) ∙ k.1))
+        (λ q k. (outer q k.0, ap test (of_whole q) ∙ k.1))
         (λ r o. same r o.0))
     within_sound (end_sound {q} own fits one) O G facts inner outer same =
         end_sound (outer q own) (λ g. up q (fits (facts g))) (λ r u o. ap whole (one (of r) (down r u) (inner r o)) ∙ same r o)

@@ -17,7 +17,7 @@ use Rattle.times.specs.Day.{real_day}
 use Rattle.times.specs.Net.{is_below}
 use Rattle.times.proofs.NetLaws.{net_range}
 use Rattle.frames.specs.declared.timing.TimingKind.{TimingKind}
-use Rattle.frames.specs.declared.timing.TimingKind.TheVariants.{Clock as clockKind, Net as netKind, Raw as rawKind}
+use Rattle.frames.specs.declared.timing.TimingKind.TheVariants.{Clock as clock_kind, Net as the_net_kind, Raw as raw_kind}
 use Rattle.frames.specs.declared.timing.Timing.{Timing}
 use Rattle.frames.specs.declared.timing.Timing.TheVariants.{Clock, Net, Raw}
 use Rattle.frames.specs.declared.reply.StaticReply.{StaticReply}
@@ -58,11 +58,11 @@ module _ (h t z : List ℕ) (a : length h ≡ 30) (b : length t ≡ 18) where
 
 -- ---- which replies are net
 
-net_letter : (status letter : ℕ) → timing_kind status letter ≡ netKind → (is_z status ≡ false) × (is_net_letter letter ≡ true)
+net_letter : (status letter : ℕ) → timing_kind status letter ≡ the_net_kind → (is_z status ≡ false) × (is_net_letter letter ≡ true)
 unfolding timing_kind is_net_letter
 net_letter status letter = go (is_z status) (one_of (codes "0KSsa") letter) (one_of (codes "123") letter)
   where
-    go : (z clock net : Bool) → cond z rawKind (cond clock clockKind (cond net netKind rawKind)) ≡ netKind → (z ≡ false) × (net ≡ true)
+    go : (z clock net : Bool) → cond z raw_kind (cond clock clock_kind (cond net the_net_kind raw_kind)) ≡ the_net_kind → (z ≡ false) × (net ≡ true)
     go false false true e = (refl, refl)
     go true clock net e = absurd (let x : ◌≡◌ {A = ℕ} 0 1 = cc in omega arith)
     go false true net e = absurd (let x : ◌≡◌ {A = ℕ} 0 1 = cc in omega arith)
@@ -82,7 +82,7 @@ not_Z status =
     or_cases (eqb status 82) _ _ (λ e. rw (eqb-true status 82 e))
     (or_cases (eqb status 69) _ _ (λ e. rw (eqb-true status 69 e)) (λ e. absurd (true≢false (sym e))))
 
-net_kind : (status letter : ℕ) → is_net_status status ≡ true → is_net_letter letter ≡ true → timing_kind status letter ≡ netKind
+net_kind : (status letter : ℕ) → is_net_status status ≡ true → is_net_letter letter ≡ true → timing_kind status letter ≡ the_net_kind
 unfolding timing_kind is_net_letter
 net_kind status letter e f = rw (not_Z status e, (no_clock letter f).1, f)
 
@@ -96,15 +96,15 @@ r_or_e status e f = go (eqb status 82) (eqb status 69) (eqb status 90) e f
     go false false true p q = absurd (true≢false q)
     go false false false p q = p
 
-net_timing_law : (t : Timing) → is_of netKind t ≡ true → (v : ℤ) × (t ≡ Net v)
+net_timing_law : (t : Timing) → is_of the_net_kind t ≡ true → (v : ℤ) × (t ≡ Net v)
 net_timing_law (Net v) e = (v, refl)
 net_timing_law (Clock ticks day month year) e = absurd (true≢false (sym e))
 net_timing_law Raw e = absurd (true≢false (sym e))
 
-kind_of_net : (kind : TimingKind) (t : Timing) (v : ℤ) → t ≡ Net v → is_of kind t ≡ true → kind ≡ netKind
-kind_of_net netKind t v n e = refl
-kind_of_net clockKind t v n e = absurd (true≢false (sym (rw n at e)))
-kind_of_net rawKind t v n e = absurd (true≢false (sym (rw n at e)))
+kind_of_net : (kind : TimingKind) (t : Timing) (v : ℤ) → t ≡ Net v → is_of kind t ≡ true → kind ≡ the_net_kind
+kind_of_net the_net_kind t v n e = refl
+kind_of_net clock_kind t v n e = absurd (true≢false (sym (rw n at e)))
+kind_of_net raw_kind t v n e = absurd (true≢false (sym (rw n at e)))
 
 -- ---- a net value in a record
 
@@ -132,21 +132,21 @@ value_fine v rest e = either (is_value v) (sym (value_judged v rest) ∙ e)
 -- the spare bytes of a record whose time and date are not wrong
 spare_raw : (kind : TimingKind) (t : Timing) (rt rd sp : List ℕ) → timing_wrong kind t rt rd sp ≡ 0 → are_raw 2 sp ≡ true
 unfolding clock_wrong
-spare_raw clockKind (Clock ticks day month year) rt rd sp e =
+spare_raw clock_kind (Clock ticks day month year) rt rd sp e =
     let time = unless_none (is_time ticks) 30 _ (omega arith) e in
     let date = unless_none (real_day day month year) 40 _ (omega arith) time.1 in
     (unless_none (are_raw 2 sp) 48 _ (omega arith) date.1).0
-spare_raw netKind (Net v) rt rd sp e = (unless_none (are_raw 2 sp) 48 _ (omega arith) (value_fine v _ e).1).0
-spare_raw rawKind Raw rt rd sp e =
+spare_raw the_net_kind (Net v) rt rd sp e = (unless_none (are_raw 2 sp) 48 _ (omega arith) (value_fine v _ e).1).0
+spare_raw raw_kind Raw rt rd sp e =
     let time = unless_none (are_raw 10 rt) 30 _ (omega arith) e in
     let date = unless_none (are_raw 8 rd) 40 _ (omega arith) time.1 in
     (unless_none (are_raw 2 sp) 48 _ (omega arith) date.1).0
-spare_raw clockKind (Net v) rt rd sp e = absurd (omega arith)
-spare_raw clockKind Raw rt rd sp e = absurd (omega arith)
-spare_raw netKind (Clock ticks day month year) rt rd sp e = absurd (omega arith)
-spare_raw netKind Raw rt rd sp e = absurd (omega arith)
-spare_raw rawKind (Clock ticks day month year) rt rd sp e = absurd (omega arith)
-spare_raw rawKind (Net v) rt rd sp e = absurd (omega arith)
+spare_raw clock_kind (Net v) rt rd sp e = absurd (omega arith)
+spare_raw clock_kind Raw rt rd sp e = absurd (omega arith)
+spare_raw the_net_kind (Clock ticks day month year) rt rd sp e = absurd (omega arith)
+spare_raw the_net_kind Raw rt rd sp e = absurd (omega arith)
+spare_raw raw_kind (Clock ticks day month year) rt rd sp e = absurd (omega arith)
+spare_raw raw_kind (Net v) rt rd sp e = absurd (omega arith)
 
 -- ---- the frame of a well formed reply
 
@@ -193,7 +193,7 @@ module _ (r : StaticReply) (fine : wrong_in reply r ≡ 0) where
   fits = kind_fits (kind_in r) (tail_of r).times (times_fine r fine)
 
   -- a net value in it has a writing, which the frame shows
-  value_is : kind_in r ≡ netKind → (v : ℤ) → r.timing ≡ Net v → is_value v ≡ true
+  value_is : kind_in r ≡ the_net_kind → (v : ℤ) → r.timing ≡ Net v → is_value v ≡ true
   value_is kind v is =
       (value_fine v _ (sym (ap₂ (λ (k : TimingKind) (t : Timing). timing_wrong k t r.raw_time r.raw_date r.spare) kind is) ∙ parts_fine.none)).0
 

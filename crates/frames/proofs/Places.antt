@@ -12,7 +12,7 @@ use Rattle.digits.specs.Told.{tried, Sure}
 use Rattle.digits.proofs.Tests.{and_true}
 use Rattle.digits.proofs.Sure.{sure_refuses, sure_gives}
 use Rattle.frames.specs.declared.timing.TimingKind.{TimingKind}
-use Rattle.frames.specs.declared.timing.TimingKind.TheVariants.{Clock as clockKind, Net as netKind, Raw as rawKind}
+use Rattle.frames.specs.declared.timing.TimingKind.TheVariants.{Clock as clock_kind, Net as net_kind, Raw as raw_kind}
 use Rattle.frames.specs.Shape.{Value, is, none}
 use Rattle.frames.specs.Classes.{Classes, first_off, spoiled_place}
 use Rattle.frames.specs.Field.{Field, number_to}
@@ -52,9 +52,9 @@ within_stands of whole ends = ends
 
 timed_stands : (kind : TimingKind) → Placed (timed kind) (30 ∷ 40 ∷ 48 ∷ 50 ∷ []) 51
 unfolding timed
-timed_stands clockKind = besides (next tt refl λ _ _. next tt refl λ _ _. next tt refl λ _ _. besides ends)
-timed_stands netKind = besides (next tt refl λ _ _. next tt refl λ _ _. next tt refl λ _ _. besides ends)
-timed_stands rawKind = besides (next tt refl λ _ _. next tt refl λ _ _. next tt refl λ _ _. ends)
+timed_stands clock_kind = besides (next tt refl λ _ _. next tt refl λ _ _. next tt refl λ _ _. besides ends)
+timed_stands net_kind = besides (next tt refl λ _ _. next tt refl λ _ _. next tt refl λ _ _. besides ends)
+timed_stands raw_kind = besides (next tt refl λ _ _. next tt refl λ _ _. next tt refl λ _ _. ends)
 
 tail_stands : (status : ℕ) → Placed (from_bib (least_run status) (number_to 3 999) is_letter (timing_kind status)) (12 ∷ 17 ∷ 20 ∷ 23 ∷ 26 ∷ 29 ∷ 30 ∷ 40 ∷ 48 ∷ 50 ∷ []) 51
 unfolding from_bib

@@ -111,8 +111,8 @@ module _ {A B : Type 0} where
       let r : a.width + b.width - a.width ≡ b.width = omega arith in
       sym (join (a.width + b.width) a.width p s _ _ (omega arith) (l.again s p v.0 (omega arith) q.left) (rw r (m.again s (p + a.width) v.1 (omega arith) q.right)))
 
-  pub both_inverse : {a : Shape A} {b : Shape B} {rule : A × B → Bool} {FitA : A → Type 0} {FitB : B → Type 0} {ruleA : A → Bool} {ruleB : B → Bool}
-      → Inverse a ruleA FitA → Inverse b ruleB FitB → ((v : A × B) → rule v ≡ true → (ruleA v.0 ≡ true) × (ruleB v.1 ≡ true))
+  pub both_inverse : {a : Shape A} {b : Shape B} {rule : A × B → Bool} {FitA : A → Type 0} {FitB : B → Type 0} {rule_a : A → Bool} {rule_b : B → Bool}
+      → Inverse a rule_a FitA → Inverse b rule_b FitB → ((v : A × B) → rule v ≡ true → (rule_a v.0 ≡ true) × (rule_b v.1 ≡ true))
       → Inverse (both a b) rule (λ v. FitA v.0 × FitB v.1)
   both_inverse {a} {b} g h good = record {
     lawful = record {

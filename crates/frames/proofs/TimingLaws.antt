@@ -19,7 +19,7 @@ use Rattle.times.specs.Net.{is_net, net_sum, net_value, net_parts}
 use Rattle.times.proofs.DayLaws.{day_bounds}
 use Rattle.times.proofs.NetLaws.{net_inverse, net_is}
 use Rattle.frames.specs.declared.timing.TimingKind.{TimingKind}
-use Rattle.frames.specs.declared.timing.TimingKind.TheVariants.{Clock as clockKind, Net as netKind, Raw as rawKind}
+use Rattle.frames.specs.declared.timing.TimingKind.TheVariants.{Clock as clock_kind, Net as net_kind, Raw as raw_kind}
 use Rattle.frames.specs.declared.timing.Timing.{Timing}
 use Rattle.frames.specs.declared.timing.Timing.TheVariants.{Clock, Net, Raw}
 use Rattle.frames.specs.Shape.{bytes_of, all_from}
@@ -93,9 +93,9 @@ pub record WholeTimes (t : Times) : Type 0 where
 
 date_inverse : Inverse date is_date (λ _. Unit {0} × (Unit {0} × Unit {0}))
 date_inverse =
-    both_inverse {ruleA = λ d. leb d 31} {ruleB = λ v. leb v.0 12 && leb v.1 2099}
+    both_inverse {rule_a = λ d. leb d 31} {rule_b = λ v. leb v.0 12 && leb v.1 2099}
     (digits_inverse 2 31 tt tt (λ v h. leb-true v 31 h))
-    (both_inverse {ruleA = λ m. leb m 12} {ruleB = λ y. leb y 2099}
+    (both_inverse {rule_a = λ m. leb m 12} {rule_b = λ y. leb y 2099}
     (digits_inverse 2 12 tt tt (λ v h. leb-true v 12 h))
     (digits_inverse 4 2099 tt tt (λ v h. leb-true v 2099 h))
     (λ v h. (and-eq-true_iff (leb v.0 12) (leb v.1 2099)).0 h))
@@ -103,7 +103,7 @@ date_inverse =
 
 days_inverse : (ticks : ℕ) → Inverse signed_days (are_days ticks) (λ _. Unit {0} × Unit {0})
 days_inverse ticks =
-    both_inverse {ruleA = λ _. true} {ruleB = λ d. leb d 9999999} byte_inverse
+    both_inverse {rule_a = λ _. true} {rule_b = λ d. leb d 9999999} byte_inverse
     (digits_inverse 7 9999999 tt tt (λ v h. leb-true v 9999999 h))
     (λ v h. (refl, le-leb v.1 9999999 (net_is (net_of ticks v.0 v.1) ((and-eq-true_iff (is_sign v.0) (is_net (net_of ticks v.0 v.1))).0 h).1).days))
 
@@ -118,7 +118,7 @@ same_times : {t u : Timing} {a b c d e f : List ℕ} → t ≡ u → a ≡ b →
     → ◌≡◌ {A = Times} (record { timing = t; raw_time = a; raw_date = c; spare = e }) (record { timing = u; raw_time = b; raw_date = d; spare = f })
 same_times p q r s i = record { timing = p i; raw_time = q i; raw_date = r i; spare = s i }
 
-clock_of : (t : Timing) (ticks : ℕ) (day : ℕ × (ℕ × ℕ)) → is_of clockKind t ≡ true → ticks_in t ≡ ticks → date_in t ≡ day → Clock ticks day.0 day.1.0 day.1.1 ≡ t
+clock_of : (t : Timing) (ticks : ℕ) (day : ℕ × (ℕ × ℕ)) → is_of clock_kind t ≡ true → ticks_in t ≡ ticks → date_in t ≡ day → Clock ticks day.0 day.1.0 day.1.1 ≡ t
 clock_of (Clock ticks d m y) ticks' day e a b = rw (← a, ← b)
 clock_of (Net value) ticks day e a b = absurd (let z : ◌≡◌ {A = ℕ} 0 1 = cc in omega arith)
 clock_of Raw ticks day e a b = absurd (let z : ◌≡◌ {A = ℕ} 0 1 = cc in omega arith)
@@ -134,12 +134,12 @@ sign_again sign e =
     (λ p. rw (eqb-true sign 43 p))
     (λ p. or_cases (eqb sign 45) false (sign_of (eqb sign 45) ≡ sign) (λ q. rw (eqb-true sign 45 q)) (λ q. absurd (let z : ◌≡◌ {A = ℕ} 0 1 = cc in omega arith)) p) e
 
-net_of_law : (t : Timing) (ticks : ℕ) (days : ℕ × ℕ) → is_of netKind t ≡ true → (net_in t).time ≡ ticks → days_in t ≡ days → Net (net_sum (net_of ticks days.0 days.1)) ≡ t
+net_of_law : (t : Timing) (ticks : ℕ) (days : ℕ × ℕ) → is_of net_kind t ≡ true → (net_in t).time ≡ ticks → days_in t ≡ days → Net (net_sum (net_of ticks days.0 days.1)) ≡ t
 net_of_law (Net v) ticks days e a b = rw (← a, ← b, sign_back (net_parts v).minus) (ap Net (net_inverse.again v))
 net_of_law (Clock ticks' d m y) ticks days e a b = absurd (let z : ◌≡◌ {A = ℕ} 0 1 = cc in omega arith)
 net_of_law Raw ticks days e a b = absurd (let z : ◌≡◌ {A = ℕ} 0 1 = cc in omega arith)
 
-raw_of : (t : Timing) → is_of rawKind t ≡ true → Raw ≡ t
+raw_of : (t : Timing) → is_of raw_kind t ≡ true → Raw ≡ t
 raw_of Raw e = refl
 raw_of (Clock ticks d m y) e = absurd (let z : ◌≡◌ {A = ℕ} 0 1 = cc in omega arith)
 raw_of (Net v) e = absurd (let z : ◌≡◌ {A = ℕ} 0 1 = cc in omega arith)
@@ -154,7 +154,7 @@ module _ (ticks : ℕ) (days : ℕ × ℕ) (good : are_days ticks days ≡ true)
 
 pub timed_sound : (kind : TimingKind) → Sound WholeTimes (timed kind) (λ _. Unit {0}) (Unit {0}) 20
 unfolding timed all_from
-timed_sound clockKind =
+timed_sound clock_kind =
     suits_sound {at = 30} (omega arith)
     (time_sound tt λ ticks _.
     field_sound {at = 40} {n = 10} {f = real_date} (omega arith) (omega arith) date_inverse date_shows (λ t whole. (tt, (tt, tt))) λ day _.
@@ -165,7 +165,7 @@ timed_sound clockKind =
     (λ t whole h.
     let u = unused_are t.raw_time t.raw_date whole.time whole.date h.1 in
     same_times (clock_of t.timing ticks day h.0.0.0.0.1 h.0.0.0.1 h.0.0.1) u.0 u.1 (sym h.0.1))))
-timed_sound netKind =
+timed_sound net_kind =
     suits_sound {at = 30} (omega arith)
     (time_sound tt λ ticks time.
     field_sound {at = 40} {n = 10} {f = net_days ticks} (omega arith) (omega arith) (days_inverse ticks) (net_shows ticks time) (λ t whole. (tt, tt)) λ days good.
@@ -176,7 +176,7 @@ timed_sound netKind =
     (λ t whole h.
     let u = unused_are t.raw_time t.raw_date whole.time whole.date h.1 in
     same_times (net_of_law t.timing ticks days h.0.0.0.0.1 h.0.0.0.1 h.0.0.1) u.0 u.1 (sym h.0.1))))
-timed_sound rawKind =
+timed_sound raw_kind =
     suits_sound {at = 30} (omega arith)
     (raw_sound 10 tt (λ t whole. whole.time) λ _ _.
     raw_sound 8 tt (λ t whole. whole.date) λ _ _.
@@ -190,22 +190,22 @@ timed_sound rawKind =
 pub timing_wrong_is : (kind : TimingKind) (t : Timing) (rt rd sp : List ℕ)
     → timing_wrong kind t rt rd sp ≡ record_wrong (timed kind) (record { timing = t; raw_time = rt; raw_date = rd; spare = sp })
 unfolding timed record_wrong clock_wrong net_value_wrong net_wrong
-timing_wrong_is clockKind (Clock ticks day month year) rt rd sp = refl
-timing_wrong_is clockKind (Net value) rt rd sp = refl
-timing_wrong_is clockKind Raw rt rd sp = refl
-timing_wrong_is netKind (Clock ticks day month year) rt rd sp = refl
-timing_wrong_is netKind (Net value) rt rd sp = refl
-timing_wrong_is netKind Raw rt rd sp = refl
-timing_wrong_is rawKind (Clock ticks day month year) rt rd sp = refl
-timing_wrong_is rawKind (Net value) rt rd sp = refl
-timing_wrong_is rawKind Raw rt rd sp = refl
+timing_wrong_is clock_kind (Clock ticks day month year) rt rd sp = refl
+timing_wrong_is clock_kind (Net value) rt rd sp = refl
+timing_wrong_is clock_kind Raw rt rd sp = refl
+timing_wrong_is net_kind (Clock ticks day month year) rt rd sp = refl
+timing_wrong_is net_kind (Net value) rt rd sp = refl
+timing_wrong_is net_kind Raw rt rd sp = refl
+timing_wrong_is raw_kind (Clock ticks day month year) rt rd sp = refl
+timing_wrong_is raw_kind (Net value) rt rd sp = refl
+timing_wrong_is raw_kind Raw rt rd sp = refl
 
 -- if time and date of a record are not wrong, its timing has the kind that is asked for
 pub kind_fits : (kind : TimingKind) (t : Times) → record_wrong (timed kind) t ≡ 0 → is_of kind t.timing ≡ true
 unfolding timed record_wrong
-kind_fits clockKind t e = (unless_none (is_of clockKind t.timing) 30 _ (omega arith) e).0
-kind_fits netKind t e = (unless_none (is_of netKind t.timing) 30 _ (omega arith) e).0
-kind_fits rawKind t e = (unless_none (is_of rawKind t.timing) 30 _ (omega arith) e).0
+kind_fits clock_kind t e = (unless_none (is_of clock_kind t.timing) 30 _ (omega arith) e).0
+kind_fits net_kind t e = (unless_none (is_of net_kind t.timing) 30 _ (omega arith) e).0
+kind_fits raw_kind t e = (unless_none (is_of raw_kind t.timing) 30 _ (omega arith) e).0
 
 -- ---- `seen_at` reads a frame's time and date
 
@@ -226,14 +226,14 @@ no_days ticks sign = and_false (is_sign sign)
 
 pub sees_timed : (kind : TimingKind) (s : List ℕ) → Sees (timed kind) 30 s (reply_byte kind s) (seen_of kind s).wrong (times_seen kind s)
 unfolding timed seen_clock seen_net seen_raw clock_wrong net_wrong looked_in in_class digit_from
-sees_timed clockKind s =
+sees_timed clock_kind s =
     sees_suits (sees_time tt refl λ _. sees_date tt refl λ _. sees_raw 2 tt refl λ _. sees_suits (sees_end refl))
-sees_timed netKind s =
+sees_timed net_kind s =
     let ticks = or_none (clock.got s 30) in
     let days = or_none (number_at s 41 7) in
     sees_suits (sees_time tt refl λ _. sees_days ticks tt (no_days ticks (get_or s 40 0)) refl λ good. sees_raw 2 tt refl λ _.
     sees_suits (sees_end (same_times (net_seen ticks (get_or s 40 0) days good) refl refl refl)))
-sees_timed rawKind s = sees_suits (sees_raw 10 tt refl λ _. sees_raw 8 tt refl λ _. sees_raw 2 tt refl λ _. sees_end refl)
+sees_timed raw_kind s = sees_suits (sees_raw 10 tt refl λ _. sees_raw 8 tt refl λ _. sees_raw 2 tt refl λ _. sees_end refl)
 
 -- a wrong field that is not time or date has its spoiled byte elsewhere
 pub timing_passed : (kind : TimingKind) (s : List ℕ) (wrong known : ℕ) → (eqb wrong 40 || eqb wrong 30) ≡ false → timing_byte kind s wrong known ≡ known
@@ -241,21 +241,21 @@ unfolding looked_in
 timing_passed kind s wrong known e = let q = or_false (eqb wrong 40) (eqb wrong 30) e in by_kind kind q.0 q.1
   where
     by_kind : (kind : TimingKind) → eqb wrong 40 ≡ false → eqb wrong 30 ≡ false → timing_byte kind s wrong known ≡ known
-    by_kind clockKind a b = rw (a, b)
-    by_kind netKind a b = rw (a, b)
-    by_kind rawKind a b = rw (a, b)
+    by_kind clock_kind a b = rw (a, b)
+    by_kind net_kind a b = rw (a, b)
+    by_kind raw_kind a b = rw (a, b)
 
 -- ---- time and date, as they are stored, are those of the frame
 
 pub timing_text_law : (kind : TimingKind) (t : Timing) (rt rd sp : List ℕ) → is_of kind t ≡ true
     → write (timed kind) (record { timing = t; raw_time = rt; raw_date = rd; spare = sp }) ≡ timing_text t rt rd ++ bytes_of sp 0 2
 unfolding timed write
-timing_text_law clockKind (Clock ticks day month year) rt rd sp e = simp append_assoc
-timing_text_law netKind (Net v) rt rd sp e = simp append_assoc
-timing_text_law rawKind Raw rt rd sp e = refl
-timing_text_law clockKind (Net v) rt rd sp e = absurd (let z : ◌≡◌ {A = ℕ} 0 1 = cc in omega arith)
-timing_text_law clockKind Raw rt rd sp e = absurd (let z : ◌≡◌ {A = ℕ} 0 1 = cc in omega arith)
-timing_text_law netKind (Clock ticks day month year) rt rd sp e = absurd (let z : ◌≡◌ {A = ℕ} 0 1 = cc in omega arith)
-timing_text_law netKind Raw rt rd sp e = absurd (let z : ◌≡◌ {A = ℕ} 0 1 = cc in omega arith)
-timing_text_law rawKind (Clock ticks day month year) rt rd sp e = absurd (let z : ◌≡◌ {A = ℕ} 0 1 = cc in omega arith)
-timing_text_law rawKind (Net v) rt rd sp e = absurd (let z : ◌≡◌ {A = ℕ} 0 1 = cc in omega arith)
+timing_text_law clock_kind (Clock ticks day month year) rt rd sp e = simp append_assoc
+timing_text_law net_kind (Net v) rt rd sp e = simp append_assoc
+timing_text_law raw_kind Raw rt rd sp e = refl
+timing_text_law clock_kind (Net v) rt rd sp e = absurd (let z : ◌≡◌ {A = ℕ} 0 1 = cc in omega arith)
+timing_text_law clock_kind Raw rt rd sp e = absurd (let z : ◌≡◌ {A = ℕ} 0 1 = cc in omega arith)
+timing_text_law net_kind (Clock ticks day month year) rt rd sp e = absurd (let z : ◌≡◌ {A = ℕ} 0 1 = cc in omega arith)
+timing_text_law net_kind Raw rt rd sp e = absurd (let z : ◌≡◌ {A = ℕ} 0 1 = cc in omega arith)
+timing_text_law raw_kind (Clock ticks day month year) rt rd sp e = absurd (let z : ◌≡◌ {A = ℕ} 0 1 = cc in omega arith)
+timing_text_law raw_kind (Net v) rt rd sp e = absurd (let z : ◌≡◌ {A = ℕ} 0 1 = cc in omega arith)

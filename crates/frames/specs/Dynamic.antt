@@ -30,16 +30,16 @@ dynamic_fields =
     -- logical channel
     field 10 (number_by 3 2 is_dynamic_channel) (λ r. r.channel) λ channel.
     field 13 (number_to 3 250) (λ r. r.run) λ run.
-    field 16 (number_by 5 6 (between 1 60000)) (λ r. r.stop_bib) λ stopBib.
-    field 21 (number_by 3 2 is_dynamic_channel) (λ r. r.stop_channel) λ stopChannel.
-    field 24 (number_to 3 250) (λ r. r.stop_run) λ stopRun.
+    field 16 (number_by 5 6 (between 1 60000)) (λ r. r.stop_bib) λ stop_bib.
+    field 21 (number_by 3 2 is_dynamic_channel) (λ r. r.stop_channel) λ stop_channel.
+    field 24 (number_to 3 250) (λ r. r.stop_run) λ stop_run.
     -- Taux: its sign (0 plus, 1 minus), its time and its days
     field 27 (number_to 1 1) (λ r. r.sign) λ sign.
     field 28 time_of_day (λ r. r.time) λ ticks.
     field 38 (number_to 1 9) (λ r. r.days) λ days.
     field 39 (number_by 5 9 (between (least_period order) 99999)) (λ r. r.period) λ period.
     field 44 (letter is_output) (λ r. r.output) λ output.
-    end (record { address = address; requester = requester; order = order; bib = bib; channel = channel; run = run; stop_bib = stopBib; stop_channel = stopChannel; stop_run = stopRun; sign = sign; time = ticks; days = days; period = period; output = output })
+    end (record { address = address; requester = requester; order = order; bib = bib; channel = channel; run = run; stop_bib = stop_bib; stop_channel = stop_channel; stop_run = stop_run; sign = sign; time = ticks; days = days; period = period; output = output })
 
 abbrev pub dynamic : Kind DynamicRequest
 dynamic = record { lead = 19; size = 46; fields = dynamic_fields }

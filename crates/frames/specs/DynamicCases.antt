@@ -19,8 +19,8 @@ but at text = sets good at (codes text)
 
 -- a record from its parts: address, requester, order, start, stop, Taux, period, output
 abbrev pub orders : ℕ → ℕ → ℕ → ℕ → ℕ → ℕ → ℕ → ℕ → ℕ → ℕ → ℕ → ℕ → ℕ → ℕ → DynamicRequest
-orders address requester order bib channel run stopBib stopChannel stopRun sign time days period output =
-    record { address = address; requester = requester; order = order; bib = bib; channel = channel; run = run; stop_bib = stopBib; stop_channel = stopChannel; stop_run = stopRun; sign = sign; time = time; days = days; period = period; output = output }
+orders address requester order bib channel run stop_bib stop_channel stop_run sign time days period output =
+    record { address = address; requester = requester; order = order; bib = bib; channel = channel; run = run; stop_bib = stop_bib; stop_channel = stop_channel; stop_run = stop_run; sign = sign; time = time; days = days; period = period; output = output }
 
 pub record DynamicWorked : Type 0 where
   -- the frame and its record

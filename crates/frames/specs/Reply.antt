@@ -51,11 +51,11 @@ pub record Tail : Type 0 where
 
 -- the layout from the bib on, by the least run, the field of the physical channel, the rule for the letter, and the kind of time and date for each letter
 unfoldable pub from_bib : ℕ → Field ℕ → (ℕ → Bool) → (ℕ → TimingKind) → Layout Tail
-from_bib least physicalChannel legal kind =
+from_bib least physical_channel legal kind =
     field 12 (number_to 5 59999) (λ t. t.bib) λ bib.
     field 17 (number_to 3 199) (λ t. t.group) λ group.
     field 20 (number_by 3 2 (between least 250)) (λ t. t.run) λ run.
-    field 23 physicalChannel (λ t. t.physical) λ physical.
+    field 23 physical_channel (λ t. t.physical) λ physical.
     -- logical channel
     field 26 (number_by 3 2 is_reply_channel) (λ t. t.channel) λ channel.
     field 29 (letter legal) (λ t. t.information) λ information.

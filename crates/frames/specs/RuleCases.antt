@@ -2,7 +2,7 @@
 use Rattle.std.specs.Prelude.{ℕ, zero, suc, List, [], ◌∷◌, ◌++◌, map, Bool, true, false, cond, ◌≡◌, drop, eqb}
 use Rattle.digits.specs.Text.{codes}
 use Rattle.frames.specs.declared.timing.TimingKind.{TimingKind}
-use Rattle.frames.specs.declared.timing.TimingKind.TheVariants.{Clock as clockKind, Net as netKind, Raw as rawKind}
+use Rattle.frames.specs.declared.timing.TimingKind.TheVariants.{Clock as clock_kind, Net as net_kind, Raw as raw_kind}
 use Rattle.frames.specs.Rules.{is_address, is_requester, is_output, is_raw}
 use Rattle.frames.specs.Status.{is_status, status_place}
 use Rattle.frames.specs.Request as Q
@@ -20,14 +20,14 @@ abbrev pub below : ℕ → List ℕ
 below = taken (λ _. true)
 
 abbrev pub is_clock : TimingKind → Bool
-is_clock clockKind = true
-is_clock netKind = false
-is_clock rawKind = false
+is_clock clock_kind = true
+is_clock net_kind = false
+is_clock raw_kind = false
 
 abbrev pub is_net_time : TimingKind → Bool
-is_net_time clockKind = false
-is_net_time netKind = true
-is_net_time rawKind = false
+is_net_time clock_kind = false
+is_net_time net_kind = true
+is_net_time raw_kind = false
 
 pub record RulesWorked : Type 0 where
   pub addresses : taken is_address 256 ≡ codes " 0123456789"

@@ -5,7 +5,7 @@ use Rattle.times.specs.declared.net.NetParts.{NetParts}
 use Rattle.times.specs.Day.{real_day}
 use Rattle.times.specs.Net.{is_net, net_sum, net_parts}
 use Rattle.frames.specs.declared.timing.TimingKind.{TimingKind}
-use Rattle.frames.specs.declared.timing.TimingKind.TheVariants.{Clock as clockKind, Net as netKind, Raw as rawKind}
+use Rattle.frames.specs.declared.timing.TimingKind.TheVariants.{Clock as clock_kind, Net as net_kind, Raw as raw_kind}
 use Rattle.frames.specs.declared.timing.Timing.{Timing}
 use Rattle.frames.specs.declared.timing.Timing.TheVariants.{Clock, Net, Raw}
 use Rattle.frames.specs.Rules.{is_raw}
@@ -18,9 +18,9 @@ use Rattle.frames.specs.Layout.{Layout, field, suits, end}
 -- with status Z always raw; otherwise five letters are clock, three are net and the other 25 are raw
 unfoldable pub timing_kind : ℕ → ℕ → TimingKind
 timing_kind status letter =
-    cond (is_z status) rawKind
-    (cond (one_of (codes "0KSsa") letter) clockKind
-    (cond (one_of (codes "123") letter) netKind rawKind))
+    cond (is_z status) raw_kind
+    (cond (one_of (codes "0KSsa") letter) clock_kind
+    (cond (one_of (codes "123") letter) net_kind raw_kind))
 
 -- ---- the parts of a record that hold time and date, and the two spare bytes
 
@@ -31,15 +31,15 @@ pub record Times : Type 0 where
   pub spare : List ℕ
 
 abbrev pub is_of : TimingKind → Timing → Bool
-is_of clockKind (Clock ticks day month year) = true
-is_of clockKind (Net value) = false
-is_of clockKind Raw = false
-is_of netKind (Clock ticks day month year) = false
-is_of netKind (Net value) = true
-is_of netKind Raw = false
-is_of rawKind (Clock ticks day month year) = false
-is_of rawKind (Net value) = false
-is_of rawKind Raw = true
+is_of clock_kind (Clock ticks day month year) = true
+is_of clock_kind (Net value) = false
+is_of clock_kind Raw = false
+is_of net_kind (Clock ticks day month year) = false
+is_of net_kind (Net value) = true
+is_of net_kind Raw = false
+is_of raw_kind (Clock ticks day month year) = false
+is_of raw_kind (Net value) = false
+is_of raw_kind Raw = true
 
 -- a record's timing has the kind that status and letter ask for
 abbrev pub timing_is : TimingKind → Times → Bool
@@ -115,22 +115,22 @@ net_days ticks = record { shape = signed_days; rule = are_days ticks; classes = 
 -- ---- the fields
 
 unfoldable pub timed : TimingKind → Layout Times
-timed clockKind =
-    suits 30 (timing_is clockKind)
+timed clock_kind =
+    suits 30 (timing_is clock_kind)
     (field 30 time_of_day (λ t. ticks_in t.timing) λ ticks.
     field 40 real_date (λ t. date_in t.timing) λ day.
     field 48 (raw_bytes 2) (λ t. t.spare) λ spare.
     suits 50 raw_unused
     (end (record { timing = Clock ticks day.0 day.1.0 day.1.1; raw_time = replicate 10 0; raw_date = replicate 8 0; spare = spare })))
-timed netKind =
-    suits 30 (timing_is netKind)
+timed net_kind =
+    suits 30 (timing_is net_kind)
     (field 30 time_of_day (λ t. (net_in t.timing).time) λ ticks.
     field 40 (net_days ticks) (λ t. days_in t.timing) λ days.
     field 48 (raw_bytes 2) (λ t. t.spare) λ spare.
     suits 50 raw_unused
     (end (record { timing = Net (net_sum (net_of ticks days.0 days.1)); raw_time = replicate 10 0; raw_date = replicate 8 0; spare = spare })))
-timed rawKind =
-    suits 30 (timing_is rawKind)
+timed raw_kind =
+    suits 30 (timing_is raw_kind)
     (field 30 (raw_bytes 10) (λ t. t.raw_time) λ raw_time.
     field 40 (raw_bytes 8) (λ t. t.raw_date) λ raw_date.
     field 48 (raw_bytes 2) (λ t. t.spare) λ spare.

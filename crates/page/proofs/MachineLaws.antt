@@ -21,7 +21,7 @@ use Rattle.page.specs.Version.{Version, Sound, showable}
 use Rattle.page.specs.Sum.{sum_of, sum_modulus}
 use Rattle.page.specs.Page.{page}
 use Rattle.page.specs.inside.Tokens.{Token, first, seat, cell, last, write, fits, code, tokens}
-use Rattle.page.specs.inside.Machine.{Body, Reached, heading, body, over, Shown, shows, framed, seat_taken, with_seat, heard_taken, with_cell, only, roomy, viable, final, shown_of, built as builtOf, builder, token_machine, machine}
+use Rattle.page.specs.inside.Machine.{Body, Reached, heading, body, over, Shown, shows, framed, seat_taken, with_seat, heard_taken, with_cell, only, roomy, viable, final, shown_of, built as built_of, builder, token_machine, machine}
 use Rattle.page.proofs.CodeLaws.{is_code}
 use Rattle.page.proofs.TokenLaws.{page_tokens}
 use Rattle.page.proofs.BuildLaws.{waiting_at, sofar, Built, built, lent, first_shows, first_sofar, seat_shows, seat_sofar, cell_shows, cell_sofar, GoesOn, goes_on, shown_whole}
@@ -174,7 +174,7 @@ module _ (v : Version) (sound : Sound v) where
   extends ks (body s) h t = let g = goes_from ks h t in record { made = g.made; is_good_holds = g.good; rest = g.rest; goes = g.goes }
   extends ks (over s) h t = let p = closed_page ks s h t in record { made = p.desk; is_good_holds = p.good; rest = []; goes = p.are ∙ sym (append-nil ks) }
 
-  closes : (ks : List Token) (s : Reached) → Holds ks s → viable v s ≡ true → final v s ≡ true → ClosesTokens (showable v) (tokens v) shows (fits v) (token_machine v) ks (builtOf v s)
+  closes : (ks : List Token) (s : Reached) → Holds ks s → viable v s ≡ true → final v s ≡ true → ClosesTokens (showable v) (tokens v) shows (fits v) (token_machine v) ks (built_of v s)
   closes ks heading h t e = absurd (false≢true e)
   closes ks (body s) h t e = absurd (false≢true e)
   closes ks (over s) h t e = let p = closed_page ks s h t in record { made = p.desk; is_good_holds = p.good; are_tokens = p.are; is_shown = p.shown }

@@ -13,7 +13,7 @@ use borrow.Author.Tests.{eqb-true, eq-eqb, ne_eqb}
 use Rattle.digits.specs.Refusals.{ROOM}
 use Rattle.digits.specs.Told.{Told, gives, tried}
 use Rattle.frames.specs.declared.timing.TimingKind.{TimingKind}
-use Rattle.frames.specs.declared.timing.TimingKind.TheVariants.{Clock as clockKind, Net as netKind, Raw as rawKind}
+use Rattle.frames.specs.declared.timing.TimingKind.TheVariants.{Clock as clock_kind, Net as net_kind, Raw as raw_kind}
 use Rattle.frames.specs.declared.timing.Timing.{Timing}
 use Rattle.frames.specs.declared.timing.Timing.TheVariants.{Clock, Net, Raw}
 use Rattle.frames.specs.declared.reply.StaticReply.{StaticReply}
@@ -152,9 +152,9 @@ is_zero (negsuc n) e = absurd (false≢true e)
 no_time_wrong : (kind : TimingKind) (raw_time raw_date spare : List ℕ)
     → record_wrong (timed kind) (record { timing = no_time; raw_time = raw_time; raw_date = raw_date; spare = spare }) ≡ 0 → ⊥
 unfolding record_wrong timed
-no_time_wrong clockKind a b c e = omega (arith, e)
-no_time_wrong netKind a b c e = omega (arith, e)
-no_time_wrong rawKind a b c e = omega (arith, e)
+no_time_wrong clock_kind a b c e = omega (arith, e)
+no_time_wrong net_kind a b c e = omega (arith, e)
+no_time_wrong raw_kind a b c e = omega (arith, e)
 
 -- what follows from tests that are all true
 no_part : (a b c d : ℕ) → eqb a 0 && eqb b 0 && eqb c 0 && eqb d 0 ≡ true → (a ≡ 0) × ((b ≡ 0) × ((c ≡ 0) × (d ≡ 0)))

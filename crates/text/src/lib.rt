@@ -3,9 +3,9 @@
 #![tactic(auto)]
 
 ghost use Rattle.std.specs.Prelude.{◌≡◌, [], ◌∷◌};
-ghost use Rattle.text.specs.Put.{placeAfter, Put};
+ghost use Rattle.text.specs.Put.{place_after, Put};
 ghost use Rattle.text.specs.Decimal.{width, decimal};
-ghost use Rattle.text.specs.Address.{addressShown};
+ghost use Rattle.text.specs.Address.{address_shown};
 
 use digits::{put_byte, put_bytes, put_number};
 
@@ -51,7 +51,7 @@ pub fn width_of(n: u64) -> usize
 
 // The place n bytes further on, or the largest number if that is past every place.
 pub fn place_after(at: usize, n: usize) -> usize
-    ensures { result ≡ placeAfter at n }
+    ensures { result ≡ place_after at n }
 {
     if n < usize::MAX - at {
         at + n
@@ -62,7 +62,7 @@ pub fn place_after(at: usize, n: usize) -> usize
 
 // An address that is a space is shown as a minus sign.
 pub fn address_shown(b: u8) -> u8
-    ensures { result ≡ addressShown b }
+    ensures { result ≡ address_shown b }
 {
     if b == b' ' { b'-' } else { b }
 }

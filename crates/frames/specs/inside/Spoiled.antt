@@ -2,7 +2,7 @@
 use Rattle.std.specs.Prelude.{ℕ, List, [], ◌∷◌, Bool, cond, eqb}
 use Rattle.digits.specs.Text.{codes}
 use Rattle.frames.specs.declared.timing.TimingKind.{TimingKind}
-use Rattle.frames.specs.declared.timing.TimingKind.TheVariants.{Clock as clockKind, Net as netKind, Raw as rawKind}
+use Rattle.frames.specs.declared.timing.TimingKind.TheVariants.{Clock as clock_kind, Net as net_kind, Raw as raw_kind}
 use Rattle.frames.specs.Rules.{between, is_raw}
 use Rattle.frames.specs.Classes.{Classes, first_off}
 use Rattle.frames.specs.Timing.{is_sign}
@@ -56,9 +56,9 @@ head_byte s wrong =
 
 -- in time and date
 abbrev pub timing_byte : TimingKind → List ℕ → ℕ → ℕ → ℕ
-timing_byte clockKind s wrong known = looked_in s wrong 40 (codes "3919=099") (looked_in s wrong 30 time_classes known)
-timing_byte netKind s wrong known = looked_in s wrong 40 (codes "+9999999") (looked_in s wrong 30 time_classes known)
-timing_byte rawKind s wrong known = looked_in s wrong 40 (codes "        ") (looked_in s wrong 30 (codes "          ") known)
+timing_byte clock_kind s wrong known = looked_in s wrong 40 (codes "3919=099") (looked_in s wrong 30 time_classes known)
+timing_byte net_kind s wrong known = looked_in s wrong 40 (codes "+9999999") (looked_in s wrong 30 time_classes known)
+timing_byte raw_kind s wrong known = looked_in s wrong 40 (codes "        ") (looked_in s wrong 30 (codes "          ") known)
 
 abbrev pub reply_byte : TimingKind → List ℕ → ℕ → ℕ
 reply_byte kind s wrong = looked_in s wrong 48 (codes "  ") (timing_byte kind s wrong (head_byte s wrong))

@@ -8,7 +8,7 @@ use Rattle.times.specs.Clock.{clock, is_time}
 use Rattle.times.specs.Day.{real_day}
 use Rattle.times.specs.Net.{is_net, net_parts, net_value}
 use Rattle.frames.specs.declared.timing.TimingKind.{TimingKind}
-use Rattle.frames.specs.declared.timing.TimingKind.TheVariants.{Clock as clockKind, Net as netKind, Raw as rawKind}
+use Rattle.frames.specs.declared.timing.TimingKind.TheVariants.{Clock as clock_kind, Net as net_kind, Raw as raw_kind}
 use Rattle.frames.specs.declared.timing.Timing.{Timing}
 use Rattle.frames.specs.declared.timing.Timing.TheVariants.{Clock, Net, Raw}
 use Rattle.frames.specs.declared.timing.Seen.{Seen}
@@ -54,9 +54,9 @@ as_raw (Net value) rest = 30
 as_raw Raw rest = rest
 
 abbrev pub timing_wrong : TimingKind → Timing → List ℕ → List ℕ → List ℕ → ℕ
-timing_wrong clockKind timing raw_time raw_date spare = as_clock timing (spare_wrong spare (unused_wrong raw_time raw_date))
-timing_wrong netKind timing raw_time raw_date spare = as_net timing (spare_wrong spare (unused_wrong raw_time raw_date))
-timing_wrong rawKind timing raw_time raw_date spare = as_raw timing (raw_wrong raw_time raw_date (spare_wrong spare 0))
+timing_wrong clock_kind timing raw_time raw_date spare = as_clock timing (spare_wrong spare (unused_wrong raw_time raw_date))
+timing_wrong net_kind timing raw_time raw_date spare = as_net timing (spare_wrong spare (unused_wrong raw_time raw_date))
+timing_wrong raw_kind timing raw_time raw_date spare = as_raw timing (raw_wrong raw_time raw_date (spare_wrong spare 0))
 
 -- ---- a frame's time and date
 
@@ -87,9 +87,9 @@ seen_raw s =
     record { timing = Raw; raw_time = bytes_of s 30 10; raw_date = bytes_of s 40 8; wrong = raw_wrong (bytes_of s 30 10) (bytes_of s 40 8) (spare_wrong (bytes_of s 48 2) 0) }
 
 abbrev pub seen_of : TimingKind → List ℕ → Seen
-seen_of clockKind s = seen_clock s
-seen_of netKind s = seen_net s
-seen_of rawKind s = seen_raw s
+seen_of clock_kind s = seen_clock s
+seen_of net_kind s = seen_net s
+seen_of raw_kind s = seen_raw s
 
 -- ---- time and date as they are stored
 
