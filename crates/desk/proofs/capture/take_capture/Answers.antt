@@ -29,17 +29,17 @@ sized : (c : goal.After-columns) → Sized c.columns.new.keys c.columns.new.held
 sized c = record { all_keys = c.columns.auto.keys; all_held = c.columns.auto.held; all_ended = c.columns.auto.ended }
 
 shown : (c : goal.Else-not-columns) → row_of c.columns.new.keys c.columns.new.held c.columns.new.ended ≡ c.args.row
-shown c = c.columns.ensures.1 (not_left refl c.if-not-columns.false)
+shown c = c.columns.ensures.1 ((sym refl ∙ c.if-not-columns.false))
 
 good : (c : goal.Else-not-columns) → all_below seat_count (seat_good_at (row_of c.columns.new.keys c.columns.new.held c.columns.new.ended) c.args.desk.bits) ≡ true
-good c = ap (λ (r : List Seat). all_below seat_count (seat_good_at r c.args.desk.bits)) (shown c) ∙ not_left c.columns.ensures.0 c.if-not-columns.false
+good c = ap (λ (r : List Seat). all_below seat_count (seat_good_at r c.args.desk.bits)) (shown c) ∙ (sym c.columns.ensures.0 ∙ c.if-not-columns.false)
 
 -- a desk, by the columns
 abbrev Start : goal.Else-not-is_desk → Memory
 Start c = memory c.args.desk (row_of c.columns.new.keys c.columns.new.held c.columns.new.ended) c.args.cells.now c.args.marks.now c.args.tally.now
 
 is-start : (c : goal.Else-not-is_desk) → is_desk (Start c) ≡ true
-is-start c = not_left c.is_desk.ensures c.if-not-is_desk.false
+is-start c = (sym c.is_desk.ensures ∙ c.if-not-is_desk.false)
 
 -- what the answer of `next` means in a turn of the loop
 here : (c : goal.After-next) → Told c.args.capture.now c.loop-keys.at c.next.result
@@ -56,7 +56,7 @@ pub returns-then-not-columns : goal.returns-then-not-columns
 returns-then-not-columns c =
     let a = c.args in
     let m = memory a.desk a.row a.cells.now a.marks.now a.tally.now in
-    left_alone m a.capture.now c.no_desk.result (sym (no_desk_case m (search rules) (not_came c.columns.ensures.0 c.if-not-columns.true))) c.no_desk.ensures
+    left_alone m a.capture.now c.no_desk.result (sym (no_desk_case m (search rules) ((sym c.columns.ensures.0 ∙ c.if-not-columns.true)))) c.no_desk.ensures
 
 pub is_desk-requires : goal.is_desk-requires
 is_desk-requires c = (sized c.before.before.before.before.before.before.before, good c.before.before.before)
@@ -66,7 +66,7 @@ returns-then-not-is_desk c =
     let a = c.args in
     let m = memory a.desk a.row a.cells.now a.marks.now a.tally.now in
     left_alone m a.capture.now c.no_desk-then-not-is_desk.result
-    (ap (λ (r : List Seat). is_desk (memory a.desk r a.cells.now a.marks.now a.tally.now)) (sym (shown c.before.before.before.before.before.before)) ∙ not_came c.is_desk.ensures c.if-not-is_desk.true) c.no_desk-then-not-is_desk.ensures
+    (ap (λ (r : List Seat). is_desk (memory a.desk r a.cells.now a.marks.now a.tally.now)) (sym (shown c.before.before.before.before.before.before)) ∙ (sym c.is_desk.ensures ∙ c.if-not-is_desk.true)) c.no_desk-then-not-is_desk.ensures
 
 pub loop-keys-init : goal.loop-keys-init
 loop-keys-init c = (begins (Start c) c.args.capture.now (is-start c), (search rules, (sized c.before.before.before.before.before.before.before.before.before, (refl, refl))))

@@ -20,14 +20,14 @@ unfolding all_below
 loop-i-init c = (search rules, (c.requires, (refl, λ j l. absurd (omega arith))))
 
 pub returns-then-not-seat_good : goal.returns-then-not-seat_good
-returns-then-not-seat_good c = (sym (all_fails seat_count c.loop-i.i _ (search rules) (not_came c.seat_good.ensures c.if-not-seat_good.true)), λ e. absurd (false≢true e))
+returns-then-not-seat_good c = (sym (all_fails seat_count c.loop-i.i _ (search rules) ((sym c.seat_good.ensures ∙ c.if-not-seat_good.true))), λ e. absurd (false≢true e))
 
 pub key_number-requires : goal.key_number-requires
-key_number-requires c = rw c.key_of.ensures (good_short _ _ _ (not_left c.seat_good.ensures c.if-not-seat_good.false))
+key_number-requires c = rw c.key_of.ensures (good_short _ _ _ ((sym c.seat_good.ensures ∙ c.if-not-seat_good.false)))
 
 pub loop-i-preserved : goal.loop-i-preserved
 loop-i-preserved c =
-    let g = not_left c.seat_good.ensures c.if-not-seat_good.false in
+    let g = (sym c.seat_good.ensures ∙ c.if-not-seat_good.false) in
     let a = c.args in
     let s : Seat = seat_at a.t1 c.loop-i.i in
     let is : c.key_number.result ≡ key_number (seat_key s) = c.key_number.ensures ∙ ap key_number c.key_of.ensures in

@@ -29,13 +29,13 @@ sized : (c : goal.After-columns) → Sized c.columns.new.keys c.columns.new.held
 sized c = record { all_keys = c.columns.auto.keys; all_held = c.columns.auto.held; all_ended = c.columns.auto.ended }
 
 shown : (c : goal.Else-not-columns) → row_of c.columns.new.keys c.columns.new.held c.columns.new.ended ≡ c.args.row
-shown c = c.columns.ensures.1 (not_left refl c.if-not-columns.false)
+shown c = c.columns.ensures.1 ((sym refl ∙ c.if-not-columns.false))
 
 full : (c : goal.Else-not-columns) → length c.args.row ≡ seat_count
 full c = search rules
 
 good : (c : goal.Else-not-columns) → all_below seat_count (seat_good_at (row_of c.columns.new.keys c.columns.new.held c.columns.new.ended) c.args.desk.bits) ≡ true
-good c = ap (λ (r : List Seat). all_below seat_count (seat_good_at r c.args.desk.bits)) (shown c) ∙ not_left c.columns.ensures.0 c.if-not-columns.false
+good c = ap (λ (r : List Seat). all_below seat_count (seat_good_at r c.args.desk.bits)) (shown c) ∙ (sym c.columns.ensures.0 ∙ c.if-not-columns.false)
 
 abbrev M : goal.After-judged → Memory
 M c = memory c.args.desk c.args.row c.args.cells.now c.args.marks.now c.args.tally.now
@@ -50,7 +50,7 @@ tried c =
     let row = shown c.before.before.before.before.before.before.before in
     c.judged.ensures
     ∙ open_row a.desk a.row c.columns.new.keys c.columns.new.held c.columns.new.ended a.cells.now a.marks.now a.tally.now (sized c.before.before.before.before.before.before.before.before.before.before.before) row
-    (ap (λ (r : List Seat). is_desk (memory a.desk r a.cells.now a.marks.now a.tally.now)) (sym row) ∙ not_left is c.if-not-is_desk.false) (F c)
+    (ap (λ (r : List Seat). is_desk (memory a.desk r a.cells.now a.marks.now a.tally.now)) (sym row) ∙ (sym is ∙ c.if-not-is_desk.false)) (F c)
 
 judged-opens : (c : goal.In-Opens-2) → gives c.in-Opens.opening ≡ open_tried (M c.before.before) (F c.before.before)
 judged-opens c = rw c.in-Opens.is at (tried c.before.before)
@@ -64,7 +64,7 @@ returns-then-not-columns c =
     let m = memory a.desk a.row a.cells.now a.marks.now a.tally.now in
     let full : length a.row ≡ seat_count = search rules in
     step_not_opened m a.frame.now full a.desk refl c.not_opened.result open-no-desk c.not_opened.ensures
-    (open_off m a.frame.now (sym (no_desk_case m full (not_came c.columns.ensures.0 c.if-not-columns.true))))
+    (open_off m a.frame.now (sym (no_desk_case m full ((sym c.columns.ensures.0 ∙ c.if-not-columns.true)))))
 
 pub is_desk-requires : goal.is_desk-requires
 is_desk-requires c = (sized c.before.before.before.before.before.before.before, good c.before.before.before)
@@ -74,7 +74,7 @@ returns-then-not-is_desk c =
     let a = c.args in
     let m = memory a.desk a.row a.cells.now a.marks.now a.tally.now in
     step_not_opened m a.frame.now (full c.before.before.before.before.before.before) a.desk refl c.not_opened-then-not-is_desk.result open-no-desk c.not_opened-then-not-is_desk.ensures
-    (open_off m a.frame.now (ap (λ (r : List Seat). is_desk (memory a.desk r a.cells.now a.marks.now a.tally.now)) (sym (shown c.before.before.before.before.before.before)) ∙ not_came c.is_desk.ensures c.if-not-is_desk.true))
+    (open_off m a.frame.now (ap (λ (r : List Seat). is_desk (memory a.desk r a.cells.now a.marks.now a.tally.now)) (sym (shown c.before.before.before.before.before.before)) ∙ (sym c.is_desk.ensures ∙ c.if-not-is_desk.true)))
 
 pub overflow_cast-seat : goal.overflow_cast-seat
 overflow_cast-seat c = let l = (known c.before.before).below in omega (arith, l)

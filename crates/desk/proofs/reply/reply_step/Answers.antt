@@ -30,13 +30,13 @@ sized : (c : goal.After-columns) → Sized c.columns.new.keys c.columns.new.held
 sized c = record { all_keys = c.columns.auto.keys; all_held = c.columns.auto.held; all_ended = c.columns.auto.ended }
 
 shown : (c : goal.Else-not-columns) → row_of c.columns.new.keys c.columns.new.held c.columns.new.ended ≡ c.args.t2
-shown c = c.columns.ensures.1 (not_left refl c.if-not-columns.false)
+shown c = c.columns.ensures.1 ((sym refl ∙ c.if-not-columns.false))
 
 full : (c : goal.Else-not-columns) → length c.args.t2 ≡ seat_count
 full c = search rules
 
 good : (c : goal.Else-not-columns) → all_below seat_count (seat_good_at (row_of c.columns.new.keys c.columns.new.held c.columns.new.ended) c.args.desk.bits) ≡ true
-good c = ap (λ (r : List Seat). all_below seat_count (seat_good_at r c.args.desk.bits)) (shown c) ∙ not_left c.columns.ensures.0 c.if-not-columns.false
+good c = ap (λ (r : List Seat). all_below seat_count (seat_good_at r c.args.desk.bits)) (shown c) ∙ (sym c.columns.ensures.0 ∙ c.if-not-columns.false)
 
 abbrev M : goal.After-judged → Memory
 M c = memory c.args.desk c.args.t2 c.args.cells.now c.args.marks.now c.args.tally.now
@@ -51,7 +51,7 @@ tried c =
     let row = shown c.before.before.before.before.before.before.before.before.before.before.before in
     rw c.capacity.ensures at c.judged.ensures
     ∙ reply_row a.desk a.t2 c.columns.new.keys c.columns.new.held c.columns.new.ended a.cells.now a.marks.now a.tally.now (sized c.before.before.before.before.before.before.before.before.before.before.before.before.before.before.before) row
-    (ap (λ (r : List Seat). is_desk (memory a.desk r a.cells.now a.marks.now a.tally.now)) (sym row) ∙ not_left is c.if-not-is_desk.false) (F c)
+    (ap (λ (r : List Seat). is_desk (memory a.desk r a.cells.now a.marks.now a.tally.now)) (sym row) ∙ (sym is ∙ c.if-not-is_desk.false)) (F c)
 
 judged-takes : (c : goal.In-Takes-2) → gives c.in-Takes.taking ≡ reply_tried (M c.before.before) (F c.before.before)
 judged-takes c = rw c.in-Takes.is at (tried c.before.before)
@@ -67,7 +67,7 @@ returns-then-not-columns c =
     let m = memory a.desk a.t2 a.cells.now a.marks.now a.tally.now in
     let full : length a.t2 ≡ seat_count = search rules in
     step_not_taken m a.frame.now full a.desk refl c.not_taken.result reply-no-desk c.not_taken.ensures
-    (reply_off m a.frame.now (sym (no_desk_case m full (not_came c.columns.ensures.0 c.if-not-columns.true))))
+    (reply_off m a.frame.now (sym (no_desk_case m full ((sym c.columns.ensures.0 ∙ c.if-not-columns.true)))))
 
 pub is_desk-requires : goal.is_desk-requires
 is_desk-requires c = (sized c.before.before.before.before.before.before.before, good c.before.before.before)
@@ -77,7 +77,7 @@ returns-then-not-is_desk c =
     let a = c.args in
     let m = memory a.desk a.t2 a.cells.now a.marks.now a.tally.now in
     step_not_taken m a.frame.now (full c.before.before.before.before.before.before) a.desk refl c.not_taken-then-not-is_desk.result reply-no-desk c.not_taken-then-not-is_desk.ensures
-    (reply_off m a.frame.now (ap (λ (r : List Seat). is_desk (memory a.desk r a.cells.now a.marks.now a.tally.now)) (sym (shown c.before.before.before.before.before.before)) ∙ not_came c.is_desk.ensures c.if-not-is_desk.true))
+    (reply_off m a.frame.now (ap (λ (r : List Seat). is_desk (memory a.desk r a.cells.now a.marks.now a.tally.now)) (sym (shown c.before.before.before.before.before.before)) ∙ (sym c.is_desk.ensures ∙ c.if-not-is_desk.true)))
 
 pub put_reply-after-requires : goal.put_reply-after-requires
 put_reply-after-requires c = let r = room c.before.before.before in record { seat = r.seat; count = r.count; mark = r.marks; cell = r.cells; frame = r.frame }

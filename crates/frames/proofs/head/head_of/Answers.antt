@@ -34,7 +34,7 @@ returns-then-not-is_address c =
     let b = c.byte_at-2.ensures in
     let d = c.byte_at-3.ensures in
     let f = c.byte_at-4.ensures in
-    head_address _ _ _ c.requires.0 (sym a ∙ c.if-byte_at-lead.false) c.if-s-size.false (sym b ∙ c.if-byte_at-ne-CR.false) (sym d ∙ c.if-byte_at-ne-LETTER.false) (rw (← f, ← c.is_address.ensures) (not-true _ c.if-not-is_address.true))
+    head_address _ _ _ c.requires.0 (sym a ∙ c.if-byte_at-lead.false) c.if-s-size.false (sym b ∙ c.if-byte_at-ne-CR.false) (sym d ∙ c.if-byte_at-ne-LETTER.false) (rw (← f, ← c.is_address.ensures) (c.if-not-is_address.true))
 
 pub returns : goal.returns
 returns c =
@@ -42,4 +42,4 @@ returns c =
     let b = c.byte_at-2.ensures in
     let d = c.byte_at-3.ensures in
     let f = c.byte_at-4.ensures in
-    head_good _ _ _ c.requires.0 (sym a ∙ c.if-byte_at-lead.false) c.if-s-size.false (sym b ∙ c.if-byte_at-ne-CR.false) (sym d ∙ c.if-byte_at-ne-LETTER.false) (rw (← f, ← c.is_address.ensures) (not-false _ c.if-not-is_address.false))
+    head_good _ _ _ c.requires.0 (sym a ∙ c.if-byte_at-lead.false) c.if-s-size.false (sym b ∙ c.if-byte_at-ne-CR.false) (sym d ∙ c.if-byte_at-ne-LETTER.false) (rw (← f, ← c.is_address.ensures) (c.if-not-is_address.false))

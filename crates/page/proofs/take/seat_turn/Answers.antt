@@ -8,12 +8,12 @@ use Rattle.page.proofs.take.seat_turn.Goals as goal
 pub returns-then-not-s-i : goal.returns-then-not-s-i
 returns-then-not-s-i c =
     let a = c.args in
-    rw (not_came (seat_test a.row a.s a.i a.k a.ended c.is_new.ensures) c.if-not-s-i.true) c.not_taken.ensures
+    rw ((sym (seat_test a.row a.s a.i a.k a.ended c.is_new.ensures) ∙ c.if-not-s-i.true)) c.not_taken.ensures
 
 takes : (c : goal.Else-not-s-i) → let a = c.args in seat_takes a.row a.s a.i a.k a.ended ≡ true
 takes c =
     let a = c.args in
-    not_left (seat_test a.row a.s a.i a.k a.ended c.is_new.ensures) c.if-not-s-i.false
+    (sym (seat_test a.row a.s a.i a.k a.ended c.is_new.ensures) ∙ c.if-not-s-i.false)
 
 adds : (c : goal.Else-not-s-i) → let a = c.args in Adds a.row a.s a.i a.k a.ended
 adds c =

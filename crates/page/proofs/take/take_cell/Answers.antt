@@ -18,7 +18,7 @@ returns-then-not-line-seat_digit c =
     let a = c.args in
     rw c.not_taken.ensures
     (cell_unlike a.t1 a.s a.line.now c.requires.1 c.seat_value-i.result c.seat_value-i.ensures.0
-    (not_came (tested c.before.before) c.if-not-line-seat_digit.true))
+    ((sym (tested c.before.before) ∙ c.if-not-line-seat_digit.true)))
 
 pub returns-then-not-is_reply : goal.returns-then-not-is_reply
 returns-then-not-is_reply c =
@@ -38,5 +38,5 @@ returns c =
     let a = c.args in
     rw (c.cell_turn.ensures, c.label_at.ensures, c.framed-frame.ensures)
     (cell_like a.t1 a.s a.line.now c.requires.1 c.seat_value-i.result c.seat_value-i.ensures.0
-    c.requires.0 c.seat_value-i.ensures.1 (not_left (tested c.before.before.before.before.before.before.before.before.before) c.if-not-line-seat_digit.false)
+    c.requires.0 c.seat_value-i.ensures.1 ((sym (tested c.before.before.before.before.before.before.before.before.before) ∙ c.if-not-line-seat_digit.false))
     (not_left (c.is_reply.ensures ∙ ap (λ (f : List ℕ). is_good (read reply f)) c.framed-frame.ensures) c.if-not-is_reply.false))

@@ -11,7 +11,7 @@ tested : (c : goal.After-is_key) → c.is_key.result && leb c.digit_value-ended.
 tested c = ap (λ (x : Bool). x && leb c.digit_value-ended.result 1) c.is_key.ensures
 
 passed : (c : goal.Else-not-is_key-ended) → is_key c.key_shown-k.result && leb c.digit_value-ended.result 1 ≡ true
-passed c = not_left (tested c.before) c.if-not-is_key-ended.false
+passed c = (sym (tested c.before) ∙ c.if-not-is_key-ended.false)
 
 legal : (c : goal.Else-not-is_key-ended) → is_key c.key_shown-k.result ≡ true
 legal c = and_l (is_key c.key_shown-k.result) (leb c.digit_value-ended.result 1) (passed c)
@@ -24,7 +24,7 @@ returns-then-not-is_key-ended c =
     let a = c.args in
     rw c.not_taken.ensures
     (seat_unfit a.row a.s a.line.now c.requires.1 _ _ _ c.seat_value-i.ensures.0 c.key_shown-k.ensures c.digit_value-ended.ensures
-    (not_came (tested c.before.before) c.if-not-is_key-ended.true))
+    ((sym (tested c.before.before) ∙ c.if-not-is_key-ended.true)))
 
 pub is_written-requires : goal.is_written-requires
 is_written-requires c = (c.seat_value-i.ensures.1, (key_narrow c.key_shown-k.result (legal c), few c))
@@ -34,7 +34,7 @@ returns-then-not-is_written c =
     let a = c.args in
     rw c.not_taken-then-not-is_written.ensures
     (seat_unlike a.row a.s a.line.now c.requires.1 _ _ _ c.seat_value-i.ensures.0 c.key_shown-k.ensures c.digit_value-ended.ensures
-    (not_came c.is_written.ensures c.if-not-is_written.true))
+    ((sym c.is_written.ensures ∙ c.if-not-is_written.true)))
 
 pub seat_turn-requires : goal.seat_turn-requires
 seat_turn-requires c = (c.requires.0, (c.seat_value-i.ensures.1, few c.before.before))
@@ -44,4 +44,4 @@ returns c =
     let a = c.args in
     rw c.seat_turn.ensures
     (seat_like a.row a.s a.line.now c.requires.1 _ _ _ c.seat_value-i.ensures.0 c.key_shown-k.ensures c.digit_value-ended.ensures
-    c.requires.0 c.seat_value-i.ensures.1 (passed c.before.before.before) (not_left c.is_written.ensures c.if-not-is_written.false))
+    c.requires.0 c.seat_value-i.ensures.1 (passed c.before.before.before) ((sym c.is_written.ensures ∙ c.if-not-is_written.false)))

@@ -11,7 +11,7 @@ abbrev lent : goal.Start → Memory
 lent s = memory s.args.desk s.args.row s.args.cells.now s.args.marks.now s.args.tally.now
 
 is_desk_holds : (c : goal.Else-not-makes_desk) → is_desk (lent c.before.before.before.before.before) ≡ true
-is_desk_holds c = not_left c.makes_desk.ensures c.if-not-makes_desk.false
+is_desk_holds c = (sym c.makes_desk.ensures ∙ c.if-not-makes_desk.false)
 
 pub returns-then-not-makes_desk : goal.returns-then-not-makes_desk
 returns-then-not-makes_desk c =

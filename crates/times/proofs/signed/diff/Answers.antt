@@ -10,4 +10,4 @@ pub overflow_sub-result : goal.overflow_sub-result
 overflow_sub-result c = machine_fits c.args.a c.args.b c.requires.0 c.requires.1
 
 pub returns : goal.returns
-returns c = to_z-of_z w64 _ (sub-result c) ∙ machine_sub c.args.a c.args.b c.requires.0 c.requires.1
+returns c = to_z-of_z w64 _ (overflow_sub-result c) ∙ machine_sub c.args.a c.args.b c.requires.0 c.requires.1
