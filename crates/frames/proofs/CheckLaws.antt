@@ -60,11 +60,11 @@ never false h = refl
 
 -- a test r of the code, by what it means
 module _ {r t : Bool} (is : r ≡ t) where
-  pub held : not r ≡ false → t ≡ true
-  held e = sym is ∙ not-false r e
+  pub held : r ≡ true → t ≡ true
+  held e = sym is ∙ e
 
-  pub failed : not r ≡ true → t ≡ false
-  failed e = sym is ∙ not-true r e
+  pub failed : r ≡ false → t ≡ false
+  failed e = sym is ∙ e
 
 -- ---- a time of day from its digits
 

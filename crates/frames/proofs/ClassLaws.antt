@@ -35,18 +35,18 @@ module _ (s : List ℕ) (at : ℕ) (text : List ℕ) (i : ℕ) where
   look n p e f h = rw (e, f) (ap (λ (t : List ℕ). first_off (classes_of t) s (at + i) at) (drop-cons text i 0 h))
 
   module _ (class b : ℕ) (t : Bool) (is-class : class ≡ get_or text i 0) (is_b : b ≡ get_or s (at + i) 0) (is-t : t ≡ in_class class b) where
-    pub look_on : i < length text → not t ≡ false → left s at text i ≡ left s at text (i + 1)
+    pub look_on : i < length text → t ≡ true → left s at text i ≡ left s at text (i + 1)
     look_on h e = look (i + 1) (at + (i + 1)) (omega arith) (omega arith) h ∙ rw (← is-class, ← is_b, ← is-t) (in_class_law t e)
       where
-        in_class_law : (x : Bool) → not x ≡ false → cond x (left s at text (i + 1)) (at + i) ≡ left s at text (i + 1)
+        in_class_law : (x : Bool) → x ≡ true → cond x (left s at text (i + 1)) (at + i) ≡ left s at text (i + 1)
         in_class_law true q = refl
-        in_class_law false q = absurd (true≢false q)
+        in_class_law false q = absurd (false≢true q)
 
-    pub look_off : i < length text → not t ≡ true → left s at text i ≡ at + i
+    pub look_off : i < length text → t ≡ false → left s at text i ≡ at + i
     look_off h e = look (i + 1) (at + (i + 1)) (omega arith) (omega arith) h ∙ rw (← is-class, ← is_b, ← is-t) (not_in_class t e)
       where
-        not_in_class : (x : Bool) → not x ≡ true → cond x (left s at text (i + 1)) (at + i) ≡ at + i
-        not_in_class true q = absurd (false≢true q)
+        not_in_class : (x : Bool) → x ≡ false → cond x (left s at text (i + 1)) (at + i) ≡ at + i
+        not_in_class true q = absurd (true≢false q)
         not_in_class false q = refl
 
   pub look_done : length text ≤ i → left s at text i ≡ at

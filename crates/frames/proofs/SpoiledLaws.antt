@@ -304,7 +304,7 @@ data Rising : ℕ → List ℕ → Type 0 where
   last : {p : ℕ} → Rising p (p ∷ [])
   then : {p q : ℕ} {offsets : List ℕ} → p < q → Rising q (q ∷ offsets) → Rising p (p ∷ q ∷ offsets)
 
-rising : {R : Type 0} {L : Layout R} {W : R → Type 0} {P : R → Type 0} {F : Type 0} {n p size : ℕ} {offsets : List ℕ} → Sound W L P F n → Placed L (p ∷ offsets) size → Rising p (p ∷ offsets)
+rising : {R : Type 0} {W : R → Type 0} {L : Layout R} {P : R → Type 0} {F : Type 0} {n p size : ℕ} {offsets : List ℕ} → Sound W L P F n → Placed L (p ∷ offsets) size → Rising p (p ∷ offsets)
 rising (field_sound some fits inverse shown fit rest) (stands lt place after) = let g = shown.good in then lt (rising (rest g.value g.fine) (after g.value g.fine))
 rising (suits_sound some sound) (besides placed) = rising sound placed
 rising (end_sound known fits one) ends = last
@@ -320,12 +320,14 @@ member (p ∷ offsets) q e = by-test (eqb q p) (λ t. subst (λ (x : ℕ). In q 
 
 first_least : {p q : ℕ} {offsets : List ℕ} → Rising p offsets → In q offsets → p ≤ q
 first_least last here = omega arith
+first_least {q = q} (last {p = p}) (there i) = elim i [ ]
 first_least (then lt more) here = omega arith
 first_least (then lt more) (there i) = let h = first_least more i in omega arith
 
 -- a field that begins after another one begins at its end or later
 not_before : {p q : ℕ} {offsets : List ℕ} → Rising p offsets → In q offsets → (o : ℕ) → o < q → end_of offsets o ≤ q
 not_before {q = q} last here o h = rw (lt-ltb o q h) (omega arith)
+not_before {q = q} (last {p = p}) (there i) o h = elim i [ ]
 not_before {q = q} (then lt more) here o h = rw (lt-ltb o q h) (omega arith)
 not_before (then {p} lt more) (there i) o h =
     let l = first_least more i in by_less o p (λ k. rw (lt-ltb o p k) (omega arith)) (λ k. rw (le-ltb o p k) (not_before more i o h))

@@ -139,4 +139,4 @@ returns-in-88 c = sym (ap letter_place c.in-88.is)
 
 pub returns-in_default : goal.returns-in_default
 unfolding letter_place
-returns-in_default c = sym (place_none letters c.args.letter c.in_default.rest)
+returns-in_default c = sym (place_none letters c.args.letter c.in_default.in_default-own.rest)

@@ -8,7 +8,7 @@ use Rattle.frames.proofs.reply.put_reply.Goals as goal
 pub returns : goal.returns
 returns c =
     let a = c.args in
-    let k : 2 ≡ length a.r.spare = slice-aggregate-put-bytes c.before.before.before.before.before.before.before in
+    let k : 2 ≡ length a.r.spare = search rules in
     rw (
       c.put_byte.ensures,
       c.put_bytes.ensures,

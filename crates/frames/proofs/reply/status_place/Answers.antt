@@ -19,4 +19,4 @@ returns-in-90 c = sym (ap status_place c.in-90.is)
 
 pub returns-in_default : goal.returns-in_default
 unfolding status_place
-returns-in_default c = sym (place_none statuses c.args.status c.in_default.rest)
+returns-in_default c = sym (place_none statuses c.args.status c.in_default.in_default-own.rest)

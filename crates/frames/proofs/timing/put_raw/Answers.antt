@@ -8,6 +8,6 @@ use Rattle.frames.proofs.timing.put_raw.Goals as goal
 pub returns : goal.returns
 returns c =
     let a = c.args in
-    let h : 10 ≡ length a.t1 = slice-aggregate-put-bytes c.before.before.before.before.before.before.before.before in
-    let k : 8 ≡ length a.t2 = slice-aggregate-put-bytes-2 c.before.before.before in
-    rw (c.put_bytes-2.ensures, c.put_bytes.ensures) (raw_stores a.out.now a.t1 a.t2 h k)
+    let h : 10 ≡ length a.raw_time = search rules in
+    let k : 8 ≡ length a.raw_date = search rules in
+    rw (c.put_bytes-2.ensures, c.put_bytes.ensures) (raw_stores a.out.now a.raw_time a.raw_date h k)
