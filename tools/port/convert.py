@@ -30,6 +30,7 @@ class Fn:
         for (old, new), at in zip(data["needs"], data["asked_at"]):
             self.needs[norm(old)] = (new, at[0])
         self.left = []
+        self.params = params_of(crate, rel)
 
     def need(self, old):
         o = norm(old)
@@ -88,6 +89,10 @@ class Fn:
         rest = parts[k:]
         if not rest:
             return None
+        if rest[0] == "args" and len(rest) > 1 and re.fullmatch(r"t\d+", rest[1]) and self.params:
+            n = int(rest[1][1:]) - 1
+            if n < len(self.params):
+                rest[1] = self.params[n]
         if rest[0] in ("args", "requires", "ranges", "well_formed", "type_inv", "utf8"):
             if rest[0] == "requires" and self.d.get("pre"):
                 pass
@@ -97,6 +102,17 @@ class Fn:
             note(f"no step {rest[0]} above {place}")
             return ".".join([var] + parts)
         return ".".join([var] + got)
+
+
+# the parameters of a function, from its source
+def params_of(crate, rel):
+    parts = rel.split("/")
+    for f in (f"crates/{crate}/src/{'/'.join(parts[:-1])}.rt", f"crates/{crate}/src/lib.rt", f"crates/{crate}/src/main.rt"):
+        if os.path.exists(f):
+            m = re.search(r"fn %s\(([^)]*)\)" % parts[-1], open(f, encoding="utf-8").read())
+            if m:
+                return re.findall(r"(?:mut )?(\w+):", m[1])
+    return []
 
 
 def blocks(text):
@@ -127,6 +143,40 @@ class Turn:
     def __init__(self, fn):
         self.fn = fn
         self.helpers = {}
+        # a helper over a place: its type and its body, in paths of `c`; what it unfolds; in the order of the file
+        self.macros = {}
+
+    # the helpers that a text uses, each before those that use it
+    def used(self, text):
+        names = [n for n in self.macros if re.search(r"(?<![^\s(){}\[\],;])%s(?![^\s(){}\[\],;.])" % re.escape(n), text)]
+        out = []
+        for n in names:
+            for k in self.used(self.macros[n][0] + " " + self.macros[n][1]):
+                if k not in out:
+                    out.append(k)
+            if n not in out:
+                out.append(n)
+        return out
+
+    # an answer with the helpers that it uses as lets
+    def with_lets(self, name, body):
+        used = self.used(body)
+        if not used:
+            return body
+        unfolds = sorted({u for n in used for u in self.macros[n][2]})
+        lines = body.split("\n")
+        if lines[0].startswith("unfolding"):
+            have = lines[0].split()[1:]
+            lines[0] = " ".join(["unfolding"] + have + [u for u in unfolds if u not in have])
+        elif unfolds:
+            lines.insert(0, " ".join(["unfolding"] + unfolds))
+        text = "\n".join(lines)
+        m = re.search(r"(?m)^%s c =" % re.escape(name), text)
+        if not m:
+            self.note(f"lets {used} left out of {name}")
+            return body
+        lets = "".join(f"\n    let {n} : {self.macros[n][0]} = {self.macros[n][1]} in" for n in used)
+        return text[: m.end()] + lets + "\n    " + text[m.end() :].lstrip()
 
     def note(self, s):
         self.fn.left.append(s)
@@ -147,12 +197,7 @@ class Turn:
         def helper(m):
             name, arg = m[1], m[2]
             if name in self.helpers and arg.split(".")[0] in alias and all(x == "before" for x in arg.split(".")[1:]):
-                d = 0
-                for i in fn.chain(place):
-                    if norm(fn.places[i][0]) == norm(self.helpers[name]):
-                        return f"{name} {var}" + ".before" * d
-                    d += 1
-                self.note(f"helper {name} wants {self.helpers[name]}, not above {place}")
+                return name
             return m[0]
 
         text = re.sub(r"(?<![^\s(){}])(%s) ((?:%s)(?:\.before)*)(?![\w.'-])" % (NAME, "|".join(sorted(alias))), helper, text)
@@ -165,7 +210,13 @@ class Turn:
                 return m[0] if m[1] == var else var + m[2]
             return fn.path(place, var, parts, self.note) or m[0]
 
-        return PATH.sub(path, text)
+        text = PATH.sub(path, text)
+
+        def arg(m):
+            n = int(m[1]) - 1
+            return "." + fn.params[n] if n < len(fn.params) else m[0]
+
+        return re.sub(r"(?<=\w)\.t(\d+)(?![\w'-])", arg, text)
 
 
 def convert(crate, rel, data):
@@ -177,10 +228,15 @@ def convert(crate, rel, data):
     bs = blocks(text)
     # which place each helper is about
     for b in bs:
-        m = re.search(r"^(?:abbrev |unfoldable )?(%s) : \((%s) : tie\.(%s)(?: invariant-\S+| decreases-\S+)*\)" % (NAME, NAME, NAME), "\n".join(b), re.M)
-        if m:
-            turn.helpers[m[1]] = m[3]
+        m = re.search(r"^(?:abbrev |unfoldable )?(%s) : (?:\(%s : )?tie\.(%s)(?: invariant-[^\s)]+| decreases-[^\s)]+)*\)? →" % (NAME, NAME, NAME), "\n".join(l for l in b if not l.startswith("--")))
+        if m and not m[2].startswith("Need-"):
+            turn.helpers[m[1]] = m[2]
     head = ""
+    cited = {}
+    for b in bs:
+        m = re.match(r"(?:pub )?(%s) : tie\.Need-(\S+)" % NAME, next((l for l in b if not l.startswith("--")), ""))
+        if m and fn.need(m[2]):
+            cited[m[1]] = fn.need(m[2])[0]
     for b in bs:
         lead = [l for l in b if l.startswith("--")]
         rest = [l for l in b if not l.startswith("--")]
@@ -215,30 +271,42 @@ def convert(crate, rel, data):
             if trivial and not body.strip().startswith("unfolding"):
                 continue
             new, place = got
+            for o, n in cited.items():
+                body = re.sub(r"(?<=[ (,{])%s(?= c(?![\w'-]))" % re.escape(o), n, body)
             body = re.sub(r"(?m)^%s(?= )" % re.escape(old), new, body)
             body = re.sub(r"(?m)^(%s c) κs(?= )" % re.escape(new), r"\1", body)
             if "κs" in body:
                 fn.left.append(f"κs in {new}")
-            body = turn.body(body, place)
+            body = turn.with_lets(new, turn.body(body, place))
             answers.append("\n".join(lead + [f"pub {new} : goal.{new}", body]))
             continue
-        # a helper
-        m = re.search(r"\((%s) : tie\.(%s)" % (NAME, NAME), t)
-        m2 = re.search(r"(?<!\S)tie\.(%s)(?: invariant-\S+| decreases-\S+)* →" % NAME, t)
-        if m or m2:
-            place = (m or m2)[2 if m else 1]
-            var = m[1] if m else None
-            if not var:
-                m3 = re.search(r"(?m)^(?!abbrev|unfoldable|unfolding)%s (\S+)" % NAME, "\n".join(rest[1:]))
-                var = m3[1] if m3 else "c"
-            t = turn.body(t, place, var)
-            t = re.sub(
-                r"tie\.(%s)((?: invariant-\S+| decreases-[^\s)]+)*)" % NAME,
-                lambda k: "goal." + fn.new_place.get(norm(k[1]), k[1]),
-                t,
-            )
-            if norm(place) not in fn.new_place:
-                fn.left.append(f"no place {place}")
+        # a helper over a place
+        m = re.match(r"(?:abbrev |unfoldable )?(%s) : (?:\((%s) : )?tie\.(%s)((?: invariant-[^\s)]+| decreases-[^\s)]+)*)\)? → " % (NAME, NAME, NAME), t)
+        if m:
+            name, place = m[1], m[3]
+            lines = t[m.end() :].split("\n")
+            k = next(i for i, l in enumerate(lines) if re.match(r"(?:unfolding |%s )" % re.escape(name), l))
+            kind = " ".join(l.strip() for l in lines[:k])
+            unfolds = []
+            if lines[k].startswith("unfolding"):
+                unfolds = lines[k].split()[1:]
+                k += 1
+            clause = "\n".join(lines[k:])
+            c = re.match(r"%s (\S+)((?: \S+)*?) =(?=\s)" % re.escape(name), clause)
+            if not c or re.search(r"(?m)^%s " % re.escape(name), clause[c.end() :]):
+                fn.left.append(f"helper {name} has several clauses")
+                answers.append("-- left: " + t.replace("\n", "\n-- "))
+                continue
+            body = clause[c.end() :].strip()
+            kind = turn.body(kind, place, m[2] or c[1])
+            body = turn.body(body, place, c[1])
+            for v in {m[2], c[1]} - {None, "c"}:
+                kind = re.sub(r"(?<![\w.'-])%s(?=\.)" % v, "c", kind)
+                body = re.sub(r"(?<![\w.'-])%s(?=\.)" % v, "c", body)
+            if c[2].strip():
+                body = f"λ{c[2]}. {body}"
+            turn.macros[name] = (kind, body, unfolds)
+            continue
         answers.append("\n".join(lead + [t]))
     head = re.sub(r" Assumes nothing\.", "", head)
     if invs:

@@ -27,11 +27,11 @@ false_or true h = absurd (h refl)
 false_or false h = refl
 
 -- from what a call returned for a test, and the way that a branch on its negation took, to the test
-pub not_came : {x a : Bool} → x ≡ a → not x ≡ true → a ≡ false
-not_came {x} e t = sym e ∙ not-true x t
+pub not_came : {x a : Bool} → x ≡ a → x ≡ false → a ≡ false
+not_came e t = sym e ∙ t
 
-pub not_left : {x a : Bool} → x ≡ a → not x ≡ false → a ≡ true
-not_left {x} e t = sym e ∙ not-false x t
+pub not_left : {x a : Bool} → x ≡ a → x ≡ true → a ≡ true
+not_left e t = sym e ∙ t
 
 -- a row of tests, each of which returns false if it fails: going on after a test that held, and returning at one that failed
 pub past : {a b r : Bool} → a ≡ true → r ≡ b → r ≡ a && b

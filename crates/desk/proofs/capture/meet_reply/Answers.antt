@@ -21,68 +21,151 @@ use Rattle.desk.proofs.CaptureLaws.{met_by}
 use borrow.Author.Rules.{rules}
 use Rattle.desk.proofs.capture.meet_reply.Goals as goal
 
-abbrev M : goal.After-judged → Memory
-M c = memory c.args.desk (row_of c.args.keys.now c.args.held.now c.args.ended.now) c.args.cells.now c.args.marks.now c.args.tally.now
-
-abbrev F : goal.After-judged → List ℕ
-F c = c.args.frame.now
-
-tried : (c : goal.After-judged) → reply_judged c.judged.result ≡ reply_tried (M c) (F c)
-tried c =
-    let a = c.args in
-    let p = c.requires in
-    rw c.capacity.ensures at c.judged.ensures ∙ reply_by_columns a.desk a.keys.now a.held.now a.ended.now a.cells.now a.marks.now a.tally.now p.0 p.1 (F c)
-
-judged-takes : (c : goal.In-Takes-2) → gives c.in-Takes.taking ≡ reply_tried (M c.before.before) (F c.before.before)
-judged-takes c = rw c.in-Takes.is at (tried c.before.before)
-
-room : (c : goal.In-Takes-2) → Room (M c.before.before) (F c.before.before) c.in-Takes.taking
-room c =
-    took_room (M c.before.before) (F c.before.before) c.in-Takes.taking
-    (took (M c.before.before) (F c.before.before) c.in-Takes.taking (sym (judged-takes c)))
-
 pub offset_bounds-held-at : goal.offset_bounds-held-at
-offset_bounds-held-at c = let r = room c.before in omega (arith, r.seat)
+offset_bounds-held-at c =
+    let M : Memory = memory c.args.desk (row_of c.args.keys.now c.args.held.now c.args.ended.now) c.args.cells.now c.args.marks.now c.args.tally.now in
+    let F : List ℕ = c.args.frame.now in
+    let tried : reply_judged c.judged.result ≡ reply_tried (M) (F) = let a = c.args in
+    let p = c.requires in
+    rw c.capacity.ensures at c.judged.ensures ∙ reply_by_columns a.desk a.keys.now a.held.now a.ended.now a.cells.now a.marks.now a.tally.now p.0 p.1 (F) in
+    let judged-takes : gives c.in-Takes.taking ≡ reply_tried (M) (F) = rw c.in-Takes.is at (tried) in
+    let room : Room (M) (F) c.in-Takes.taking = took_room (M) (F) c.in-Takes.taking
+    (took (M) (F) c.in-Takes.taking (sym (judged-takes))) in
+    let r = room in omega (arith, r.seat)
 
 pub bounds-held-at : goal.bounds-held-at
-bounds-held-at c = let r = room c.before.before in let z = c.requires.0.all_held in omega (arith, r.seat, z)
+bounds-held-at c =
+    let M : Memory = memory c.args.desk (row_of c.args.keys.now c.args.held.now c.args.ended.now) c.args.cells.now c.args.marks.now c.args.tally.now in
+    let F : List ℕ = c.args.frame.now in
+    let tried : reply_judged c.judged.result ≡ reply_tried (M) (F) = let a = c.args in
+    let p = c.requires in
+    rw c.capacity.ensures at c.judged.ensures ∙ reply_by_columns a.desk a.keys.now a.held.now a.ended.now a.cells.now a.marks.now a.tally.now p.0 p.1 (F) in
+    let judged-takes : gives c.in-Takes.taking ≡ reply_tried (M) (F) = rw c.in-Takes.is at (tried) in
+    let room : Room (M) (F) c.in-Takes.taking = took_room (M) (F) c.in-Takes.taking
+    (took (M) (F) c.in-Takes.taking (sym (judged-takes))) in
+    let r = room in let z = c.requires.0.all_held in omega (arith, r.seat, z)
 
 pub offset_bounds-ended-at : goal.offset_bounds-ended-at
-offset_bounds-ended-at c = let r = room c.before.before in omega (arith, r.seat)
+offset_bounds-ended-at c =
+    let M : Memory = memory c.args.desk (row_of c.args.keys.now c.args.held.now c.args.ended.now) c.args.cells.now c.args.marks.now c.args.tally.now in
+    let F : List ℕ = c.args.frame.now in
+    let tried : reply_judged c.judged.result ≡ reply_tried (M) (F) = let a = c.args in
+    let p = c.requires in
+    rw c.capacity.ensures at c.judged.ensures ∙ reply_by_columns a.desk a.keys.now a.held.now a.ended.now a.cells.now a.marks.now a.tally.now p.0 p.1 (F) in
+    let judged-takes : gives c.in-Takes.taking ≡ reply_tried (M) (F) = rw c.in-Takes.is at (tried) in
+    let room : Room (M) (F) c.in-Takes.taking = took_room (M) (F) c.in-Takes.taking
+    (took (M) (F) c.in-Takes.taking (sym (judged-takes))) in
+    let r = room in omega (arith, r.seat)
 
 pub bounds-ended-at : goal.bounds-ended-at
-bounds-ended-at c = let r = room c.before.before.before in let z = c.requires.0.all_ended in omega (arith, r.seat, z)
+bounds-ended-at c =
+    let M : Memory = memory c.args.desk (row_of c.args.keys.now c.args.held.now c.args.ended.now) c.args.cells.now c.args.marks.now c.args.tally.now in
+    let F : List ℕ = c.args.frame.now in
+    let tried : reply_judged c.judged.result ≡ reply_tried (M) (F) = let a = c.args in
+    let p = c.requires in
+    rw c.capacity.ensures at c.judged.ensures ∙ reply_by_columns a.desk a.keys.now a.held.now a.ended.now a.cells.now a.marks.now a.tally.now p.0 p.1 (F) in
+    let judged-takes : gives c.in-Takes.taking ≡ reply_tried (M) (F) = rw c.in-Takes.is at (tried) in
+    let room : Room (M) (F) c.in-Takes.taking = took_room (M) (F) c.in-Takes.taking
+    (took (M) (F) c.in-Takes.taking (sym (judged-takes))) in
+    let r = room in let z = c.requires.0.all_ended in omega (arith, r.seat, z)
 
 pub advanced-p-requires : goal.advanced-p-requires
 advanced-p-requires c =
+    let M : Memory = memory c.args.desk (row_of c.args.keys.now c.args.held.now c.args.ended.now) c.args.cells.now c.args.marks.now c.args.tally.now in
+    let F : List ℕ = c.args.frame.now in
+    let tried : reply_judged c.judged.result ≡ reply_tried (M) (F) = let a = c.args in
+    let p = c.requires in
+    rw c.capacity.ensures at c.judged.ensures ∙ reply_by_columns a.desk a.keys.now a.held.now a.ended.now a.cells.now a.marks.now a.tally.now p.0 p.1 (F) in
+    let judged-takes : gives c.in-Takes.taking ≡ reply_tried (M) (F) = rw c.in-Takes.is at (tried) in
+    let room : Room (M) (F) c.in-Takes.taking = took_room (M) (F) c.in-Takes.taking
+    (took (M) (F) c.in-Takes.taking (sym (judged-takes))) in
     let a = c.args in
-    let r = room c.before.before.before in
+    let r = room in
     let h = ap (λ (s : Seat). s.held) (seat_at_law a.keys.now a.held.now a.ended.now c.requires.0 c.in-Takes.taking.seat) in
     omega (arith, r.held, r.count, h)
 
 pub offset_bounds-held-at-in-Takes : goal.offset_bounds-held-at-in-Takes
-offset_bounds-held-at-in-Takes c = let r = room c.before.before.before.before in omega (arith, r.seat)
+offset_bounds-held-at-in-Takes c =
+    let M : Memory = memory c.args.desk (row_of c.args.keys.now c.args.held.now c.args.ended.now) c.args.cells.now c.args.marks.now c.args.tally.now in
+    let F : List ℕ = c.args.frame.now in
+    let tried : reply_judged c.judged.result ≡ reply_tried (M) (F) = let a = c.args in
+    let p = c.requires in
+    rw c.capacity.ensures at c.judged.ensures ∙ reply_by_columns a.desk a.keys.now a.held.now a.ended.now a.cells.now a.marks.now a.tally.now p.0 p.1 (F) in
+    let judged-takes : gives c.in-Takes.taking ≡ reply_tried (M) (F) = rw c.in-Takes.is at (tried) in
+    let room : Room (M) (F) c.in-Takes.taking = took_room (M) (F) c.in-Takes.taking
+    (took (M) (F) c.in-Takes.taking (sym (judged-takes))) in
+    let r = room in omega (arith, r.seat)
 
 pub bounds-held-at-in-Takes : goal.bounds-held-at-in-Takes
-bounds-held-at-in-Takes c = let r = room c.before.before.before.before in let z = c.requires.0.all_held in omega (arith, r.seat, z)
+bounds-held-at-in-Takes c =
+    let M : Memory = memory c.args.desk (row_of c.args.keys.now c.args.held.now c.args.ended.now) c.args.cells.now c.args.marks.now c.args.tally.now in
+    let F : List ℕ = c.args.frame.now in
+    let tried : reply_judged c.judged.result ≡ reply_tried (M) (F) = let a = c.args in
+    let p = c.requires in
+    rw c.capacity.ensures at c.judged.ensures ∙ reply_by_columns a.desk a.keys.now a.held.now a.ended.now a.cells.now a.marks.now a.tally.now p.0 p.1 (F) in
+    let judged-takes : gives c.in-Takes.taking ≡ reply_tried (M) (F) = rw c.in-Takes.is at (tried) in
+    let room : Room (M) (F) c.in-Takes.taking = took_room (M) (F) c.in-Takes.taking
+    (took (M) (F) c.in-Takes.taking (sym (judged-takes))) in
+    let r = room in let z = c.requires.0.all_held in omega (arith, r.seat, z)
 
 pub offset_bounds-ended-at-in-Takes : goal.offset_bounds-ended-at-in-Takes
-offset_bounds-ended-at-in-Takes c = let r = room c.before.before.before.before in omega (arith, r.seat)
+offset_bounds-ended-at-in-Takes c =
+    let M : Memory = memory c.args.desk (row_of c.args.keys.now c.args.held.now c.args.ended.now) c.args.cells.now c.args.marks.now c.args.tally.now in
+    let F : List ℕ = c.args.frame.now in
+    let tried : reply_judged c.judged.result ≡ reply_tried (M) (F) = let a = c.args in
+    let p = c.requires in
+    rw c.capacity.ensures at c.judged.ensures ∙ reply_by_columns a.desk a.keys.now a.held.now a.ended.now a.cells.now a.marks.now a.tally.now p.0 p.1 (F) in
+    let judged-takes : gives c.in-Takes.taking ≡ reply_tried (M) (F) = rw c.in-Takes.is at (tried) in
+    let room : Room (M) (F) c.in-Takes.taking = took_room (M) (F) c.in-Takes.taking
+    (took (M) (F) c.in-Takes.taking (sym (judged-takes))) in
+    let r = room in omega (arith, r.seat)
 
 pub bounds-ended-at-in-Takes : goal.bounds-ended-at-in-Takes
-bounds-ended-at-in-Takes c = let r = room c.before.before.before.before in let z = c.requires.0.all_ended in omega (arith, r.seat, z)
+bounds-ended-at-in-Takes c =
+    let M : Memory = memory c.args.desk (row_of c.args.keys.now c.args.held.now c.args.ended.now) c.args.cells.now c.args.marks.now c.args.tally.now in
+    let F : List ℕ = c.args.frame.now in
+    let tried : reply_judged c.judged.result ≡ reply_tried (M) (F) = let a = c.args in
+    let p = c.requires in
+    rw c.capacity.ensures at c.judged.ensures ∙ reply_by_columns a.desk a.keys.now a.held.now a.ended.now a.cells.now a.marks.now a.tally.now p.0 p.1 (F) in
+    let judged-takes : gives c.in-Takes.taking ≡ reply_tried (M) (F) = rw c.in-Takes.is at (tried) in
+    let room : Room (M) (F) c.in-Takes.taking = took_room (M) (F) c.in-Takes.taking
+    (took (M) (F) c.in-Takes.taking (sym (judged-takes))) in
+    let r = room in let z = c.requires.0.all_ended in omega (arith, r.seat, z)
 
 pub count_one-requires : goal.count_one-requires
 count_one-requires c =
-    let w = took_countable (M c.before.before) (F c.before.before) c.in-Takes.taking (took (M c.before.before) (F c.before.before) c.in-Takes.taking (sym (judged-takes c.before.before.before.before.before.before))) in
-    let r = room c.before.before.before.before.before.before in
+    let M : Memory = memory c.args.desk (row_of c.args.keys.now c.args.held.now c.args.ended.now) c.args.cells.now c.args.marks.now c.args.tally.now in
+    let F : List ℕ = c.args.frame.now in
+    let tried : reply_judged c.judged.result ≡ reply_tried (M) (F) = let a = c.args in
+    let p = c.requires in
+    rw c.capacity.ensures at c.judged.ensures ∙ reply_by_columns a.desk a.keys.now a.held.now a.ended.now a.cells.now a.marks.now a.tally.now p.0 p.1 (F) in
+    let judged-takes : gives c.in-Takes.taking ≡ reply_tried (M) (F) = rw c.in-Takes.is at (tried) in
+    let room : Room (M) (F) c.in-Takes.taking = took_room (M) (F) c.in-Takes.taking
+    (took (M) (F) c.in-Takes.taking (sym (judged-takes))) in
+    let w = took_countable (M) (F) c.in-Takes.taking (took (M) (F) c.in-Takes.taking (sym (judged-takes))) in
+    let r = room in
     rw c.byte_at.ensures (w.letter, (w.status, omega (arith, w.few, r.count)))
 
 pub put_reply-requires : goal.put_reply-requires
-put_reply-requires c = let r = room c.before.before.before.before.before.before.before.before.before in record { seat = r.seat; count = r.count; mark = r.marks; cell = r.cells; frame = r.frame }
+put_reply-requires c =
+    let M : Memory = memory c.args.desk (row_of c.args.keys.now c.args.held.now c.args.ended.now) c.args.cells.now c.args.marks.now c.args.tally.now in
+    let F : List ℕ = c.args.frame.now in
+    let tried : reply_judged c.judged.result ≡ reply_tried (M) (F) = let a = c.args in
+    let p = c.requires in
+    rw c.capacity.ensures at c.judged.ensures ∙ reply_by_columns a.desk a.keys.now a.held.now a.ended.now a.cells.now a.marks.now a.tally.now p.0 p.1 (F) in
+    let judged-takes : gives c.in-Takes.taking ≡ reply_tried (M) (F) = rw c.in-Takes.is at (tried) in
+    let room : Room (M) (F) c.in-Takes.taking = took_room (M) (F) c.in-Takes.taking
+    (took (M) (F) c.in-Takes.taking (sym (judged-takes))) in
+    let r = room in record { seat = r.seat; count = r.count; mark = r.marks; cell = r.cells; frame = r.frame }
 
 pub returns-in-Takes : goal.returns-in-Takes
 returns-in-Takes c =
+    let M : Memory = memory c.args.desk (row_of c.args.keys.now c.args.held.now c.args.ended.now) c.args.cells.now c.args.marks.now c.args.tally.now in
+    let F : List ℕ = c.args.frame.now in
+    let tried : reply_judged c.judged.result ≡ reply_tried (M) (F) = let a = c.args in
+    let p = c.requires in
+    rw c.capacity.ensures at c.judged.ensures ∙ reply_by_columns a.desk a.keys.now a.held.now a.ended.now a.cells.now a.marks.now a.tally.now p.0 p.1 (F) in
+    let judged-takes : gives c.in-Takes.taking ≡ reply_tried (M) (F) = rw c.in-Takes.is at (tried) in
     let a = c.args in
     let p = c.requires in
     let taking = c.in-Takes.taking in
@@ -93,11 +176,16 @@ returns-in-Takes c =
     let row =
     ap (λ (x : Progress). row_of keys (set held taking.seat x.held) (set ended taking.seat x.ended)) c.advanced-p.ensures
     ∙ grown_columns a.desk keys held ended a.cells.now a.marks.now a.tally.now p.0 p.1 taking.seat taking.status in
-    let tally = c.count_one.ensures ∙ ap₂ (counted a.tally.now) c.byte_at.ensures (took_countable (M j) (F j) taking (took (M j) (F j) taking (sym (judged-takes c.before.before.before.before.before.before.before.before.before.before.before.before.before.before)))).same in
-    met_by (M j) (F j) _ _ (replies (M j) (F j)) Collected (gives taking.seat) refl
-    (reply_done (M j) (F j) taking _ (judged-takes c.before.before.before.before.before.before.before.before.before.before.before.before.before.before) (λ i. record { row = row i; bits = w.bits i; count = w.count i; cells = w.cells i; marks = w.marks i; tally = tally i }))
+    let tally = c.count_one.ensures ∙ ap₂ (counted a.tally.now) c.byte_at.ensures (took_countable (M) (F) taking (took (M) (F) taking (sym (judged-takes)))).same in
+    met_by (M) (F) _ _ (replies (M) (F)) Collected (gives taking.seat) refl
+    (reply_done (M) (F) taking _ (judged-takes) (λ i. record { row = row i; bits = w.bits i; count = w.count i; cells = w.cells i; marks = w.marks i; tally = tally i }))
 
 pub returns-in-Refuses : goal.returns-in-Refuses
 returns-in-Refuses c =
+    let M : Memory = memory c.args.desk (row_of c.args.keys.now c.args.held.now c.args.ended.now) c.args.cells.now c.args.marks.now c.args.tally.now in
+    let F : List ℕ = c.args.frame.now in
+    let tried : reply_judged c.judged.result ≡ reply_tried (M) (F) = let a = c.args in
+    let p = c.requires in
+    rw c.capacity.ensures at c.judged.ensures ∙ reply_by_columns a.desk a.keys.now a.held.now a.ended.now a.cells.now a.marks.now a.tally.now p.0 p.1 (F) in
     let why = reply_refused c.in-Refuses.field-0 in
-    met_by (M j) (F j) _ _ (replies (M j) (F j)) Collected (refuses why) refl (not_taken_law (M j) (F j) why (rw c.in-Refuses.is at (tried c.before.before)))
+    met_by (M) (F) _ _ (replies (M) (F)) Collected (refuses why) refl (not_taken_law (M) (F) why (rw c.in-Refuses.is at (tried)))

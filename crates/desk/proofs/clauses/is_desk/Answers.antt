@@ -38,7 +38,7 @@ returns-then-not-all_apart c =
     let m = memory a.desk (row_of keys held ended) a.cells.now a.marks.now a.tally.now in
     let n = length_row keys held ended p.0 in
     let small = lt-ltb m.bits (2 ^ seat_count) (omega arith) in
-    desk_by m n (past small (past p.1 (out _ ((sym (c.all_apart.ensures ∙ keys_apart keys held ended p.0 m.bits p.1) ∙ c.if-not-all_apart.true)))))
+    desk_by m n (past small (past p.1 (out _ (not_came (c.all_apart.ensures ∙ keys_apart keys held ended p.0 m.bits p.1) c.if-not-all_apart.true))))
 
 pub returns-then-count-capacity : goal.returns-then-count-capacity
 returns-then-count-capacity c =
@@ -50,11 +50,11 @@ returns-then-count-capacity c =
     let m = memory a.desk (row_of keys held ended) a.cells.now a.marks.now a.tally.now in
     let n = length_row keys held ended p.0 in
     let small = lt-ltb m.bits (2 ^ seat_count) (omega arith) in
-    let apart = (sym (c.all_apart.ensures ∙ keys_apart keys held ended p.0 m.bits p.1) ∙ c.if-not-all_apart.false) in
+    let apart = not_left (c.all_apart.ensures ∙ keys_apart keys held ended p.0 m.bits p.1) c.if-not-all_apart.false in
     desk_by m n (past small (past p.1 (past apart (out _ (lt-leb m.count (capacity m) (omega arith))))))
 
 pub returns-then-not-is_whole : goal.returns-then-not-is_whole
-returns-then-not-is_whole c = never c.is_whole.result c.is_whole.ensures.0 ((sym refl ∙ c.if-not-is_whole.true))
+returns-then-not-is_whole c = never c.is_whole.result c.is_whole.ensures.0 (not_came refl c.if-not-is_whole.true)
 
 pub returns-then-count-eq0 : goal.returns-then-count-eq0
 unfolding all_below
@@ -67,7 +67,7 @@ returns-then-count-eq0 c =
     let m = memory a.desk (row_of keys held ended) a.cells.now a.marks.now a.tally.now in
     let n = length_row keys held ended p.0 in
     let small = lt-ltb m.bits (2 ^ seat_count) (omega arith) in
-    let apart = (sym (c.all_apart.ensures ∙ keys_apart keys held ended p.0 m.bits p.1) ∙ c.if-not-all_apart.false) in
+    let apart = not_left (c.all_apart.ensures ∙ keys_apart keys held ended p.0 m.bits p.1) c.if-not-all_apart.false in
     let fits = le-leb m.count (capacity m) (omega arith) in
     let z : 0 ≡ m.count = sym c.if-count-eq0.true in
     let w = c.is_whole.ensures.1 in
@@ -87,9 +87,9 @@ returns-then-not-replay_rows c =
     let m = memory a.desk (row_of keys held ended) a.cells.now a.marks.now a.tally.now in
     let n = length_row keys held ended p.0 in
     let small = lt-ltb m.bits (2 ^ seat_count) (omega arith) in
-    let apart = (sym (c.all_apart.ensures ∙ keys_apart keys held ended p.0 m.bits p.1) ∙ c.if-not-all_apart.false) in
+    let apart = not_left (c.all_apart.ensures ∙ keys_apart keys held ended p.0 m.bits p.1) c.if-not-all_apart.false in
     let fits = le-leb m.count (capacity m) (omega arith) in
-    let bad = (sym c.replay_rows.ensures.0 ∙ c.if-not-replay_rows.true) in
+    let bad = not_came c.replay_rows.ensures.0 c.if-not-replay_rows.true in
     desk_by m n (past small (past p.1 (past apart (past fits (sym (rows_fail keys held ended p.0 m.bits p.1 m.cells m.marks m.count m.tally bad))))))
 
 pub returns : goal.returns
@@ -102,11 +102,11 @@ returns c =
     let m = memory a.desk (row_of keys held ended) a.cells.now a.marks.now a.tally.now in
     let n = length_row keys held ended p.0 in
     let small = lt-ltb m.bits (2 ^ seat_count) (omega arith) in
-    let apart = (sym (c.all_apart.ensures ∙ keys_apart keys held ended p.0 m.bits p.1) ∙ c.if-not-all_apart.false) in
+    let apart = not_left (c.all_apart.ensures ∙ keys_apart keys held ended p.0 m.bits p.1) c.if-not-all_apart.false in
     let fits = le-leb m.count (capacity m) (omega arith) in
     let w = c.replay_rows in
-    let passed = (sym w.ensures.0 ∙ c.if-not-replay_rows.false) in
-    let left = w.ensures.1 ((sym refl ∙ c.if-not-replay_rows.false)) in
+    let passed = not_left w.ensures.0 c.if-not-replay_rows.false in
+    let left = w.ensures.1 (not_left refl c.if-not-replay_rows.false) in
     let all = passes_good keys held ended p.0 m.bits p.1 m.cells m.marks m.count m.tally passed in
     desk_by m n (past small (past p.1 (past apart (past fits
     (rows_pass keys held ended p.0 m.bits p.1 m.cells m.marks m.count all _ _ left.0 m.tally _ c.is_whole.ensures.1 left.1 c.same_column-2.ensures c.same_column-3.ensures c.is_clear-2.ensures)))))

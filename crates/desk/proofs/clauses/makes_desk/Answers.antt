@@ -15,27 +15,22 @@ use Rattle.desk.proofs.ClauseLaws.{no_desk_case}
 use borrow.Author.Rules.{rules}
 use Rattle.desk.proofs.clauses.makes_desk.Goals as goal
 
--- the columns, if all seats are good: they show the row
-sized : (c : goal.After-columns) → Sized c.columns.new.keys c.columns.new.held c.columns.new.ended
-sized c = record { all_keys = c.columns.auto.keys; all_held = c.columns.auto.held; all_ended = c.columns.auto.ended }
-
-shown : (c : goal.Else-not-columns) → row_of c.columns.new.keys c.columns.new.held c.columns.new.ended ≡ c.args.row
-shown c = c.columns.ensures.1 ((sym refl ∙ c.if-not-columns.false))
-
-good : (c : goal.Else-not-columns) → all_below seat_count (seat_good_at (row_of c.columns.new.keys c.columns.new.held c.columns.new.ended) c.args.desk.bits) ≡ true
-good c = ap (λ (r : List Seat). all_below seat_count (seat_good_at r c.args.desk.bits)) (shown c) ∙ (sym c.columns.ensures.0 ∙ c.if-not-columns.false)
-
 pub returns-then-not-columns : goal.returns-then-not-columns
 returns-then-not-columns c =
     let a = c.args in
     let m = memory a.desk a.row a.cells.now a.marks.now a.tally.now in
     let full : length a.row ≡ seat_count = search rules in
-    no_desk_case m full ((sym c.columns.ensures.0 ∙ c.if-not-columns.true))
+    no_desk_case m full (not_came c.columns.ensures.0 c.if-not-columns.true)
 
 pub is_desk-requires : goal.is_desk-requires
-is_desk-requires c = (sized c.before.before.before.before.before.before.before, good c.before.before.before)
+is_desk-requires c =
+    let sized : Sized c.columns.new.keys c.columns.new.held c.columns.new.ended = record { all_keys = c.columns.auto.keys; all_held = c.columns.auto.held; all_ended = c.columns.auto.ended } in
+    let shown : row_of c.columns.new.keys c.columns.new.held c.columns.new.ended ≡ c.args.row = c.columns.ensures.1 (not_left refl c.if-not-columns.false) in
+    let good : all_below seat_count (seat_good_at (row_of c.columns.new.keys c.columns.new.held c.columns.new.ended) c.args.desk.bits) ≡ true = ap (λ (r : List Seat). all_below seat_count (seat_good_at r c.args.desk.bits)) (shown) ∙ not_left c.columns.ensures.0 c.if-not-columns.false in
+    (sized, good)
 
 pub returns : goal.returns
 returns c =
+    let shown : row_of c.columns.new.keys c.columns.new.held c.columns.new.ended ≡ c.args.row = c.columns.ensures.1 (not_left refl c.if-not-columns.false) in
     let a = c.args in
-    c.is_desk.ensures ∙ ap (λ (r : List Seat). is_desk (memory a.desk r a.cells.now a.marks.now a.tally.now)) (shown c.before.before.before.before)
+    c.is_desk.ensures ∙ ap (λ (r : List Seat). is_desk (memory a.desk r a.cells.now a.marks.now a.tally.now)) (shown)

@@ -7,7 +7,7 @@ use lib.ListN.{length, get_or, length-set}
 use native.Mathlib.Numerals.{add-one}
 use lib.Dec.{ltb}
 use native.Mathlib.Omega.{arith}
-use borrow.Author.Tests.{lt-ltb, le-ltb, ltb-true}
+use borrow.Author.Tests.{not-true, not-false, lt-ltb, le-ltb, ltb-true}
 use Rattle.desk.specs.Below.{all_below}
 use Rattle.desk.specs.Hearing.{heard}
 use Rattle.desk.specs.Limits.{seat_count, cell_size}
@@ -66,7 +66,7 @@ returns-then-not-t c =
     let key : ℕ = get_or a.keys.now (mark_at a.marks.now i) 0 in
     let e : t ≡ turn_of p key (heard (cell_at a.cells.now i)) = c.one_more-t.ensures ∙ ap (λ (f : List ℕ). turn_of p key (heard f)) (part_cell a.cells.now i) in
     let good = turn_good a.keys.now a.cells.now a.marks.now i held ended k l t e in
-    (sym (all_fails _ i _ (search rules) (sym (out _ (and_false_r (ltb (mark_at a.marks.now i) seat_count) ((sym good ∙ c.if-not-t.true)))))), λ x. absurd (false≢true x))
+    (sym (all_fails _ i _ (search rules) (sym (out _ (and_false_r (ltb (mark_at a.marks.now i) seat_count) (not_came good (not-true _ c.if-not-t.true)))))), λ x. absurd (false≢true x))
 
 pub take_one-requires : goal.take_one-requires
 take_one-requires c =
@@ -82,7 +82,7 @@ take_one-requires c =
     let key : ℕ = get_or a.keys.now (mark_at a.marks.now i) 0 in
     let e : t ≡ turn_of p key (heard (cell_at a.cells.now i)) = c.one_more-t.ensures ∙ ap (λ (f : List ℕ). turn_of p key (heard f)) (part_cell a.cells.now i) in
     let good = turn_good a.keys.now a.cells.now a.marks.now i held ended k l t e in
-    let g = and_true (lt-ltb (mark_at a.marks.now i) seat_count l) ((sym good ∙ c.if-not-t.false)) in
+    let g = and_true (lt-ltb (mark_at a.marks.now i) seat_count l) (not_left good (not-false _ c.if-not-t.false)) in
     let w = row_listed a.keys.now a.cells.now a.marks.now i g in
     rw (cell_byte a.cells.now i 29 (omega arith), cell_byte a.cells.now i 5 (omega arith)) (w.letter, w.status)
 
@@ -117,7 +117,7 @@ returns-then-not-take_one c =
     let key : ℕ = get_or a.keys.now (mark_at a.marks.now i) 0 in
     let e : t ≡ turn_of p key (heard (cell_at a.cells.now i)) = c.one_more-t.ensures ∙ ap (λ (f : List ℕ). turn_of p key (heard f)) (part_cell a.cells.now i) in
     let good = turn_good a.keys.now a.cells.now a.marks.now i held ended k l t e in
-    let g = and_true (lt-ltb (mark_at a.marks.now i) seat_count l) ((sym good ∙ c.if-not-t.false)) in
+    let g = and_true (lt-ltb (mark_at a.marks.now i) seat_count l) (not_left good (not-false _ c.if-not-t.false)) in
     let w = row_listed a.keys.now a.cells.now a.marks.now i g in
     let cells = a.cells.now in
     let f = cell_at cells i in
@@ -125,7 +125,7 @@ returns-then-not-take_one c =
     let y = cell_byte cells i 5 (omega arith) in
     let some = c.take_one.ensures.0 ∙ ap₂ (λ (m n : ℕ). ltb 0 (entry_of left m n)) x y in
     let same = row_left a.left.now cells i left v f refl w in
-    (sym (all_fails _ i _ (search rules) (and_false_r (row_taken a.keys.now cells a.marks.now i) (same ∙ (sym some ∙ c.if-not-take_one.true)))), λ z. absurd (false≢true z))
+    (sym (all_fails _ i _ (search rules) (and_false_r (row_taken a.keys.now cells a.marks.now i) (same ∙ not_came some c.if-not-take_one.true))), λ z. absurd (false≢true z))
 
 pub loop-i-preserved : goal.loop-i-preserved
 loop-i-preserved c =
@@ -142,7 +142,7 @@ loop-i-preserved c =
     let key : ℕ = get_or a.keys.now (mark_at a.marks.now i) 0 in
     let e : t ≡ turn_of p key (heard (cell_at a.cells.now i)) = c.one_more-t.ensures ∙ ap (λ (f : List ℕ). turn_of p key (heard f)) (part_cell a.cells.now i) in
     let good = turn_good a.keys.now a.cells.now a.marks.now i held ended k l t e in
-    let g = and_true (lt-ltb (mark_at a.marks.now i) seat_count l) ((sym good ∙ c.if-not-t.false)) in
+    let g = and_true (lt-ltb (mark_at a.marks.now i) seat_count l) (not_left good (not-false _ c.if-not-t.false)) in
     let w = row_listed a.keys.now a.cells.now a.marks.now i g in
     let cells = a.cells.now in
     let f = cell_at cells i in
@@ -150,9 +150,9 @@ loop-i-preserved c =
     let y = cell_byte cells i 5 (omega arith) in
     let some = c.take_one.ensures.0 ∙ ap₂ (λ (m n : ℕ). ltb 0 (entry_of left m n)) x y in
     let same = row_left a.left.now cells i left v f refl w in
-    let one = (sym some ∙ c.if-not-take_one.false) in
+    let one = not_left some c.if-not-take_one.false in
     let next = leaves_next a.left.now cells i left v f refl w (ltb-true 0 (entry_of left (letter_at f) (status_at f)) one) in
-    let after = c.take_one.ensures.1 ((sym refl ∙ c.if-not-take_one.false)) ∙ ap₂ (λ (m n : ℕ). uncounted left m n) x y in (
+    let after = c.take_one.ensures.1 (not_left refl c.if-not-take_one.false) ∙ ap₂ (λ (m n : ℕ). uncounted left m n) x y in (
       search rules,
       (
         all_more _ _ c.loop-i.invariant.1.0 (and_true g (same ∙ one)),

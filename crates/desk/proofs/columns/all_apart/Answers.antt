@@ -14,10 +14,10 @@ unfolding all_below
 loop-i-init c = (search rules, refl)
 
 pub returns-then-not-is_alone : goal.returns-then-not-is_alone
-returns-then-not-is_alone c = sym (all_fails seat_count c.loop-i.i _ (search rules) ((sym c.is_alone.ensures ∙ c.if-not-is_alone.true)))
+returns-then-not-is_alone c = sym (all_fails seat_count c.loop-i.i _ (search rules) (not_came c.is_alone.ensures c.if-not-is_alone.true))
 
 pub loop-i-preserved : goal.loop-i-preserved
-loop-i-preserved c = (search rules, all_more _ _ c.loop-i.invariant.1 ((sym c.is_alone.ensures ∙ c.if-not-is_alone.false)))
+loop-i-preserved c = (search rules, all_more _ _ c.loop-i.invariant.1 (not_left c.is_alone.ensures c.if-not-is_alone.false))
 
 pub returns : goal.returns
 returns c = sym (all_to c.loop-i.i seat_count _ (search rules) c.loop-i.invariant.1)

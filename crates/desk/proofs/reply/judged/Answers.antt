@@ -13,38 +13,35 @@ use Rattle.desk.proofs.OutcomeLaws.{given_on}
 use borrow.Author.Rules.{rules}
 use Rattle.desk.proofs.reply.judged.Goals as goal
 
--- the whole frame is looked at
-good : (c : goal.After-is_reply) → c.is_reply.result ≡ is_good (read reply c.args.frame.now)
-good c = c.is_reply.ensures ∙ ap (λ (s : List ℕ). is_good (read reply s)) (same_frame c.args.frame.now)
-
-label : (c : goal.After-label_at) → c.label_at.result ≡ label_at c.args.frame.now
-label c = c.label_at.ensures ∙ ap label_at (same_frame c.args.frame.now)
-
-told : (c : goal.After-check_reply) → check_told c.check_reply.result ≡ labelled (read reply c.args.frame.now)
-told c = c.check_reply.ensures ∙ ap (λ (s : List ℕ). labelled (read reply s)) (same_frame c.args.frame.now)
-
 pub label_judged-requires : goal.label_judged-requires
 label_judged-requires c =
+    let good : c.is_reply.result ≡ is_good (read reply c.args.frame.now) = c.is_reply.ensures ∙ ap (λ (s : List ℕ). is_good (read reply s)) (same_frame c.args.frame.now) in
+    let label : c.label_at.result ≡ label_at c.args.frame.now = c.label_at.ensures ∙ ap label_at (same_frame c.args.frame.now) in
     let f = c.args.frame.now in
-    let g = sym (good c.before.before) ∙ c.if-is_reply.true in
-    (c.requires, rw (label c) (heard_keyed f (label_at f) (good_heard f g)).short)
+    let g = sym (good) ∙ c.if-is_reply.true in
+    (c.requires, rw (label) (heard_keyed f (label_at f) (good_heard f g)).short)
 
 pub returns-then-is_reply : goal.returns-then-is_reply
 returns-then-is_reply c =
+    let good : c.is_reply.result ≡ is_good (read reply c.args.frame.now) = c.is_reply.ensures ∙ ap (λ (s : List ℕ). is_good (read reply s)) (same_frame c.args.frame.now) in
+    let label : c.label_at.result ≡ label_at c.args.frame.now = c.label_at.ensures ∙ ap label_at (same_frame c.args.frame.now) in
     let a = c.args in
     let f = a.frame.now in
-    let g = sym (good c.before.before.before) ∙ c.if-is_reply.true in
+    let g = sym (good) ∙ c.if-is_reply.true in
     let tries = column_tried a.keys.now a.held.now a.ended.now a.free in
-    c.label_judged.ensures ∙ ap tries (label c.before) ∙ given_on tries (sym (good_heard f g))
+    c.label_judged.ensures ∙ ap tries (label) ∙ given_on tries (sym (good_heard f g))
 
 pub returns-in-Good : goal.returns-in-Good
 unfolding heard
 returns-in-Good c =
+    let good : c.is_reply.result ≡ is_good (read reply c.args.frame.now) = c.is_reply.ensures ∙ ap (λ (s : List ℕ). is_good (read reply s)) (same_frame c.args.frame.now) in
+    let told : check_told c.check_reply.result ≡ labelled (read reply c.args.frame.now) = c.check_reply.ensures ∙ ap (λ (s : List ℕ). labelled (read reply s)) (same_frame c.args.frame.now) in
     let f = c.args.frame.now in
-    absurd (bad_heard f (sym (good c.before.before.before.before) ∙ c.if-is_reply.false) _ (rw c.in-Good.is at (told c.before.before)))
+    absurd (bad_heard f (sym (good) ∙ c.if-is_reply.false) _ (rw c.in-Good.is at (told)))
 
 pub returns-in-Refused : goal.returns-in-Refused
 unfolding heard
 returns-in-Refused c =
+    let told : check_told c.check_reply.result ≡ labelled (read reply c.args.frame.now) = c.check_reply.ensures ∙ ap (λ (s : List ℕ). labelled (read reply s)) (same_frame c.args.frame.now) in
     let a = c.args in
-    given_on (column_tried a.keys.now a.held.now a.ended.now a.free) (rw c.in-Refused.is at (told c.before.before.before))
+    given_on (column_tried a.keys.now a.held.now a.ended.now a.free) (rw c.in-Refused.is at (told))

@@ -11,12 +11,12 @@ returns-then-p-ne0 c = rw (ne_eqb _ 0 c.if-p-ne0.true)
 
 pub returns-then-not-in_place : goal.returns-then-not-in_place
 unfolding step
-returns-then-not-in_place c = rw (eq-eqb _ 0 c.if-p-ne0.false, (sym c.in_place.ensures ∙ c.if-not-in_place.true))
+returns-then-not-in_place c = rw (eq-eqb _ 0 c.if-p-ne0.false, not_came c.in_place.ensures c.if-not-in_place.true)
 
 pub returns-then-free : goal.returns-then-free
 unfolding step
-returns-then-free c = rw (eq-eqb _ 0 c.if-p-ne0.false, (sym c.in_place.ensures ∙ c.if-not-in_place.false), c.if-free.true)
+returns-then-free c = rw (eq-eqb _ 0 c.if-p-ne0.false, not_left c.in_place.ensures c.if-not-in_place.false, c.if-free.true)
 
 pub returns-else-free : goal.returns-else-free
 unfolding step
-returns-else-free c = rw (eq-eqb _ 0 c.if-p-ne0.false, (sym c.in_place.ensures ∙ c.if-not-in_place.false), c.if-free.false)
+returns-else-free c = rw (eq-eqb _ 0 c.if-p-ne0.false, not_left c.in_place.ensures c.if-not-in_place.false, c.if-free.false)

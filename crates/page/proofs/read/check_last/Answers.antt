@@ -11,13 +11,13 @@ pub wrong-requires : goal.wrong-requires
 wrong-requires c = let h = c.requires in h.some
 
 pub returns-then-not-is_last : goal.returns-then-not-is_last
-returns-then-not-is_last c = λ k e. c.wrong.ensures ∙ last_wrong _ _ _ _ _ c.requires k e ((sym c.is_last.ensures ∙ c.if-not-is_last.true))
+returns-then-not-is_last c = λ k e. c.wrong.ensures ∙ last_wrong _ _ _ _ _ c.requires k e (not_came c.is_last.ensures c.if-not-is_last.true)
 
 pub overflow_add-at : goal.overflow_add-at
 overflow_add-at c = let h = last_inside _ _ _ _ _ c.requires in search rules
 
 pub returns-then-at-text : goal.returns-then-at-text
-returns-then-at-text c = λ k e. c.wrong-then-at-text.ensures ∙ last_more _ _ _ _ _ c.requires k e ((sym c.is_last.ensures ∙ c.if-not-is_last.false)) (omega arith)
+returns-then-at-text c = λ k e. c.wrong-then-at-text.ensures ∙ last_more _ _ _ _ _ c.requires k e (not_left c.is_last.ensures c.if-not-is_last.false) (omega arith)
 
 pub returns : goal.returns
-returns c = λ k e. last_good _ _ _ _ _ c.requires k e ((sym c.is_last.ensures ∙ c.if-not-is_last.false)) (omega arith)
+returns c = λ k e. last_good _ _ _ _ _ c.requires k e (not_left c.is_last.ensures c.if-not-is_last.false) (omega arith)

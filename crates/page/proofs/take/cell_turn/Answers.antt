@@ -9,8 +9,8 @@ cell_takes-requires c =
     (p.0, (p.1.0, c.less-waiting.ensures ∙ ap (λ (x : ℕ). c.args.s.waiting - x) c.ended_by-ended.ensures))
 
 pub returns-then-not-cell_takes : goal.returns-then-not-cell_takes
-returns-then-not-cell_takes c = rw ((sym c.cell_takes.ensures ∙ c.if-not-cell_takes.true)) c.not_taken.ensures
+returns-then-not-cell_takes c = rw (not_came c.cell_takes.ensures c.if-not-cell_takes.true) c.not_taken.ensures
 
 pub returns : goal.returns
 returns c =
-    rw ((sym c.cell_takes.ensures ∙ c.if-not-cell_takes.false), c.less-waiting.ensures, c.ended_by-ended.ensures)
+    rw (not_left c.cell_takes.ensures c.if-not-cell_takes.false, c.less-waiting.ensures, c.ended_by-ended.ensures)

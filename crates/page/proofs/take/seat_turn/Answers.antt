@@ -8,24 +8,31 @@ use Rattle.page.proofs.take.seat_turn.Goals as goal
 pub returns-then-not-s-i : goal.returns-then-not-s-i
 returns-then-not-s-i c =
     let a = c.args in
-    rw ((sym (seat_test a.row a.s a.i a.k a.ended c.is_new.ensures) ∙ c.if-not-s-i.true)) c.not_taken.ensures
-
-takes : (c : goal.Else-not-s-i) → let a = c.args in seat_takes a.row a.s a.i a.k a.ended ≡ true
-takes c =
-    let a = c.args in
-    (sym (seat_test a.row a.s a.i a.k a.ended c.is_new.ensures) ∙ c.if-not-s-i.false)
-
-adds : (c : goal.Else-not-s-i) → let a = c.args in Adds a.row a.s a.i a.k a.ended
-adds c =
-    let a = c.args in
-    let p = c.requires in
-    seat_adds a.row a.s a.i a.k a.ended p.0 p.1.0 p.1.1 (takes c)
+    rw (not_came (seat_test a.row a.s a.i a.k a.ended c.is_new.ensures) c.if-not-s-i.true) c.not_taken.ensures
 
 pub overflow_add-result : goal.overflow_add-result
-overflow_add-result c = let new = adds c.before in omega (arith, new.bits, new.one_shifted)
+overflow_add-result c =
+    let takes : let a = c.args in seat_takes a.row a.s a.i a.k a.ended ≡ true = let a = c.args in
+    not_left (seat_test a.row a.s a.i a.k a.ended c.is_new.ensures) c.if-not-s-i.false in
+    let adds : let a = c.args in Adds a.row a.s a.i a.k a.ended = let a = c.args in
+    let p = c.requires in
+    seat_adds a.row a.s a.i a.k a.ended p.0 p.1.0 p.1.1 (takes) in
+    let new = adds in omega (arith, new.bits, new.one_shifted)
 
 pub overflow_add-result-2 : goal.overflow_add-result-2
-overflow_add-result-2 c = let new = adds c.before.before in omega (arith, new.bits, new.said, new.ended_shifted)
+overflow_add-result-2 c =
+    let takes : let a = c.args in seat_takes a.row a.s a.i a.k a.ended ≡ true = let a = c.args in
+    not_left (seat_test a.row a.s a.i a.k a.ended c.is_new.ensures) c.if-not-s-i.false in
+    let adds : let a = c.args in Adds a.row a.s a.i a.k a.ended = let a = c.args in
+    let p = c.requires in
+    seat_adds a.row a.s a.i a.k a.ended p.0 p.1.0 p.1.1 (takes) in
+    let new = adds in omega (arith, new.bits, new.said, new.ended_shifted)
 
 pub returns : goal.returns
-returns c = let new = adds c.before.before in rw (takes c.before.before, new.one_shifted, new.ended_shifted)
+returns c =
+    let takes : let a = c.args in seat_takes a.row a.s a.i a.k a.ended ≡ true = let a = c.args in
+    not_left (seat_test a.row a.s a.i a.k a.ended c.is_new.ensures) c.if-not-s-i.false in
+    let adds : let a = c.args in Adds a.row a.s a.i a.k a.ended = let a = c.args in
+    let p = c.requires in
+    seat_adds a.row a.s a.i a.k a.ended p.0 p.1.0 p.1.1 (takes) in
+    let new = adds in rw (takes, new.one_shifted, new.ended_shifted)
