@@ -27,4 +27,4 @@ put_list-requires c = let a = c.args in taken_fits a.cells.now a.marks.now a.cap
 pub returns : goal.returns
 returns c =
     let a = c.args in
-    listed_written a.cells.now a.marks.now a.capture.now c.if-capture-gt-MOST_INPUT.false a.out.now _ _ _ _ _ _ _ _ (omega (arith, start)) c.take-t.ensures c.put_list-size.ensures c.if-out-size.false c.put_list.ensures
+    listed_written a.cells.now a.marks.now a.capture.now c.if-capture-gt-MOST_INPUT.false a.out.now _ _ _ _ _ _ _ _ (omega arith) c.take-t.ensures c.put_list-size.ensures c.if-out-size.false c.put_list.ensures

@@ -15,4 +15,4 @@ returns c =
     let byte = c.byte_at in
     let a = c.args in
     rw (address_part a.frame.now c.requires, ← byte.ensures, ← shown.ensures)
-    (put_then a.out.now a.at (TAB ∷ []) _ _ _ _ _ (omega (arith, start)) c.put_one-p.ensures c.put_one.ensures)
+    (put_then a.out.now a.at (TAB ∷ []) _ _ _ _ _ (omega arith) c.put_one-p.ensures c.put_one.ensures)

@@ -63,7 +63,7 @@ unfolding columns
 returns c =
     let out = c.args.out.now in
     let f = c.args.frame.now in
-    let n : length out ≤ most_place = omega (arith, start) in
+    let n : length out ≤ most_place = omega arith in
     column_more out f n 11 _ _ _ _ (column_more out f n 10 _ _ _ _ (column_more out f n 9 _ _ _ _ (column_more out f n 8 _ _ _ _ (column_more out f n 7 _ _ _ _ (column_more out f n 6 _ _ _ _ (column_more out f n 5 _ _ _ _ (column_more out f n 4 _ _ _ _ (column_more out f n 3 _ _ _ _ (column_more out f n 2 _ _ _ _ (column_more out f n 1 _ _ _ _ (column_more out f n 0 _ _ _ _ (put_none out 0 (omega arith))
     c.put_column-p.ensures)
     c.put_address-p.ensures)

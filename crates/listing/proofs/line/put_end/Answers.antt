@@ -22,10 +22,10 @@ shape_of-out c =
 pub returns : goal.returns
 unfolding end_text
 returns c =
-    put_then _ _ _ _ _ _ _ _ (omega (arith, room))
-    (put_parted _ _ _ _ _ _ _ _ _ _ _ (omega (arith, room))
-    (put_parted _ _ _ _ _ _ _ _ _ _ _ (omega (arith, room))
-    (put_parted _ _ _ _ _ _ _ _ _ _ _ (omega (arith, room))
-    (put_parted _ _ _ _ _ _ _ _ _ _ _ (omega (arith, room))
+    put_then _ _ _ _ _ _ _ _ (omega arith)
+    (put_parted _ _ _ _ _ _ _ _ _ _ _ (omega arith)
+    (put_parted _ _ _ _ _ _ _ _ _ _ _ (omega arith)
+    (put_parted _ _ _ _ _ _ _ _ _ _ _ (omega arith)
+    (put_parted _ _ _ _ _ _ _ _ _ _ _ (omega arith)
     c.put_text-p.ensures c.put_one-p.ensures c.put_decimal-p.ensures) c.put_one-p-2.ensures c.put_decimal-p-2.ensures) c.put_one-p-3.ensures c.put_decimal-p-3.ensures) c.put_one-p-4.ensures c.put_decimal-p-4.ensures)
     c.put_one.ensures

@@ -20,5 +20,5 @@ returns-then-out-at c =
 pub returns : goal.returns
 returns c =
     let a = c.args in
-    put_together a.seat a.frame.now (replicate 55 0) _ _ _ _ c.requires (length-replicate {A = ℕ} 55 0) a.out.now a.at _ _ _ _ (omega (arith, start))
+    put_together a.seat a.frame.now (replicate 55 0) _ _ _ _ c.requires (length-replicate {A = ℕ} 55 0) a.out.now a.at _ _ _ _ (omega arith)
     c.put_columns-q.ensures c.put_one.ensures c.put_decimal-p.ensures c.put_text.ensures

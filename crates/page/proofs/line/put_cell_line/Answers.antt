@@ -6,4 +6,4 @@ use Rattle.page.proofs.line.put_cell_line.Goals as goal
 pub returns : goal.returns
 returns c =
     let a = c.args in
-    put_cell_together a.out.now a.at _ _ a.seat a.frame.now _ _ _ _ _ (omega (arith, start)) c.seat_digit.ensures c.put_text-p.ensures c.put_text-p-2.ensures c.put_one.ensures
+    put_cell_together a.out.now a.at _ _ a.seat a.frame.now _ _ _ _ _ (omega arith) c.seat_digit.ensures c.put_text-p.ensures c.put_text-p-2.ensures c.put_one.ensures

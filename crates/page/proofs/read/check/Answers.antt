@@ -11,13 +11,7 @@ use Rattle.page.specs.inside.Taking.{Small}
 use Rattle.page.specs.inside.Checking.{left_from, read_to}
 use Rattle.page.proofs.ReadLaws.{part_line, part_size, first_by, line_inside, at_last, first_small, first_short, first_wrong, first_on, line_on, line_off, line_more, text_short, text_ends}
 use Rattle.page.proofs.read.check.Goals as goal
-
-record Came (text : List ℕ) (at : ℕ) (row : List Seat) (s : Sofar) (n : ℕ) : Type 0 where
-  inside : at ≤ length text
-  small : Small row s
-  few : n ≤ 1 + (s.bits + s.count)
-  some : 1 ≤ n
-  is : verdict (machine one) text ≡ left_from text (read_to text at row s) n at
+use Rattle.page.proofs.read.check.Invariants.{Came}
 
 pub returns-then-not-first : goal.returns-then-not-first
 returns-then-not-first c = c.wrong.ensures ∙ first_short _ c.next_line-first.result c.next_line-first.ensures (not-true _ c.if-not-first.true)

@@ -12,6 +12,13 @@ use Rattle.page.specs.inside.Checking.{left_from, read_to}
 use Rattle.page.proofs.ReadLaws.{part_line, part_size, first_by, line_inside, at_last, first_small, first_short, first_wrong, first_on, line_on, line_off, line_more, text_short, text_ends}
 use Rattle.page.proofs.read.check.Given as goal
 
+pub record Came (text : List ℕ) (at : ℕ) (row : List Seat) (s : Sofar) (n : ℕ) : Type 0 where
+  pub inside : at ≤ length text
+  pub small : Small row s
+  pub few : n ≤ 1 + (s.bits + s.count)
+  pub some : 1 ≤ n
+  pub is : verdict (machine one) text ≡ left_from text (read_to text at row s) n at
+
 abbrev pub invariant-loop-at : goal.invariant-loop-at
 invariant-loop-at l = Came l.text l.at l.row l.s l.n
 

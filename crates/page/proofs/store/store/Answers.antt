@@ -5,15 +5,7 @@ use Rattle.desk.specs.Tally.{Table}
 use Rattle.page.specs.inside.Stored.{begins_at, stored_cells, stored_marks, stored_tally}
 use Rattle.page.proofs.TurnLaws.{frame_here, cells_more, marks_more, tally_more}
 use Rattle.page.proofs.store.store.Goals as goal
-
-record Sofar (text : List ℕ) (from held : ℕ) (cells₀ marks₀ cells marks : List ℕ) (tally : Table) (at j : ℕ) : Type 0 where
-  turns : j ≤ held
-  place : at ≡ begins_at text from j
-  cells_long : length cells ≡ length cells₀
-  marks_long : length marks ≡ length marks₀
-  cells_are : cells ≡ stored_cells text from cells₀ j
-  marks_are : marks ≡ stored_marks text from marks₀ j
-  tally_is : tally ≡ stored_tally text from j
+use Rattle.page.proofs.store.store.Invariants.{Sofar}
 
 pub loop-j-init : goal.loop-j-init
 unfolding stored_cells stored_marks stored_tally

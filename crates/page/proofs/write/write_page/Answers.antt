@@ -33,7 +33,7 @@ pub slice_bounds-page_sum-end : goal.slice_bounds-page_sum-end
 slice_bounds-page_sum-end c =
     let lent : Memory = memory c.args.desk c.args.row c.args.cells.now c.args.marks.now c.args.tally.now in
     let is_desk_holds : is_desk (lent) ≡ true = not_left c.makes_desk.ensures c.if-not-makes_desk.false in
-    let l = within (lent) c.args.out.now (is_desk_holds) (omega (arith, start)) _ (omega (arith, c.seats_in_use-seats.ensures)) c.if-out-size.false _ _ _ _ _ _
+    let l = within (lent) c.args.out.now (is_desk_holds) (omega arith) _ (omega (arith, c.seats_in_use-seats.ensures)) c.if-out-size.false _ _ _ _ _ _
     c.put_text-p.ensures c.put_seat_lines-p.ensures c.put_cell_lines-p.ensures in
     omega (arith, l, c.put_cell_lines-p.auto.out, c.put_seat_lines-p.auto.out, c.put_text-p.auto.out)
 
@@ -41,6 +41,6 @@ pub returns : goal.returns
 returns c =
     let lent : Memory = memory c.args.desk c.args.row c.args.cells.now c.args.marks.now c.args.tally.now in
     let is_desk_holds : is_desk (lent) ≡ true = not_left c.makes_desk.ensures c.if-not-makes_desk.false in
-    written_page (lent) c.args.out.now (is_desk_holds) (omega (arith, start)) _ (omega (arith, c.seats_in_use-seats.ensures)) c.if-out-size.false _ _ _ _ _ _
+    written_page (lent) c.args.out.now (is_desk_holds) (omega arith) _ (omega (arith, c.seats_in_use-seats.ensures)) c.if-out-size.false _ _ _ _ _ _
     c.put_text-p.ensures c.put_seat_lines-p.ensures c.put_cell_lines-p.ensures
     _ _ _ c.page_sum-sum.ensures c.put_last_line.ensures
