@@ -1,7 +1,4 @@
-pub mod Rows
-pub mod Views
-pub mod Steps
-pub mod Outs
+pub mod RowLaws
 pub mod LentLaws
 pub mod NumberLaws
 pub mod NameLaws

@@ -42,7 +42,7 @@ module _ (s : List ℕ) (a : ReplyRead) (h : ReadAs s a) where
 -- the place that a step returns is that of a seat, or 16
 module _ (m : Memory) (f : List ℕ) where
   pub opening_place : place_in (opens m f).answer ≤ seat_count
-  opening_place = by_opening m f (λ (o : Outcome). place_in o.answer ≤ seat_count) (λ o k. omega (arith, k.below)) (λ why. omega arith)
+  opening_place = by_opening m f (λ (o : Outcome). place_in o.answer ≤ seat_count) (λ o k. omega (arith, k.at.below)) (λ why. omega arith)
 
   pub reply_place : place_in (replies m f).answer ≤ seat_count
   reply_place = by_reply m f (λ (o : Outcome). place_in o.answer ≤ seat_count) (λ t k. omega (arith, k.below)) (λ why. omega arith)

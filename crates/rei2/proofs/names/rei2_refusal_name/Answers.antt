@@ -62,4 +62,4 @@ returns-in-17 c = named _ _ _ _ _ (ap name_of c.in-17.is ∙ names_tell.no_such)
 pub returns-in_default : goal.returns-in_default
 returns-in_default c =
     let n = c.args.refusal in
-    named _ _ _ _ _ (names_tell.others n (none_below 18 n c.in_default.rest)) c.put_name-in_default.ensures
+    named _ _ _ _ _ (names_tell.others n (none_below 18 n c.in_default.in_default-own.rest)) c.put_name-in_default.ensures

@@ -1,0 +1,11 @@
+-- The first i seats are copied.
+use Rattle.std.proofs.Common.{◌≡◌, ◌-◌, ◌≤◌, length}
+use Rattle.std.proofs.Math.Seq.{paste}
+use Rattle.desk.specs.Limits.{seat_count}
+use Rattle.rei2.proofs.lent.store.Given as goal
+
+abbrev pub invariant-loop-i : goal.invariant-loop-i
+invariant-loop-i l = (l.i ≤ seat_count) × (l.s ≡ paste l.initial.s 0 l.row l.i)
+
+abbrev pub decreases-loop-i : goal.decreases-loop-i
+decreases-loop-i l = seat_count - l.i
