@@ -1,6 +1,6 @@
 -- The code of the desk's test computes the clauses, in its own order and in one pass over the rows. Assumes nothing.
 use Prim.Native.Nat.{ℕ, zero, suc, ◌+◌, ◌*◌, ◌-◌, ◌<◌, ◌≤◌}
-use mathlib.Core.Bool.{Bool, true, false, true≢false, false≢true, cond, not, ◌&&◌}
+use mathlib.Core.Bool.{Bool, true, false, true≢false, false≢true, cond, ◌&&◌}
 use mathlib.Core.List.{List, []}
 use mathlib.Core.Path.{◌≡◌, refl, sym, ap, ap₂, subst, ◌∙◌}
 use lib.ListN.{length, get_or, take, drop, set, replicate, length-replicate, get_or-replicate, length-set}
@@ -22,7 +22,7 @@ use Rattle.desk.specs.declared.step.Stepped.TheVariants.{Ended, OutOfPlace, Full
 use Rattle.desk.specs.declared.clauses.Turn.{Turn}
 use Rattle.desk.specs.Limits.{seat_count, most_cells, cell_size}
 use Rattle.desk.specs.Below.{all_below}
-use Rattle.desk.specs.Key.{key_in, seat_key, same_key, is_key}
+use Rattle.desk.specs.Key.{key_in, seat_key, is_key}
 use Rattle.desk.specs.Hearing.{heard, has_key}
 use Rattle.desk.specs.Step.{advanced, step, none, replay, goes}
 use Rattle.desk.specs.Seats.{seat_at, used_bit, keyed}

@@ -1,42 +1,38 @@
 -- What is demanded of the tally holds. Assumes nothing.
-use Prim.Native.Nat.{ℕ, zero, suc, ◌+◌, ◌*◌, ◌<◌}
+use Prim.Native.Nat.{ℕ, zero, suc, ◌+◌, ◌<◌}
 use mathlib.Core.List.{List, [], ◌∷◌}
 use mathlib.Core.Bool.{true, false, cond, ◌&&◌}
 use mathlib.Core.Logic.{◌↔◌}
-use mathlib.Core.Path.{◌≡◌, refl, sym, ap, ap₂, ◌∙◌}
+use mathlib.Core.Path.{◌≡◌, refl, sym, ap, ◌∙◌}
 use native.Mathlib.Omega.{arith}
 use lib.ListN.{get_or}
 use lib.Dec.{eqb}
-use Rattle.digits.specs.Text.{one_of}
 use Rattle.digits.specs.Refusals.{plain}
-use Rattle.digits.specs.Told.{Told, gives, refuses}
+use Rattle.digits.specs.Told.{gives, refuses}
 use Rattle.digits.proofs.Sure.{not_refused}
-use Rattle.digits.proofs.Tests.{and_true, and_l, and_r}
-use Rattle.frames.specs.Kind.{read}
-use Rattle.frames.specs.Reply.{reply, is_letter, letter_place}
-use Rattle.frames.specs.Status.{is_status, status_place}
-use Rattle.frames.specs.declared.reply.ReplyLabel.{ReplyLabel}
+use Rattle.digits.proofs.Tests.{and_l, and_r}
+use Rattle.frames.specs.Reply.{is_letter}
+use Rattle.frames.specs.Status.{is_status}
 use Rattle.frames.proofs.HeadLaws.{tried_gives}
 use Rattle.frames.proofs.LabelLaws.{lettered}
 use Rattle.frames.proofs.LetterLaws.{letter_own, letter_in_law, status_own, status_in_law}
 use Rattle.desk.specs.declared.key.Key.{Key}
 use Rattle.desk.specs.Limits.{seat_count}
-use Rattle.desk.specs.Below.{count_below}
 use Rattle.desk.specs.Hearing.{heard, has_key}
 use Rattle.desk.specs.Rule.{Frame}
 use Rattle.desk.specs.Memory.{Memory, cell_at, held_by}
 use Rattle.desk.specs.Tally.{Table, entry_of, is_of, held_of, looks}
 use Rattle.desk.specs.Desk.{is_desk}
 use Rattle.desk.specs.Calls.{Outcome, opens, replies, emptied}
-use Rattle.desk.specs.Events.{Event, to_open, to_reply, happens, run}
+use Rattle.desk.specs.Events.{Event, to_open, to_reply, run}
 use Rattle.desk.specs.Looks.{all_letters, all_statuses, is_listed, by_bytes, shows, among, by_seats, LooksAreRight}
 use Rattle.desk.proofs.Below.{false_or, count_ext}
 use Rattle.desk.proofs.HearingLaws.{heard_reply}
-use Rattle.desk.proofs.TallyLaws.{Right, reply_listed, right_entry, held_next, held_none, counted_entry}
+use Rattle.desk.proofs.TallyLaws.{reply_listed, right_entry, held_next, held_none, counted_entry}
 use Rattle.desk.proofs.ReplayLaws.{Facts, desk_facts, marked, cell_keyed_law}
 use Rattle.desk.proofs.ClauseLaws.{cell_byte, key_heard}
 use Rattle.desk.proofs.SumLaws.{sum, spread}
-use Rattle.desk.proofs.StepLaws.{Took, by_reply, by_opening}
+use Rattle.desk.proofs.StepLaws.{by_reply, by_opening}
 use Rattle.desk.proofs.DeskLaws.{emptied_desk, stays_desk}
 
 -- ---- a look, by the spelled lists

@@ -24,7 +24,7 @@ use Rattle.desk.specs.Step.{step}
 use Rattle.desk.specs.Seats.{used_bit}
 use Rattle.desk.specs.Memory.{Memory, capacity}
 use Rattle.desk.specs.Desk.{is_desk}
-use Rattle.desk.specs.Calls.{Outcome, opens, opened, replies, emptied}
+use Rattle.desk.specs.Calls.{Outcome, opens, replies, emptied}
 use Rattle.desk.specs.Rule.{Frame}
 use Rattle.desk.specs.Events.{Event, to_open, to_reply, happens, run, openings, heard_all, Stands, addressed, events_to, frames_to, answers_to}
 use Rattle.desk.specs.Views.{View, view_at, progress_in, new_view, Seen, reply_seen, seat_step, cell_free, IsStep}

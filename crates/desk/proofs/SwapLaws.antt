@@ -9,7 +9,6 @@ use Rattle.digits.specs.Told.{Told, gives, refuses}
 use Rattle.digits.proofs.Sure.{not_refused}
 use Rattle.frames.specs.Kind.{read}
 use Rattle.frames.specs.Request.{request}
-use Rattle.frames.specs.Reply.{reply}
 use Rattle.frames.specs.declared.reply.ReplyLabel.{ReplyLabel}
 use Rattle.desk.specs.declared.key.Key.{Key}
 use Rattle.desk.specs.declared.opening.Opening.{Opening}

@@ -8,8 +8,8 @@ use lib.Dec.{eqb, ltb}
 use lib.ListN.{length, get_or, set, replicate, length-set, length-replicate, get_or-replicate}
 use lib.Seq.{get_or-set_same, get_or-set_other, ext_get_or}
 use lib.Bits.{bit_or, or_zero_l, or_add_and, and_le_r}
-use borrow.Author.Tests.{eqb-true, eq-eqb, ne_eqb, lt-ltb, le-ltb, ltb-true}
-use Rattle.digits.specs.Told.{Told, gives, refuses}
+use borrow.Author.Tests.{eqb-true, eq-eqb, ne_eqb, lt-ltb, le-ltb}
+use Rattle.digits.specs.Told.{gives, refuses}
 use Rattle.digits.specs.Refusals.{NO_SUCH}
 use Rattle.digits.proofs.Tests.{by-test, by_less, and_true, and_l, and_r}
 use Rattle.digits.proofs.Tables.{place_listed}

@@ -9,7 +9,7 @@ use lib.Dec.{eqb, ltb}
 use borrow.Author.Tests.{lt-ltb, ltb-true}
 use Rattle.digits.specs.declared.refusal.Refusal.{Refusal}
 use Rattle.digits.specs.Refusals.{STRAY}
-use Rattle.digits.specs.Told.{Told, gives, refuses, tried}
+use Rattle.digits.specs.Told.{Told, gives, refuses}
 use Rattle.digits.proofs.Tests.{and_r, by-test}
 use Rattle.digits.proofs.Sure.{not_refused}
 use Rattle.frames.specs.Kind.{read}
@@ -29,7 +29,7 @@ use Rattle.desk.specs.Rule.{Frame}
 use Rattle.desk.specs.Seats.{seat_at, used_bit, keyed, keyed_at, seat_with, lowest_clear}
 use Rattle.desk.specs.Memory.{Memory}
 use Rattle.desk.specs.Calls.{what_is_given, open_tried, opens, opened, seat_tried, label_tried, reply_tried, replies, taken}
-use Rattle.desk.specs.Events.{Event, to_open, to_reply, happens, addressed}
+use Rattle.desk.specs.Events.{Event, to_open, to_reply, happens}
 use Rattle.desk.specs.Views.{View, view_at, progress_in, new_view, cell_free, StepTellsView, Steps, stray_answer, Local}
 use Rattle.desk.proofs.Below.{never, false_or, first_at, first_ext}
 use Rattle.desk.proofs.KeyLaws.{same_key_case}

@@ -15,7 +15,7 @@ use Rattle.desk.specs.declared.capture.Fate.TheVariants.{Opened, Collected, Dyna
 use Rattle.desk.specs.declared.capture.Counts.{Counts}
 use Rattle.desk.specs.declared.capture.CaptureAnswer.{CaptureAnswer}
 use Rattle.desk.specs.declared.capture.CaptureAnswer.TheVariants.{Taken, NoDesk}
-use Rattle.desk.specs.Memory.{Memory, memory}
+use Rattle.desk.specs.Memory.{Memory}
 use Rattle.desk.specs.Desk.{is_desk}
 use Rattle.desk.specs.Calls.{opens, replies}
 

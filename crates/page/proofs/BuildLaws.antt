@@ -18,7 +18,7 @@ use Rattle.desk.specs.Hearing.{heard, has_key, status_in, ends, in_place}
 use Rattle.desk.specs.Step.{progress_of, step, goes}
 use Rattle.desk.specs.Seats.{seat_at, used_bit, seat_with}
 use Rattle.desk.specs.Memory.{Memory, capacity, capacity_of}
-use Rattle.desk.specs.Calls.{opened, grown, taken, empty_row, emptied}
+use Rattle.desk.specs.Calls.{opened, taken, empty_row, emptied}
 use Rattle.desk.proofs.Below.{never, false_or, eq-case, count_ext, count_turned, count_none, count_some}
 use Rattle.desk.proofs.Bits.{none_used, set_own, set_other, set_below}
 use Rattle.desk.proofs.KeyLaws.{same_key_case}

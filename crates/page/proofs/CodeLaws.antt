@@ -1,5 +1,5 @@
 -- The tokens of a page and their lines: a token that fits is written as a line, and guessed from it. Assumes nothing.
-use Rattle.std.proofs.Common.{◌≡◌, ℕ, zero, suc, ◌+◌, ◌-◌, ◌/◌, ◌%◌, ◌<◌, ◌≤◌, Bool, true, false, not, ◌&&◌, eqb, ltb, leb, List, [], ◌∷◌, ◌++◌, length, get_or, take, sym, refl, ap, ◌∙◌, append_assoc, arith, length-append, take_at, get_or-append-add, ltb-true, eq-eqb, ne_eqb, eqb-true, leb-true}
+use Rattle.std.proofs.Common.{◌≡◌, ℕ, zero, suc, ◌+◌, ◌/◌, ◌%◌, ◌<◌, ◌≤◌, Bool, true, false, not, ◌&&◌, eqb, ltb, leb, List, [], ◌∷◌, ◌++◌, length, get_or, take, sym, refl, ap, ◌∙◌, append_assoc, arith, length-append, take_at, get_or-append-add, ltb-true, eq-eqb, ne_eqb, eqb-true, leb-true}
 use lib.Seq.{take-append-add, drop-append-add, slice}
 use borrow.Author.Tests.{not-true}
 use Rattle.digits.specs.declared.Number.TheVariants.{Is}

@@ -4,7 +4,6 @@ use borrow.Author.Tests.{lt-leb}
 use Rattle.digits.specs.Refusals.{ROOM, PAGE}
 use Rattle.digits.specs.Told.{gives, refuses}
 use Rattle.digits.proofs.Tests.{by-test, and_true}
-use Rattle.lines.specs.Machine as L
 use Rattle.lines.specs.Demands.{SomePage, FirstLine, PageShows}
 use Rattle.desk.specs.Limits.{seat_count, cell_size}
 use Rattle.desk.specs.Memory.{Memory}

@@ -1,5 +1,5 @@
 -- The line of a cell in the page of a desk: where it begins, and its seat and frame. Assumes nothing.
-use Rattle.std.proofs.Common.{◌≡◌, ℕ, zero, suc, ◌+◌, ◌-◌, ◌*◌, ◌%◌, ◌<◌, ◌≤◌, List, [], ◌∷◌, ◌++◌, length, get_or, take, drop, sym, refl, ap, ◌∙◌, append_assoc, append-nil, arith, length-append, take_at}
+use Rattle.std.proofs.Common.{◌≡◌, ℕ, zero, suc, ◌+◌, ◌*◌, ◌%◌, ◌<◌, ◌≤◌, List, [], ◌∷◌, ◌++◌, length, get_or, take, drop, sym, refl, ap, ◌∙◌, append_assoc, append-nil, arith, length-append, take_at}
 use lib.Seq.{slice, get_or_at, drop-append-add}
 use Rattle.text.specs.Lines.{LF}
 use Rattle.desk.specs.Memory.{Memory, cell_at, mark_at}

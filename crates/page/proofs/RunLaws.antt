@@ -1,5 +1,5 @@
 -- The machine takes the page of every desk that the version can show, and has built that desk's seats at the end. Assumes nothing.
-use Rattle.std.proofs.Common.{◌≡◌, ℕ, zero, suc, ◌+◌, ◌-◌, ◌*◌, ◌%◌, ◌^◌, ◌<◌, ◌≤◌, Bool, true, false, cond, not, ◌&&◌, ◌||◌, eqb, ltb, List, [], ◌∷◌, ◌++◌, sym, refl, ap, ◌∙◌, subst, append_assoc, append-nil, add-one, arith, ext_get_or, pow_mono, ltb-false, ltb-true, le-ltb, lt-ltb, eq-eqb, eqb-true, le-leb}
+use Rattle.std.proofs.Common.{◌≡◌, ℕ, zero, suc, ◌+◌, ◌*◌, ◌%◌, ◌^◌, ◌<◌, ◌≤◌, Bool, true, false, cond, not, ◌&&◌, ◌||◌, eqb, ltb, List, [], ◌∷◌, ◌++◌, sym, refl, ap, ◌∙◌, subst, append_assoc, append-nil, add-one, arith, ext_get_or, pow_mono, ltb-false, ltb-true, le-ltb, lt-ltb, eq-eqb, eqb-true, le-leb}
 use mathlib.Core.Bool.{false≢true}
 use native.Mathlib.Nat.{div-eq_of_lt}
 use Rattle.digits.proofs.Tests.{by-test, by_less, and_true, and_l, and_r}
@@ -13,7 +13,7 @@ use Rattle.desk.specs.declared.step.Progress.{Progress}
 use Rattle.desk.specs.Limits.{seat_count}
 use Rattle.desk.specs.Key.{seat_key}
 use Rattle.desk.specs.Hearing.{heard, status_in, ends, in_place}
-use Rattle.desk.specs.Step.{progress_of, advanced, step, none, replay}
+use Rattle.desk.specs.Step.{progress_of, advanced, none, replay}
 use Rattle.desk.specs.Seats.{zero_seat, seat_at, used_bit, keyed_at, seat_with}
 use Rattle.desk.specs.Memory.{Memory, cell_at, mark_at, records_of}
 use Rattle.desk.specs.Desk.{is_zero, mark_good, cell_keyed}

@@ -1,5 +1,5 @@
 -- Desks with the same page agree below the count, and desks that agree there have the same page. What is read back is a desk. Every text is judged. Assumes nothing.
-use Rattle.std.proofs.Common.{◌≡◌, ℕ, zero, suc, ◌+◌, ◌-◌, ◌*◌, ◌/◌, ◌%◌, ◌<◌, ◌≤◌, true, ◌&&◌, eqb, leb, List, [], ◌∷◌, ◌++◌, map, length, get_or, take, drop, sym, refl, ap, ◌∙◌, subst, ap₂, append_assoc, arith, length-append, length-drop, length-take-le, get_or-take, take-suc, take_at, take-add, drop_at, leb-true}
+use Rattle.std.proofs.Common.{◌≡◌, ℕ, zero, suc, ◌+◌, ◌*◌, ◌/◌, ◌%◌, ◌<◌, ◌≤◌, true, ◌&&◌, eqb, leb, List, [], ◌∷◌, ◌++◌, map, length, get_or, take, drop, sym, refl, ap, ◌∙◌, subst, ap₂, append_assoc, arith, length-append, length-drop, length-take-le, get_or-take, take-suc, take_at, take-add, drop_at, leb-true}
 use lib.ListN.{get_or-append}
 use lib.Seq.{slice, take-append-le, drop-append-le}
 use Rattle.digits.proofs.Tests.{and_true, and_l, and_r}
@@ -23,7 +23,7 @@ use Rattle.page.specs.Sum.{sum_of, sum_modulus}
 use Rattle.page.specs.Page.{middle, front, page}
 use Rattle.page.specs.Reading.{has_room, restored}
 use Rattle.page.specs.Demands.{SameBelow, PagesTellDesks, RestoredIsDesk, Judged, is_page, is_none, EveryTextIsJudged}
-use Rattle.page.specs.inside.Tokens.{Token, first, cell, last, write, fits, code, seat_tokens, cell_tokens, front_tokens, ended_at, tokens}
+use Rattle.page.specs.inside.Tokens.{Token, first, cell, last, code, seat_tokens, cell_tokens, front_tokens, ended_at, tokens}
 use Rattle.page.specs.inside.Machine.{Shown, shows, framed, machine}
 use Rattle.page.proofs.PartLaws.{part_is, part_part}
 use Rattle.page.proofs.CodeLaws.{is_code}

@@ -1,5 +1,5 @@
 -- How the steps of writing a page make up its promise. Assumes nothing.
-use Rattle.std.proofs.Common.{◌≡◌, ℕ, ◌+◌, ◌-◌, ◌%◌, ◌<◌, ◌≤◌, true, false, List, ◌++◌, length, take, drop, ap, ◌∙◌, append_assoc, arith, length-append, take_at, le-leb}
+use Rattle.std.proofs.Common.{◌≡◌, ℕ, ◌+◌, ◌-◌, ◌%◌, ◌<◌, ◌≤◌, true, false, List, length, take, drop, ap, ◌∙◌, append_assoc, arith, length-append, take_at, le-leb}
 use borrow.Author.Tests.{lt-leb}
 use Rattle.digits.specs.Text.{codes}
 use Rattle.text.specs.Put.{most_place, Put}

@@ -1,6 +1,5 @@
 -- `digits::byte_at` meets its contract: past the end `get_or` is 0.
 use mathlib.Core.Path.{sym}
-use borrow.Author.Rules.{rules}
 use lib.ListN.{get_or-eq_default}
 use Rattle.digits.proofs.byte_at.Goals as goal
 

@@ -1,5 +1,4 @@
 -- `digits::in_set` meets its contract.
-use borrow.Author.Rules.{rules}
 use borrow.Author.Tests.{lt-ltb, le-ltb}
 use Rattle.digits.specs.Text.{in_set}
 use Rattle.digits.proofs.in_set.Goals as goal

@@ -1,11 +1,8 @@
 -- `digits::number_at` meets its contract: each turn is one step of `number_from`.
-use native.Mathlib.Omega.{arith}
-use mathlib.Core.Path.{◌≡◌, sym, ap, ◌∙◌}
+use mathlib.Core.Path.{◌≡◌}
 use Prim.Native.Nat.{◌+◌, ◌-◌, ◌≤◌, ◌<◌, ◌^◌}
-use borrow.Author.Rules.{rules}
 use lib.ListN.{length}
 use Rattle.digits.specs.Digits.{number_from, number_at}
-use Rattle.digits.proofs.Reading.{some_width, none_width, over_width, no_room, step_low, step_high, step_on, step_done, some_room, nine_digits, grown}
 use Rattle.digits.proofs.number_at.Given as goal
 
 abbrev pub invariant-loop-left : goal.invariant-loop-left

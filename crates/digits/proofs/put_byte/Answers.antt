@@ -1,6 +1,5 @@
 -- `digits::put_byte` meets its contract: a store past the end changes nothing.
 use mathlib.Core.Path.{sym}
-use borrow.Author.Rules.{rules}
 use lib.Seq.{set_out}
 use Rattle.digits.proofs.put_byte.Goals as goal
 

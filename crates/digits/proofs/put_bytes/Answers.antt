@@ -1,10 +1,9 @@
 -- `digits::put_bytes` meets its contract: each turn adds one byte to the run.
 use mathlib.Core.List.{List}
 use mathlib.Core.Path.{◌≡◌, refl, sym, ap, ◌∙◌}
-use Prim.Native.Nat.{ℕ, ◌+◌, ◌-◌, ◌≤◌}
+use Prim.Native.Nat.{ℕ, ◌+◌}
 use borrow.Author.Rules.{rules}
-use lib.ListN.{length, get_or, take, set, length-set}
-use lib.Seq.{sets}
+use lib.ListN.{get_or, set, length-set}
 use Rattle.digits.proofs.Writing.{sets_beyond, run_more, run_whole}
 use Rattle.digits.proofs.put_bytes.Goals as goal
 

@@ -1,11 +1,8 @@
 -- `digits::put_bytes` meets its contract: each turn adds one byte to the run.
-use mathlib.Core.List.{List}
-use mathlib.Core.Path.{◌≡◌, refl, sym, ap, ◌∙◌}
-use Prim.Native.Nat.{ℕ, ◌+◌, ◌-◌, ◌≤◌}
-use borrow.Author.Rules.{rules}
-use lib.ListN.{length, get_or, take, set, length-set}
+use mathlib.Core.Path.{◌≡◌}
+use Prim.Native.Nat.{◌-◌, ◌≤◌}
+use lib.ListN.{length, take}
 use lib.Seq.{sets}
-use Rattle.digits.proofs.Writing.{sets_beyond, run_more, run_whole}
 use Rattle.digits.proofs.put_bytes.Given as goal
 
 abbrev pub invariant-loop-i : goal.invariant-loop-i

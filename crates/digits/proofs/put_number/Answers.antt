@@ -1,9 +1,7 @@
 -- `digits::put_number` meets its contract: each turn is one step of `put_from`.
 use native.Mathlib.Omega.{arith}
-use mathlib.Core.Path.{◌≡◌, refl, sym, ◌∙◌}
-use borrow.Author.Rules.{rules}
-use lib.ListN.{length}
-use Rattle.digits.proofs.Writing.{put_from, put_step, put_done, some_text, none_text, over_text}
+use mathlib.Core.Path.{refl, sym, ◌∙◌}
+use Rattle.digits.proofs.Writing.{put_step, put_done, some_text, none_text, over_text}
 use Rattle.digits.proofs.put_number.Goals as goal
 
 pub returns-then-width-lt1 : goal.returns-then-width-lt1
@@ -16,11 +14,10 @@ pub loop-left-init : goal.loop-left-init
 loop-left-init c = (refl, refl)
 
 pub loop-left-preserved : goal.loop-left-preserved
-loop-left-preserved c =
-    (
-      c.loop-left.invariant.0 ∙ put_step _ _ _ _ _ c.loop-left-test.true c.put_past.ensures,
-      c.put_past.auto.out ∙ c.loop-left.invariant.1,
-    )
+loop-left-preserved c = (
+  c.loop-left.invariant.0 ∙ put_step _ _ _ _ _ c.loop-left-test.true c.put_past.ensures,
+  c.put_past.auto.out ∙ c.loop-left.invariant.1,
+)
 
 pub returns : goal.returns
 returns c =

@@ -1,9 +1,7 @@
 -- `digits::put_number` meets its contract: each turn is one step of `put_from`.
-use native.Mathlib.Omega.{arith}
-use mathlib.Core.Path.{◌≡◌, refl, sym, ◌∙◌}
-use borrow.Author.Rules.{rules}
+use mathlib.Core.Path.{◌≡◌}
 use lib.ListN.{length}
-use Rattle.digits.proofs.Writing.{put_from, put_step, put_done, some_text, none_text, over_text}
+use Rattle.digits.proofs.Writing.{put_from}
 use Rattle.digits.proofs.put_number.Given as goal
 
 abbrev pub invariant-loop-left : goal.invariant-loop-left

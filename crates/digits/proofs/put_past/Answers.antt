@@ -1,7 +1,6 @@
 -- `digits::put_past` meets its contract: a store past the end changes nothing.
 use native.Mathlib.Omega.{arith}
 use mathlib.Core.Path.{sym}
-use borrow.Author.Rules.{rules}
 use lib.Seq.{set_out}
 use Rattle.digits.proofs.put_past.Goals as goal
 

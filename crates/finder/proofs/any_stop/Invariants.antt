@@ -1,12 +1,8 @@
 -- `finder::any_stop` meets its contract: while `any` is false, none of the bytes passed is a stop.
 use Prim.Native.Nat.{◌-◌, ◌≤◌}
 use mathlib.Core.Bool.{false}
-use mathlib.Core.Path.{◌≡◌, sym, ◌∙◌}
-use native.Mathlib.Omega.{arith}
-use borrow.Author.Rules.{rules}
-use Rattle.frames.proofs.RuleLaws.{or_false}
+use mathlib.Core.Path.{◌≡◌}
 use Rattle.finder.specs.inside.Quiet.{block_size, Quiet}
-use Rattle.finder.proofs.Quiet.{empty, one, joined}
 use Rattle.finder.proofs.any_stop.Given as goal
 
 abbrev pub invariant-loop-i : goal.invariant-loop-i

@@ -1,11 +1,7 @@
 -- `finder::frame_at` meets its contract: the answer is the same, seen from each byte that was passed.
-use Prim.Native.Nat.{◌-◌, ◌≤◌, ◌<◌}
-use mathlib.Core.Path.{◌≡◌, sym, ◌∙◌}
+use mathlib.Core.Path.{sym, ◌∙◌}
 use native.Mathlib.Omega.{arith}
-use borrow.Author.Rules.{rules}
-use lib.ListN.{length}
-use Rattle.finder.specs.Pieces.{found_from}
-use Rattle.finder.proofs.Search.{answer_at, begun, end_cuts, lead_cuts, ends, runs_on}
+use Rattle.finder.proofs.Search.{begun, end_cuts, lead_cuts, ends, runs_on}
 use Rattle.finder.proofs.Quiet.{ends_within, run_inside}
 use Rattle.finder.proofs.frame_at.Goals as goal
 

@@ -1,12 +1,9 @@
 -- `finder::frame_at` meets its contract: the answer is the same, seen from each byte that was passed.
 use Prim.Native.Nat.{◌-◌, ◌≤◌, ◌<◌}
-use mathlib.Core.Path.{◌≡◌, sym, ◌∙◌}
-use native.Mathlib.Omega.{arith}
-use borrow.Author.Rules.{rules}
+use mathlib.Core.Path.{◌≡◌}
 use lib.ListN.{length}
 use Rattle.finder.specs.Pieces.{found_from}
-use Rattle.finder.proofs.Search.{answer_at, begun, end_cuts, lead_cuts, ends, runs_on}
-use Rattle.finder.proofs.Quiet.{ends_within, run_inside}
+use Rattle.finder.proofs.Search.{answer_at}
 use Rattle.finder.proofs.frame_at.Given as goal
 
 abbrev pub invariant-loop-i : goal.invariant-loop-i

@@ -1,5 +1,4 @@
 -- `finder::is_stop` meets its contract.
-use borrow.Author.Rules.{rules}
 use Rattle.finder.proofs.is_stop.Goals as goal
 
 pub returns : goal.returns

@@ -1,10 +1,6 @@
 -- `finder::next` meets its contract: no frame begins at the bytes that were passed.
-use Prim.Native.Nat.{◌-◌}
-use mathlib.Core.Path.{◌≡◌, refl, sym, ◌∙◌}
-use borrow.Author.Rules.{rules}
+use mathlib.Core.Path.{refl, sym, ◌∙◌}
 use native.Mathlib.Omega.{arith}
-use lib.ListN.{length}
-use Rattle.finder.specs.Pieces.{found_from}
 use Rattle.finder.proofs.Search.{skipped, none}
 use Rattle.finder.proofs.Quiet.{run_skipped}
 use Rattle.finder.proofs.next.Goals as goal

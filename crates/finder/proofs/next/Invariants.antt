@@ -1,12 +1,8 @@
 -- `finder::next` meets its contract: no frame begins at the bytes that were passed.
 use Prim.Native.Nat.{◌-◌}
-use mathlib.Core.Path.{◌≡◌, refl, sym, ◌∙◌}
-use borrow.Author.Rules.{rules}
-use native.Mathlib.Omega.{arith}
+use mathlib.Core.Path.{◌≡◌}
 use lib.ListN.{length}
 use Rattle.finder.specs.Pieces.{found_from}
-use Rattle.finder.proofs.Search.{skipped, none}
-use Rattle.finder.proofs.Quiet.{run_skipped}
 use Rattle.finder.proofs.next.Given as goal
 
 abbrev pub invariant-loop-i : goal.invariant-loop-i

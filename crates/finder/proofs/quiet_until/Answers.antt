@@ -2,9 +2,7 @@
 use Prim.Native.Nat.{◌+◌, ◌-◌}
 use mathlib.Core.Path.{◌≡◌}
 use native.Mathlib.Omega.{arith}
-use borrow.Author.Rules.{rules}
-use lib.ListN.{length}
-use Rattle.finder.specs.inside.Quiet.{block_size, Quiet}
+use Rattle.finder.specs.inside.Quiet.{block_size}
 use Rattle.finder.proofs.Quiet.{empty, joined, in_part}
 use Rattle.finder.proofs.quiet_until.Goals as goal
 

@@ -1,11 +1,9 @@
 -- `lines::next_line` meets its contract: the line ends where the line from the byte at i on ends.
 use Prim.Native.Nat.{◌-◌}
-use mathlib.Core.Path.{◌≡◌, sym, ◌∙◌}
-use native.Mathlib.Omega.{arith}
-use borrow.Author.Rules.{rules}
+use mathlib.Core.Path.{◌≡◌}
 use lib.ListN.{length}
 use Rattle.lines.specs.Places.{line_at}
-use Rattle.lines.proofs.PlaceLaws.{begun_at, begun_here, past_byte, at_LF, at_end}
+use Rattle.lines.proofs.PlaceLaws.{begun_at}
 use Rattle.lines.proofs.next_line.Given as goal
 
 abbrev pub invariant-loop-i : goal.invariant-loop-i

@@ -4,7 +4,6 @@ use Rattle.listing.proofs.ListLaws.{taken_fits, cells_back, marks_back, listed_r
 use Prim.Native.Nat.{ℕ}
 use native.Mathlib.Omega.{arith}
 use Rattle.desk.specs.Limits.{most_cells, store_size}
-use borrow.Author.Rules.{rules}
 use Rattle.listing.proofs.list.Goals as goal
 
 pub returns-then-capture-gt-MOST_INPUT : goal.returns-then-capture-gt-MOST_INPUT

@@ -1,6 +1,5 @@
 -- `listing::put_all` meets its contract.
 use native.Mathlib.Omega.{arith}
-use borrow.Author.Rules.{rules}
 use Rattle.listing.proofs.ListLaws.{wrote_none, wrote_all}
 use Rattle.listing.proofs.put_all.Goals as goal
 

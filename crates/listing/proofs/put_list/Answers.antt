@@ -1,6 +1,5 @@
 -- `listing::put_list` meets its contract.
 use native.Mathlib.Omega.{arith}
-use borrow.Author.Rules.{rules}
 use Rattle.text.proofs.PutLaws.{put_then}
 use Rattle.listing.proofs.put_list.Goals as goal
 

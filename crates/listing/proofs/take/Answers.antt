@@ -1,7 +1,6 @@
 -- `listing::take` meets its contract.
 use Rattle.listing.proofs.ListLaws.{taken_as, never_no_desk}
 use mathlib.Core.Path.{refl}
-use borrow.Author.Rules.{rules}
 use Rattle.listing.proofs.take.Goals as goal
 
 pub returns-in-Taken : goal.returns-in-Taken

@@ -1,5 +1,4 @@
 -- `text::put_decimal` meets its contract.
-use borrow.Author.Rules.{rules}
 use Rattle.text.proofs.DecimalLaws.{put_digits}
 use Rattle.text.proofs.put_decimal.Goals as goal
 

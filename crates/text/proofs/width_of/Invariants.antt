@@ -1,7 +1,5 @@
 -- `text::width_of` meets its contract: each turn counts one digit.
-use native.Mathlib.Omega.{arith}
-use borrow.Author.Rules.{rules}
-use Rattle.text.proofs.DecimalLaws.{Counted, counted_one, counted_more, counted_all}
+use Rattle.text.proofs.DecimalLaws.{Counted}
 use Rattle.text.proofs.width_of.Given as goal
 
 abbrev pub invariant-loop-m : goal.invariant-loop-m

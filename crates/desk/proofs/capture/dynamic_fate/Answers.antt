@@ -1,7 +1,6 @@
 -- `desk::capture::dynamic_fate` meets its contract.
 use Rattle.desk.specs.Capture.{dynamic_fate}
 use mathlib.Core.Path.{ap}
-use borrow.Author.Rules.{rules}
 use Rattle.desk.proofs.capture.dynamic_fate.Goals as goal
 
 pub returns-in-Request : goal.returns-in-Request

@@ -3,7 +3,6 @@ use mathlib.Core.Path.{refl, sym, ◌∙◌}
 use Rattle.desk.specs.Memory.{memory}
 use Rattle.desk.specs.inside.Columns.{row_of}
 use Rattle.desk.proofs.CaptureLaws.{meets_request, meets_reply, meets_other}
-use borrow.Author.Rules.{rules}
 use Rattle.desk.proofs.capture.meet.Goals as goal
 
 pub returns-then-lead-eq-REQUEST_LEAD : goal.returns-then-lead-eq-REQUEST_LEAD

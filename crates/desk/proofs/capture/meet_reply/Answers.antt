@@ -18,7 +18,6 @@ use Rattle.desk.proofs.StepLaws.{took, Room, took_room, took_countable}
 use Rattle.desk.proofs.OutcomeLaws.{reply_done, not_taken_law}
 use Rattle.desk.proofs.JudgeLaws.{reply_by_columns, grown_columns}
 use Rattle.desk.proofs.CaptureLaws.{met_by}
-use borrow.Author.Rules.{rules}
 use Rattle.desk.proofs.capture.meet_reply.Goals as goal
 
 pub offset_bounds-held-at : goal.offset_bounds-held-at

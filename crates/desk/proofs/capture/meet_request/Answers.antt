@@ -15,7 +15,6 @@ use Rattle.desk.proofs.StepLaws.{OpensAt, opens_taken}
 use Rattle.desk.proofs.OutcomeLaws.{opening_done, not_opened_law}
 use Rattle.desk.proofs.JudgeLaws.{open_by_columns, opened_columns}
 use Rattle.desk.proofs.CaptureLaws.{met_by}
-use borrow.Author.Rules.{rules}
 use Rattle.desk.proofs.capture.meet_request.Goals as goal
 
 pub key_number-requires : goal.key_number-requires

@@ -1,5 +1,4 @@
 -- `desk::capture::one_more` meets its contract.
-use borrow.Author.Rules.{rules}
 use Rattle.desk.proofs.capture.one_more.Goals as goal
 
 pub returns-in-Opened : goal.returns-in-Opened

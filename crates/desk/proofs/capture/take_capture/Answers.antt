@@ -1,11 +1,9 @@
 -- `desk::capture::take_capture` meets its contract.
-use Prim.Native.Nat.{◌-◌, ◌≤◌}
 use native.Mathlib.Omega.{arith}
 use Prim.Native.Nat.{ℕ}
 use mathlib.Core.Bool.{true, false}
 use mathlib.Core.List.{List}
 use mathlib.Core.Path.{◌≡◌, refl, sym, ap, subst, ◌∙◌}
-use lib.ListN.{length}
 use Rattle.finder.proofs.Step.{Told, told}
 use Rattle.desk.specs.declared.state.Seat.{Seat}
 use Rattle.desk.specs.declared.capture.CaptureDone.{CaptureDone}
@@ -20,7 +18,7 @@ use Rattle.desk.specs.inside.Counting.{takes_nothing}
 use Rattle.desk.specs.inside.Clauses.{seat_good_at}
 use Rattle.desk.proofs.Below.{not_came, not_left}
 use Rattle.desk.proofs.ClauseLaws.{no_desk_case}
-use Rattle.desk.proofs.CaptureLaws.{goes_cut, goes_whole, Going, begins, took_none, took_all}
+use Rattle.desk.proofs.CaptureLaws.{goes_cut, goes_whole, begins, took_none, took_all}
 use borrow.Author.Rules.{rules}
 use Rattle.desk.proofs.capture.take_capture.Goals as goal
 

@@ -14,7 +14,6 @@ use Rattle.desk.proofs.Below.{never, not_came, not_left, past, out}
 use Rattle.desk.proofs.ColumnLaws.{length_row, keys_apart}
 use Rattle.desk.proofs.TallyLaws.{leaves_all}
 use Rattle.desk.proofs.ClauseLaws.{desk_by, cap_room, passes_good, tracks_none, rows_pass, rows_fail}
-use borrow.Author.Rules.{rules}
 use Rattle.desk.proofs.clauses.is_desk.Goals as goal
 
 pub returns-then-bits-gt-ALL : goal.returns-then-bits-gt-ALL

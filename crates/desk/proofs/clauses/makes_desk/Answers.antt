@@ -1,7 +1,7 @@
 -- `desk::clauses::makes_desk` meets its contract.
 use mathlib.Core.Bool.{true}
 use mathlib.Core.List.{List}
-use mathlib.Core.Path.{◌≡◌, refl, sym, ap, ◌∙◌}
+use mathlib.Core.Path.{◌≡◌, refl, ap, ◌∙◌}
 use lib.ListN.{length}
 use Rattle.desk.specs.declared.state.Seat.{Seat}
 use Rattle.desk.specs.Limits.{seat_count}

@@ -7,7 +7,6 @@ use Rattle.digits.specs.Told.{gives}
 use Rattle.frames.specs.declared.reply.ReplyLabel.{ReplyLabel}
 use Rattle.frames.specs.Reply.{label_at}
 use Rattle.desk.specs.inside.Clauses.{turn_of}
-use borrow.Author.Rules.{rules}
 use Rattle.desk.proofs.clauses.one_more.Goals as goal
 
 pub taken_turn-requires : goal.taken_turn-requires

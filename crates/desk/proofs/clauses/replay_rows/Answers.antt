@@ -1,6 +1,6 @@
 -- `desk::clauses::replay_rows` meets its contract: all rows so far pass, the columns are where they bring the seats, and the tally is less by them.
-use Prim.Native.Nat.{ℕ, ◌+◌, ◌*◌, ◌≤◌, ◌<◌, ◌-◌}
-use mathlib.Core.Bool.{true, false≢true}
+use Prim.Native.Nat.{ℕ, ◌<◌}
+use mathlib.Core.Bool.{false≢true}
 use mathlib.Core.Path.{◌≡◌, refl, sym, ap, ap₂, subst, ◌∙◌}
 use mathlib.Core.List.{List}
 use lib.ListN.{length, get_or, length-set}
@@ -10,11 +10,11 @@ use native.Mathlib.Omega.{arith}
 use borrow.Author.Tests.{not-true, not-false, lt-ltb, le-ltb, ltb-true}
 use Rattle.desk.specs.Below.{all_below}
 use Rattle.desk.specs.Hearing.{heard}
-use Rattle.desk.specs.Limits.{seat_count, cell_size}
+use Rattle.desk.specs.Limits.{seat_count}
 use Rattle.desk.specs.Memory.{mark_at, cell_at}
 use Rattle.desk.specs.inside.Clauses.{turn_of, row_taken, Tracks}
 use Rattle.desk.specs.Tally.{entry_of, letter_at, status_at}
-use Rattle.desk.specs.inside.Counted.{uncounted, row_passes, Leaves}
+use Rattle.desk.specs.inside.Counted.{uncounted, Leaves}
 use Rattle.digits.proofs.Tests.{and_true}
 use Rattle.desk.proofs.Below.{all_more, all_fails, all_to, not_came, not_left, out, and_false_r}
 use Rattle.desk.proofs.ReplayLaws.{replayed_most}

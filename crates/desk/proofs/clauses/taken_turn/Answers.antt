@@ -1,7 +1,6 @@
 -- `desk::clauses::taken_turn` meets its contract.
 use Rattle.desk.specs.inside.Clauses.{turn_of}
 use Rattle.desk.proofs.ClauseLaws.{taken_goes}
-use borrow.Author.Rules.{rules}
 use Rattle.desk.proofs.clauses.taken_turn.Goals as goal
 
 pub key_number-requires : goal.key_number-requires

@@ -1,11 +1,8 @@
 -- `desk::columns::all_apart` meets its contract.
-use Prim.Native.Nat.{◌-◌, ◌≤◌}
-use mathlib.Core.Bool.{true}
-use mathlib.Core.Path.{◌≡◌, refl, sym}
+use mathlib.Core.Path.{refl, sym}
 use borrow.Author.Rules.{rules}
 use Rattle.desk.specs.Below.{all_below}
 use Rattle.desk.specs.Limits.{seat_count}
-use Rattle.desk.specs.inside.Columns.{alone}
 use Rattle.desk.proofs.Below.{all_more, all_fails, all_to, not_came, not_left}
 use Rattle.desk.proofs.columns.all_apart.Goals as goal
 

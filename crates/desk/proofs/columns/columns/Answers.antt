@@ -1,15 +1,14 @@
 -- `desk::columns::columns` meets its contract.
-use Prim.Native.Nat.{ℕ, ◌-◌, ◌≤◌, ◌<◌}
+use Prim.Native.Nat.{ℕ}
 use native.Mathlib.Omega.{arith}
-use mathlib.Core.Bool.{true, false≢true}
+use mathlib.Core.Bool.{false≢true}
 use mathlib.Core.Path.{◌≡◌, refl, sym, ap, ◌∙◌}
 use Rattle.desk.specs.Below.{all_below}
 use Rattle.desk.specs.Limits.{seat_count}
 use Rattle.desk.specs.Seats.{seat_at}
 use Rattle.desk.specs.declared.state.Seat.{Seat}
 use Rattle.desk.specs.Key.{seat_key}
-use Rattle.desk.specs.inside.Columns.{Sized, key_number, seat_of, row_of}
-use Rattle.desk.specs.inside.Clauses.{seat_good_at}
+use Rattle.desk.specs.inside.Columns.{key_number, seat_of}
 use Rattle.desk.proofs.Below.{all_more, all_fails, all_to, not_came, not_left}
 use Rattle.desk.proofs.ColumnLaws.{sized_set, shown_next, shown_all, good_short, seat_back}
 use borrow.Author.Rules.{rules}

@@ -1,12 +1,9 @@
 -- `desk::columns::count_key` meets its contract.
 use Prim.Native.Nat.{◌-◌, ◌≤◌}
-use mathlib.Core.Path.{◌≡◌, refl}
-use native.Mathlib.Omega.{arith}
-use borrow.Author.Rules.{rules}
+use mathlib.Core.Path.{◌≡◌}
 use Rattle.desk.specs.Below.{count_below}
 use Rattle.desk.specs.Limits.{seat_count}
 use Rattle.desk.specs.inside.Columns.{key_is}
-use Rattle.desk.proofs.Below.{count_on, count_to}
 use Rattle.desk.proofs.columns.count_key.Given as goal
 
 abbrev pub invariant-loop-i : goal.invariant-loop-i

@@ -1,10 +1,8 @@
 -- `desk::columns::find` meets its contract.
-use Prim.Native.Nat.{◌-◌, ◌≤◌}
 use mathlib.Core.Path.{◌≡◌, refl, sym, ◌∙◌}
 use borrow.Author.Tests.{eq-eqb, ne_eqb}
 use Rattle.desk.specs.Below.{first}
 use Rattle.desk.specs.Limits.{seat_count}
-use Rattle.desk.specs.inside.Columns.{key_is}
 use Rattle.desk.proofs.Below.{first_more, first_hit, first_past}
 use borrow.Author.Rules.{rules}
 use Rattle.desk.proofs.columns.find.Goals as goal

@@ -1,6 +1,5 @@
 -- `desk::columns::is_alone` meets its contract.
 use borrow.Author.Tests.{eq-eqb, ne_eqb}
-use borrow.Author.Rules.{rules}
 use Rattle.desk.proofs.columns.is_alone.Goals as goal
 
 pub returns-then-key-eq0 : goal.returns-then-key-eq0

@@ -1,17 +1,10 @@
 -- `desk::columns::row_of` meets its contract.
-use Prim.Native.Nat.{ℕ, ◌+◌, ◌-◌, ◌≤◌, ◌<◌}
-use mathlib.Core.Path.{◌≡◌, refl, sym, ◌∙◌}
-use native.Mathlib.Omega.{arith}
-use mathlib.Core.List.{List}
-use lib.ListN.{length, set, length-set}
-use lib.Seq.{ext_get_or, get_or-set_same, get_or-set_other}
-use Rattle.desk.specs.declared.state.Seat.{Seat}
-use Rattle.desk.proofs.Below.{eq-case}
-use Rattle.desk.proofs.ColumnLaws.{length_row, seat_at_law}
+use Prim.Native.Nat.{ℕ, ◌-◌, ◌≤◌, ◌<◌}
+use mathlib.Core.Path.{◌≡◌}
+use lib.ListN.{length}
 use Rattle.desk.specs.Limits.{seat_count}
-use Rattle.desk.specs.Seats.{zero_seat, seat_at}
+use Rattle.desk.specs.Seats.{seat_at}
 use Rattle.desk.specs.inside.Columns.{row_of}
-use borrow.Author.Rules.{rules}
 use Rattle.desk.proofs.columns.row_of.Given as goal
 
 abbrev pub invariant-loop-i : goal.invariant-loop-i

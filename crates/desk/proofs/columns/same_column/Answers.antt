@@ -1,6 +1,5 @@
 -- `desk::columns::same_column` meets its contract.
-use Prim.Native.Nat.{◌-◌, ◌≤◌}
-use mathlib.Core.Path.{◌≡◌, refl}
+use mathlib.Core.Path.{refl}
 use Rattle.desk.specs.Below.{all_below}
 use Rattle.desk.specs.Limits.{seat_count}
 use Rattle.desk.specs.inside.Columns.{same_at}

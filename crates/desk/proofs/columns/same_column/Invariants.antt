@@ -1,11 +1,9 @@
 -- `desk::columns::same_column` meets its contract.
 use Prim.Native.Nat.{◌-◌, ◌≤◌}
-use mathlib.Core.Path.{◌≡◌, refl}
+use mathlib.Core.Path.{◌≡◌}
 use Rattle.desk.specs.Below.{all_below}
 use Rattle.desk.specs.Limits.{seat_count}
 use Rattle.desk.specs.inside.Columns.{same_at}
-use Rattle.desk.proofs.Below.{all_on, all_end}
-use borrow.Author.Rules.{rules}
 use Rattle.desk.proofs.columns.same_column.Given as goal
 
 abbrev pub invariant-loop-i : goal.invariant-loop-i

@@ -1,6 +1,5 @@
 -- `desk::columns::seat_good` meets its contract.
 use mathlib.Core.Path.{ap, ◌∙◌}
-use borrow.Author.Rules.{rules}
 use Rattle.desk.specs.inside.Clauses.{seat_good}
 use Rattle.desk.specs.Key.{is_key}
 use Rattle.desk.proofs.ClauseLaws.{if_yes, if_no}

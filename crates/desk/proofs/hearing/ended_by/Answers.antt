@@ -1,6 +1,5 @@
 -- `desk::hearing::ended_by` meets its contract.
 use mathlib.Core.Path.{refl}
-use borrow.Author.Rules.{rules}
 use Rattle.desk.proofs.ClauseLaws.{if_yes, if_no}
 use Rattle.desk.proofs.hearing.ended_by.Goals as goal
 

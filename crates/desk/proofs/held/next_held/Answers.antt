@@ -1,12 +1,10 @@
 -- `desk::held::next_held` meets its contract.
-use lib.ListN.{length}
-use Rattle.desk.specs.Below.{first}
 use Rattle.desk.specs.Memory.{capacity_of}
-use Rattle.desk.specs.Calls.{held_cells, held_from, next_held}
+use Rattle.desk.specs.Calls.{held_cells, next_held}
 use Rattle.desk.proofs.HeldLaws.{from_none, not_here, found_cell, none_found}
 use native.Mathlib.Omega.{arith}
-use mathlib.Core.Path.{◌≡◌, ap, ◌∙◌}
-use Prim.Native.Nat.{◌-◌, ◌≤◌, min}
+use mathlib.Core.Path.{ap, ◌∙◌}
+use Prim.Native.Nat.{min}
 use borrow.Author.Rules.{rules}
 use Rattle.desk.proofs.held.next_held.Goals as goal
 

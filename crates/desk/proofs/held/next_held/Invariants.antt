@@ -1,13 +1,9 @@
 -- `desk::held::next_held` meets its contract.
 use lib.ListN.{length}
 use Rattle.desk.specs.Below.{first}
-use Rattle.desk.specs.Memory.{capacity_of}
-use Rattle.desk.specs.Calls.{held_cells, held_from, next_held}
-use Rattle.desk.proofs.HeldLaws.{from_none, not_here, found_cell, none_found}
-use native.Mathlib.Omega.{arith}
-use mathlib.Core.Path.{◌≡◌, ap, ◌∙◌}
-use Prim.Native.Nat.{◌-◌, ◌≤◌, min}
-use borrow.Author.Rules.{rules}
+use Rattle.desk.specs.Calls.{held_from}
+use mathlib.Core.Path.{◌≡◌}
+use Prim.Native.Nat.{◌-◌, ◌≤◌}
 use Rattle.desk.proofs.held.next_held.Given as goal
 
 abbrev pub invariant-loop-i : goal.invariant-loop-i

@@ -8,7 +8,6 @@ use Rattle.desk.proofs.KeyLaws.{request_legal}
 use Rattle.desk.proofs.ColumnLaws.{legal_keyed}
 use Rattle.desk.proofs.JudgeLaws.{same_frame}
 use Rattle.desk.proofs.OutcomeLaws.{given_on}
-use borrow.Author.Rules.{rules}
 use Rattle.desk.proofs.opening.judged.Goals as goal
 
 pub request_judged-requires : goal.request_judged-requires

@@ -4,7 +4,6 @@ use borrow.Author.Tests.{lt-leb, le-leb, lt-ltb, le-ltb}
 use Rattle.desk.specs.Limits.{seat_count}
 use Rattle.desk.specs.inside.Judging.{seat_with_key, number_tried}
 use Rattle.desk.proofs.ColumnLaws.{found_by}
-use borrow.Author.Rules.{rules}
 use Rattle.desk.proofs.opening.key_judged.Goals as goal
 
 pub returns-then-find-lt-SEATS : goal.returns-then-find-lt-SEATS

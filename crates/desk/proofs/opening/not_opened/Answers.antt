@@ -1,6 +1,5 @@
 -- `desk::opening::not_opened` meets its contract.
 use mathlib.Core.Path.{refl}
-use borrow.Author.Rules.{rules}
 use Rattle.desk.proofs.opening.not_opened.Goals as goal
 
 pub returns : goal.returns

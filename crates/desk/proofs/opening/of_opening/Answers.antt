@@ -1,6 +1,5 @@
 -- `desk::opening::of_opening` meets its contract.
 use mathlib.Core.Path.{refl}
-use borrow.Author.Rules.{rules}
 use Rattle.desk.proofs.opening.of_opening.Goals as goal
 
 pub returns-in-Desk : goal.returns-in-Desk

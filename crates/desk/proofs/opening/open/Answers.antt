@@ -1,5 +1,4 @@
 -- `desk::opening::open` meets its contract.
-use borrow.Author.Rules.{rules}
 use Rattle.desk.proofs.opening.open.Goals as goal
 
 pub returns : goal.returns

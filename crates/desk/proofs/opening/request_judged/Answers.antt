@@ -1,7 +1,6 @@
 -- `desk::opening::request_judged` meets its contract.
 use borrow.Author.Tests.{eq-eqb, ne_eqb}
 use Rattle.desk.specs.inside.Judging.{column_asked}
-use borrow.Author.Rules.{rules}
 use Rattle.desk.proofs.opening.request_judged.Goals as goal
 
 pub returns-then-r-eq113 : goal.returns-then-r-eq113

@@ -10,7 +10,6 @@ use Rattle.desk.proofs.HearingLaws.{good_heard, bad_heard}
 use Rattle.desk.proofs.ColumnLaws.{heard_keyed}
 use Rattle.desk.proofs.JudgeLaws.{same_frame}
 use Rattle.desk.proofs.OutcomeLaws.{given_on}
-use borrow.Author.Rules.{rules}
 use Rattle.desk.proofs.reply.judged.Goals as goal
 
 pub label_judged-requires : goal.label_judged-requires

@@ -6,7 +6,6 @@ use Rattle.desk.specs.Key.{key_in}
 use Rattle.desk.specs.inside.Columns.{key_number}
 use Rattle.desk.specs.inside.Judging.{seat_with_key, column_tried}
 use Rattle.desk.proofs.ColumnLaws.{found_by}
-use borrow.Author.Rules.{rules}
 use Rattle.desk.proofs.reply.label_judged.Goals as goal
 
 pub key_number-requires : goal.key_number-requires

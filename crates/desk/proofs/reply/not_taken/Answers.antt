@@ -1,6 +1,5 @@
 -- `desk::reply::not_taken` meets its contract.
 use mathlib.Core.Path.{refl}
-use borrow.Author.Rules.{rules}
 use Rattle.desk.proofs.reply.not_taken.Goals as goal
 
 pub returns : goal.returns

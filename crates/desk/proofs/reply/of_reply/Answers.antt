@@ -1,6 +1,5 @@
 -- `desk::reply::of_reply` meets its contract.
 use mathlib.Core.Path.{refl}
-use borrow.Author.Rules.{rules}
 use Rattle.desk.proofs.reply.of_reply.Goals as goal
 
 pub returns-in-Desk : goal.returns-in-Desk

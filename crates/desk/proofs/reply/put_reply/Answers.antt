@@ -3,7 +3,6 @@ use Prim.Native.Nat.{◌*◌}
 use mathlib.Core.Path.{refl, ◌∙◌}
 use Rattle.desk.specs.Limits.{cell_size}
 use Rattle.desk.proofs.WrittenLaws.{with_cell_law}
-use borrow.Author.Rules.{rules}
 use Rattle.desk.proofs.reply.put_reply.Goals as goal
 
 pub returns : goal.returns

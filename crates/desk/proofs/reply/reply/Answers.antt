@@ -1,5 +1,4 @@
 -- `desk::reply::reply` meets its contract.
-use borrow.Author.Rules.{rules}
 use Rattle.desk.proofs.reply.reply.Goals as goal
 
 pub returns : goal.returns

@@ -1,6 +1,5 @@
 -- `desk::reply::step_judged` meets its contract.
 use Rattle.desk.proofs.OutcomeLaws.{step_judged}
-use borrow.Author.Rules.{rules}
 use Rattle.desk.proofs.reply.step_judged.Goals as goal
 
 pub returns-in-Taken : goal.returns-in-Taken

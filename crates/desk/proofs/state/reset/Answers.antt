@@ -1,6 +1,5 @@
 -- `desk::state::reset` meets its contract.
 use mathlib.Core.Path.{refl}
-use borrow.Author.Rules.{rules}
 use Rattle.desk.proofs.state.reset.Goals as goal
 
 pub returns : goal.returns

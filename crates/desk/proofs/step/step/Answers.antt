@@ -2,7 +2,6 @@
 use borrow.Author.Tests.{eq-eqb, ne_eqb}
 use Rattle.desk.specs.Step.{step}
 use Rattle.desk.proofs.Below.{not_came, not_left}
-use borrow.Author.Rules.{rules}
 use Rattle.desk.proofs.step.step.Goals as goal
 
 pub returns-then-p-ne0 : goal.returns-then-p-ne0

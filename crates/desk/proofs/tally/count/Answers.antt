@@ -4,7 +4,6 @@ use lib.Dec.{ltb}
 use borrow.Author.Tests.{ltb-true}
 use Rattle.digits.proofs.Tests.{and_l, and_r}
 use Rattle.desk.proofs.TallyLaws.{counts, counts_no_more, counts_nothing}
-use borrow.Author.Rules.{rules}
 use Rattle.desk.proofs.tally.count.Goals as goal
 
 pub offset_bounds-tally-row : goal.offset_bounds-tally-row

@@ -1,8 +1,6 @@
 -- `desk::tally::count_one` meets its contract.
 use native.Mathlib.Omega.{arith}
 use Rattle.frames.proofs.LetterLaws.{letter_below, status_below}
-use Rattle.desk.specs.Tally.{entry_of}
-use borrow.Author.Rules.{rules}
 use Rattle.desk.proofs.tally.count_one.Goals as goal
 
 pub offset_bounds-tally-i : goal.offset_bounds-tally-i

@@ -1,12 +1,9 @@
 -- `desk::tally::is_clear` meets its contract.
-use native.Mathlib.Omega.{arith}
-use mathlib.Core.Path.{◌≡◌, refl, sym, ap, ◌∙◌}
-use Prim.Native.Nat.{ℕ, ◌+◌, ◌-◌, ◌≤◌}
-use lib.Dec.{eqb}
-use lib.ListN.{get_or}
+use mathlib.Core.Path.{refl}
+use Prim.Native.Nat.{ℕ}
 use Rattle.desk.specs.Below.{all_below}
-use Rattle.desk.specs.inside.Counted.{row_clear, is_clear}
-use Rattle.desk.proofs.Below.{all_next, all_end}
+use Rattle.desk.specs.inside.Counted.{is_clear}
+use Rattle.desk.proofs.Below.{all_end}
 use Rattle.desk.proofs.TallyLaws.{row_or}
 use borrow.Author.Rules.{rules}
 use Rattle.desk.proofs.tally.is_clear.Goals as goal

@@ -1,14 +1,9 @@
 -- `desk::tally::is_clear` meets its contract.
-use native.Mathlib.Omega.{arith}
-use mathlib.Core.Path.{◌≡◌, refl, sym, ap, ◌∙◌}
-use Prim.Native.Nat.{ℕ, ◌+◌, ◌-◌, ◌≤◌}
+use mathlib.Core.Path.{◌≡◌}
+use Prim.Native.Nat.{◌-◌, ◌≤◌}
 use lib.Dec.{eqb}
-use lib.ListN.{get_or}
 use Rattle.desk.specs.Below.{all_below}
-use Rattle.desk.specs.inside.Counted.{row_clear, is_clear}
-use Rattle.desk.proofs.Below.{all_next, all_end}
-use Rattle.desk.proofs.TallyLaws.{row_or}
-use borrow.Author.Rules.{rules}
+use Rattle.desk.specs.inside.Counted.{row_clear}
 use Rattle.desk.proofs.tally.is_clear.Given as goal
 
 abbrev pub invariant-loop-i : goal.invariant-loop-i

@@ -4,7 +4,6 @@ use lib.Dec.{ltb}
 use borrow.Author.Tests.{ltb-true}
 use Rattle.digits.proofs.Tests.{and_l, and_r}
 use Rattle.desk.proofs.TallyLaws.{looked, not_looked}
-use borrow.Author.Rules.{rules}
 use Rattle.desk.proofs.tally.look.Goals as goal
 
 pub offset_bounds-tally-i : goal.offset_bounds-tally-i

@@ -1,13 +1,12 @@
 -- `desk::tally::status_index` meets its contract.
 use Prim.Native.Nat.{ℕ, ◌/◌, ◌%◌}
 use mathlib.Core.Bool.{Bool, true, cond}
-use mathlib.Core.Path.{◌≡◌, refl, sym, ap, ◌∙◌}
+use mathlib.Core.Path.{refl, sym, ap, ◌∙◌}
 use lib.Dec.{eqb}
 use borrow.Author.Tests.{eqb-true}
 use Rattle.digits.specs.Text.{one_of, place_of}
 use Rattle.digits.proofs.Tables.{agreed}
 use Rattle.frames.specs.Status.{is_status, status_place}
-use borrow.Author.Rules.{rules}
 use Rattle.desk.proofs.tally.status_index.Goals as goal
 
 pub returns : goal.returns

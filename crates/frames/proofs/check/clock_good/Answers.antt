@@ -3,7 +3,6 @@ use native.Mathlib.Omega.{arith}
 use mathlib.Core.Bool.{◌&&◌}
 use mathlib.Core.Path.{ap₂}
 use Rattle.frames.proofs.CheckLaws.{held, failed, clock_digits, clock_stops, clock_goes_on, clock_bad}
-use borrow.Author.Rules.{rules}
 use Rattle.frames.proofs.check.clock_good.Goals as goal
 
 pub returns-then-not-digits_in : goal.returns-then-not-digits_in

@@ -1,7 +1,6 @@
 -- `frames::check::codes_good` meets its contract.
 use Rattle.frames.specs.inside.Check.{codes_good}
 use Rattle.frames.proofs.CheckLaws.{held, failed}
-use borrow.Author.Rules.{rules}
 use Rattle.frames.proofs.check.codes_good.Goals as goal
 
 pub returns-then-not-is_address : goal.returns-then-not-is_address

@@ -1,12 +1,9 @@
 -- `frames::check::digits_in` meets its contract: `good` says whether the bytes so far are digits.
-use mathlib.Core.Bool.{◌&&◌, and_assoc}
-use mathlib.Core.Path.{◌≡◌, refl}
-use Prim.Native.Nat.{◌-◌}
+use mathlib.Core.Bool.{and_assoc}
+use mathlib.Core.Path.{refl}
 use Rattle.digits.specs.Digits.{is_digit}
 use lib.ListN.{get_or}
 use lib.Dec.{leb}
-use borrow.Author.Rules.{rules}
-use Rattle.frames.specs.Shape.{all_from}
 use Rattle.frames.proofs.TimingLaws.{run_goes, run_done}
 use Rattle.frames.proofs.check.digits_in.Goals as goal
 

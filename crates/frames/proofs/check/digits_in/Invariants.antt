@@ -1,13 +1,9 @@
 -- `frames::check::digits_in` meets its contract: `good` says whether the bytes so far are digits.
-use mathlib.Core.Bool.{◌&&◌, and_assoc}
-use mathlib.Core.Path.{◌≡◌, refl}
+use mathlib.Core.Bool.{◌&&◌}
+use mathlib.Core.Path.{◌≡◌}
 use Prim.Native.Nat.{◌-◌}
 use Rattle.digits.specs.Digits.{is_digit}
-use lib.ListN.{get_or}
-use lib.Dec.{leb}
-use borrow.Author.Rules.{rules}
 use Rattle.frames.specs.Shape.{all_from}
-use Rattle.frames.proofs.TimingLaws.{run_goes, run_done}
 use Rattle.frames.proofs.check.digits_in.Given as goal
 
 abbrev pub invariant-loop-i : goal.invariant-loop-i

@@ -2,7 +2,6 @@
 use native.Mathlib.Omega.{arith}
 use Rattle.digits.specs.Digits.{is_digit}
 use Rattle.frames.proofs.DigitLaws.{parted, two_most, four_is}
-use borrow.Author.Rules.{rules}
 use Rattle.frames.proofs.check.four.Goals as goal
 
 pub two-requires : goal.two-requires

@@ -1,6 +1,5 @@
 -- `frames::check::is_reply` meets its contract.
 use Rattle.frames.proofs.CheckLaws.{held, failed, other_length, no_digits, no_bounds, no_codes, no_values, all_good}
-use borrow.Author.Rules.{rules}
 use Rattle.frames.proofs.check.is_reply.Goals as goal
 
 pub returns-then-s-ne-REPLY_SIZE : goal.returns-then-s-ne-REPLY_SIZE

@@ -1,6 +1,5 @@
 -- `frames::check::label_at` meets its contract.
 use Rattle.frames.specs.Reply.{label_at}
-use borrow.Author.Rules.{rules}
 use Rattle.frames.proofs.check.label_at.Goals as goal
 
 pub returns : goal.returns

@@ -2,7 +2,6 @@
 use mathlib.Core.Bool.{◌&&◌, and-eq-true_iff}
 use mathlib.Core.Path.{ap₂}
 use Rattle.frames.proofs.CheckLaws.{held, failed, net_stops, net_goes_on, net_bad}
-use borrow.Author.Rules.{rules}
 use Rattle.frames.proofs.check.net_good.Goals as goal
 
 pub returns-then-not-digits_in : goal.returns-then-not-digits_in

@@ -1,10 +1,6 @@
 -- `frames::check::raw_in` meets its contract: `good` says whether the bytes so far are raw.
-use mathlib.Core.Bool.{◌&&◌}
-use mathlib.Core.Path.{◌≡◌, refl}
-use Prim.Native.Nat.{◌-◌}
+use mathlib.Core.Path.{refl}
 use Rattle.frames.specs.Rules.{is_raw}
-use borrow.Author.Rules.{rules}
-use Rattle.frames.specs.Shape.{all_from}
 use Rattle.frames.proofs.TimingLaws.{run_goes, run_done}
 use Rattle.frames.proofs.check.raw_in.Goals as goal
 

@@ -1,7 +1,6 @@
 -- `frames::check::sign_good` meets its contract.
 use borrow.Author.Tests.{eq-eqb, ne_eqb}
 use Rattle.frames.specs.inside.Check.{sign_good}
-use borrow.Author.Rules.{rules}
 use Rattle.frames.proofs.check.sign_good.Goals as goal
 
 pub returns-then-s-eq43 : goal.returns-then-s-eq43

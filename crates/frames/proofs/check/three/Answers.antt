@@ -1,7 +1,6 @@
 -- `frames::check::three` meets its contract.
 use native.Mathlib.Omega.{arith}
 use Rattle.frames.proofs.DigitLaws.{three_digits, three_is}
-use borrow.Author.Rules.{rules}
 use Rattle.frames.proofs.check.three.Goals as goal
 
 pub overflow_cast-result : goal.overflow_cast-result

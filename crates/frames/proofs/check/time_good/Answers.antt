@@ -5,7 +5,6 @@ use Prim.Native.Nat.{ℕ, ◌≤◌, ◌<◌}
 use Rattle.digits.specs.Digits.{is_digit}
 use Rattle.frames.proofs.DigitLaws.{parted}
 use Rattle.frames.proofs.CheckLaws.{time_stops, time_goes_on}
-use borrow.Author.Rules.{rules}
 use Rattle.frames.proofs.check.time_good.Goals as goal
 
 pub two-requires : goal.two-requires

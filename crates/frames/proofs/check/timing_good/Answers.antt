@@ -1,7 +1,6 @@
 -- `frames::check::timing_good` meets its contract.
 use mathlib.Core.Path.{◌∙◌}
 use Rattle.frames.proofs.CheckLaws.{raw_good}
-use borrow.Author.Rules.{rules}
 use Rattle.frames.proofs.check.timing_good.Goals as goal
 
 pub returns-in-Clock : goal.returns-in-Clock

@@ -1,7 +1,6 @@
 -- `frames::check::two` meets its contract.
 use native.Mathlib.Omega.{arith}
 use Rattle.frames.proofs.DigitLaws.{two_digits, two_is}
-use borrow.Author.Rules.{rules}
 use Rattle.frames.proofs.check.two.Goals as goal
 
 pub overflow_cast-result : goal.overflow_cast-result

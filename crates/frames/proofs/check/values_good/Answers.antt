@@ -2,7 +2,6 @@
 use native.Mathlib.Omega.{arith}
 use Rattle.frames.proofs.CheckLaws.{numbers}
 use Rattle.frames.specs.inside.Check.{values_good}
-use borrow.Author.Rules.{rules}
 use Rattle.frames.proofs.check.values_good.Goals as goal
 
 pub three-requires : goal.three-requires

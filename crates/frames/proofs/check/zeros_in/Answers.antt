@@ -1,11 +1,7 @@
 -- `frames::check::zeros_in` meets its contract: `good` says whether the bytes so far are the digit 0.
-use mathlib.Core.Bool.{◌&&◌}
-use mathlib.Core.Path.{◌≡◌, refl}
-use Prim.Native.Nat.{◌-◌}
+use mathlib.Core.Path.{refl}
 use Rattle.frames.specs.inside.Check.{is_zero}
 use lib.ListN.{get_or}
-use borrow.Author.Rules.{rules}
-use Rattle.frames.specs.Shape.{all_from}
 use Rattle.frames.proofs.TimingLaws.{run_goes, run_done}
 use Rattle.frames.proofs.check.zeros_in.Goals as goal
 

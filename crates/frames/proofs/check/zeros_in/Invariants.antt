@@ -1,12 +1,9 @@
 -- `frames::check::zeros_in` meets its contract: `good` says whether the bytes so far are the digit 0.
 use mathlib.Core.Bool.{◌&&◌}
-use mathlib.Core.Path.{◌≡◌, refl}
+use mathlib.Core.Path.{◌≡◌}
 use Prim.Native.Nat.{◌-◌}
 use Rattle.frames.specs.inside.Check.{is_zero}
-use lib.ListN.{get_or}
-use borrow.Author.Rules.{rules}
 use Rattle.frames.specs.Shape.{all_from}
-use Rattle.frames.proofs.TimingLaws.{run_goes, run_done}
 use Rattle.frames.proofs.check.zeros_in.Given as goal
 
 abbrev pub invariant-loop-i : goal.invariant-loop-i

@@ -1,5 +1,4 @@
 -- `frames::dynamic::dynamic_at` meets its contract.
-use borrow.Author.Rules.{rules}
 use Rattle.frames.proofs.dynamic.dynamic_at.Goals as goal
 
 pub returns : goal.returns

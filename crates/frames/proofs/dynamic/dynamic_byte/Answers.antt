@@ -1,5 +1,4 @@
 -- `frames::dynamic::dynamic_byte` meets its contract: field by field.
-use borrow.Author.Rules.{rules}
 use mathlib.Core.Path.{◌∙◌}
 use Rattle.frames.proofs.dynamic.dynamic_byte.Goals as goal
 

@@ -1,6 +1,5 @@
 -- `frames::dynamic::put_dynamic` meets its contract: its stores are a single run.
 use mathlib.Core.Path.{◌∙◌}
-use borrow.Author.Rules.{rules}
 use Rattle.frames.specs.Kind.{frame_of}
 use Rattle.frames.proofs.DynamicLaws.{stores_frame}
 use Rattle.frames.proofs.dynamic.put_dynamic.Goals as goal

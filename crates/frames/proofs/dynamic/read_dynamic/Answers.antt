@@ -1,5 +1,4 @@
 -- `frames::dynamic::read_dynamic` meets its contract: the head, then the fields.
-use borrow.Author.Rules.{rules}
 use Rattle.frames.specs.Dynamic.{dynamic}
 use Rattle.frames.specs.inside.Held.{dynamic_at}
 use Rattle.frames.specs.inside.Spoiled.{dynamic_byte}

@@ -1,5 +1,4 @@
 -- `frames::dynamic::write_dynamic` meets its contract: the tests, then the stores.
-use borrow.Author.Rules.{rules}
 use Rattle.frames.specs.Dynamic.{dynamic}
 use Rattle.frames.proofs.KindLaws.{wrote_frame, wrote_nothing}
 use Rattle.frames.proofs.DynamicLaws.{length_dynamic}

@@ -1,7 +1,5 @@
 -- `frames::head::head_of` meets its contract: each test is the definition's.
 use mathlib.Core.Path.{sym, ◌∙◌}
-use borrow.Author.Rules.{rules}
-use borrow.Author.Tests.{not-true, not-false}
 use Rattle.frames.proofs.HeadLaws.{head_kind, head_length, head_end, head_letter, head_address, head_good}
 use Rattle.frames.proofs.head.head_of.Goals as goal
 

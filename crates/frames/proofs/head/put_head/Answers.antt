@@ -1,5 +1,4 @@
 -- `frames::head::put_head` meets its contract.
-use borrow.Author.Rules.{rules}
 use Rattle.frames.proofs.head.put_head.Goals as goal
 
 pub returns : goal.returns

@@ -1,6 +1,5 @@
 -- `frames::refusals::of_reading` meets its contract.
 use mathlib.Core.Path.{refl}
-use borrow.Author.Rules.{rules}
 use Rattle.frames.proofs.refusals.of_reading.Goals as goal
 
 pub returns-in-Kind : goal.returns-in-Kind

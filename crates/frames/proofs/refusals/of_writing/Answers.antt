@@ -1,6 +1,5 @@
 -- `frames::refusals::of_writing` meets its contract.
 use mathlib.Core.Path.{refl}
-use borrow.Author.Rules.{rules}
 use Rattle.frames.proofs.refusals.of_writing.Goals as goal
 
 pub returns-in-Record : goal.returns-in-Record

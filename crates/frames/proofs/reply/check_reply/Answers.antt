@@ -2,7 +2,6 @@
 use Rattle.frames.proofs.ReplyLaws.{check_as, check_refused}
 use mathlib.Core.Path.{◌∙◌}
 use mathlib.Core.Path.{◌∙◌}
-use borrow.Author.Rules.{rules}
 use Rattle.frames.proofs.KindLaws.{passed_long}
 use Rattle.frames.proofs.reply.check_reply.Goals as goal
 

@@ -1,7 +1,6 @@
 -- `frames::reply::fields_checked` meets its contract.
 use Rattle.frames.proofs.ReplyLaws.{checked_good, checked_bad}
 use mathlib.Core.Path.{◌∙◌}
-use borrow.Author.Rules.{rules}
 use Rattle.frames.proofs.reply.fields_checked.Goals as goal
 
 pub returns-then-wrong-eq0 : goal.returns-then-wrong-eq0

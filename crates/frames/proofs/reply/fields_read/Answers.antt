@@ -1,6 +1,5 @@
 -- `frames::reply::fields_read` meets its contract.
 use Rattle.frames.specs.inside.Reply.{fields_read}
-use borrow.Author.Rules.{rules}
 use Rattle.frames.proofs.reply.fields_read.Goals as goal
 
 pub returns : goal.returns

@@ -1,7 +1,6 @@
 -- `frames::reply::frame_wrong` meets its contract.
 use Rattle.frames.specs.Rules.{up_to}
 use Rattle.frames.specs.inside.Reply.{head_wrong}
-use borrow.Author.Rules.{rules}
 use Rattle.frames.proofs.reply.frame_wrong.Goals as goal
 
 -- antt refused `returns` as it was built: the module's report says why

@@ -1,5 +1,4 @@
 -- `frames::reply::head_at` meets its contract.
-use borrow.Author.Rules.{rules}
 use Rattle.frames.proofs.reply.head_at.Goals as goal
 
 pub returns-then-s-ne-REPLY_SIZE : goal.returns-then-s-ne-REPLY_SIZE

@@ -1,5 +1,4 @@
 -- `frames::reply::head_byte` meets its contract: field by field.
-use borrow.Author.Rules.{rules}
 use mathlib.Core.Path.{◌∙◌}
 use Rattle.frames.proofs.reply.head_byte.Goals as goal
 

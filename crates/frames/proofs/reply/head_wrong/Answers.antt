@@ -1,5 +1,4 @@
 -- `frames::reply::head_wrong` meets its contract.
-use borrow.Author.Rules.{rules}
 use Rattle.frames.specs.Rules.{up_to}
 use Rattle.frames.specs.inside.Reply.{head_wrong}
 use Rattle.frames.proofs.reply.head_wrong.Goals as goal

@@ -2,7 +2,6 @@
 use mathlib.Core.Path.{refl, ◌∙◌}
 use Rattle.digits.specs.Text.{one_of, in_set}
 use Rattle.frames.specs.Reply.{is_letter}
-use borrow.Author.Rules.{rules}
 use Rattle.digits.proofs.Tables.{agreed}
 use Rattle.frames.proofs.reply.is_letter.Goals as goal
 

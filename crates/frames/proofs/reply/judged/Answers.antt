@@ -1,5 +1,4 @@
 -- `frames::reply::judged` meets its contract.
-use borrow.Author.Rules.{rules}
 use borrow.Author.Tests.{eq-eqb, ne_eqb}
 use Rattle.frames.specs.inside.Reply.{judged_as}
 use Rattle.frames.proofs.reply.judged.Goals as goal

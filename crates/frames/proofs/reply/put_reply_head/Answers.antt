@@ -1,6 +1,5 @@
 -- `frames::reply::put_reply_head` meets its contract: its stores are a single run.
 use mathlib.Core.Path.{◌∙◌}
-use borrow.Author.Rules.{rules}
 use Rattle.frames.proofs.ReplyLaws.{head_stores}
 use Rattle.frames.proofs.reply.put_reply_head.Goals as goal
 

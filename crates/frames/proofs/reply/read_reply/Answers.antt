@@ -1,5 +1,4 @@
 -- `frames::reply::read_reply` meets its contract: the head, then the fields.
-use borrow.Author.Rules.{rules}
 use Rattle.frames.proofs.KindLaws.{passed_long}
 use Rattle.frames.proofs.ReplyLaws.{refused_as, read_as}
 use Rattle.frames.proofs.reply.read_reply.Goals as goal

@@ -1,5 +1,4 @@
 -- `frames::reply::refused` meets its contract.
-use borrow.Author.Rules.{rules}
 use Rattle.frames.proofs.reply.refused.Goals as goal
 
 pub returns : goal.returns

@@ -1,5 +1,4 @@
 -- `frames::reply::reply_byte` meets its contract.
-use borrow.Author.Rules.{rules}
 use mathlib.Core.Path.{◌∙◌}
 use Rattle.frames.proofs.reply.reply_byte.Goals as goal
 

@@ -2,7 +2,6 @@
 use Rattle.frames.proofs.ReplyLaws.{reply_wrong_is}
 use mathlib.Core.Path.{◌∙◌}
 use mathlib.Core.Path.{◌∙◌}
-use borrow.Author.Rules.{rules}
 use Rattle.frames.proofs.reply.reply_wrong.Goals as goal
 
 pub returns : goal.returns

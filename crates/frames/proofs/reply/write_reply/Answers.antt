@@ -1,5 +1,4 @@
 -- `frames::reply::write_reply` meets its contract: the tests, then the stores.
-use borrow.Author.Rules.{rules}
 use Rattle.frames.specs.Reply.{reply}
 use Rattle.frames.proofs.KindLaws.{wrote_text, wrote_nothing}
 use Rattle.frames.proofs.ReplyLaws.{length_reply, text_is_frame}

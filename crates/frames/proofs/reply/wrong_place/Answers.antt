@@ -1,6 +1,5 @@
 -- `frames::reply::wrong_place` meets its contract.
 use mathlib.Core.Path.{ap}
-use borrow.Author.Rules.{rules}
 use Rattle.frames.specs.inside.Reply.{wrong_place}
 use Rattle.frames.proofs.reply.wrong_place.Goals as goal
 

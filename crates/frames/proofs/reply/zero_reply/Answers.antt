@@ -1,5 +1,4 @@
 -- `frames::reply::zero_reply` meets its contract.
-use borrow.Author.Rules.{rules}
 use Rattle.frames.proofs.reply.zero_reply.Goals as goal
 
 pub returns : goal.returns

@@ -1,5 +1,4 @@
 -- `frames::request::judged` meets its contract.
-use borrow.Author.Rules.{rules}
 use borrow.Author.Tests.{eq-eqb, ne_eqb}
 use Rattle.frames.proofs.request.judged.Goals as goal
 

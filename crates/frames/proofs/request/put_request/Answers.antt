@@ -1,6 +1,5 @@
 -- `frames::request::put_request` meets its contract: its stores are a single run.
 use mathlib.Core.Path.{◌∙◌}
-use borrow.Author.Rules.{rules}
 use Rattle.frames.specs.Kind.{frame_of}
 use Rattle.frames.proofs.RequestLaws.{stores_frame}
 use Rattle.frames.proofs.request.put_request.Goals as goal

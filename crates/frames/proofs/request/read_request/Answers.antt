@@ -1,5 +1,4 @@
 -- `frames::request::read_request` meets its contract: the head, then the fields.
-use borrow.Author.Rules.{rules}
 use Rattle.frames.specs.Request.{request}
 use Rattle.frames.specs.inside.Held.{request_at}
 use Rattle.frames.specs.inside.Spoiled.{request_byte}

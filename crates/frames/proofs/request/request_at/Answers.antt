@@ -1,5 +1,4 @@
 -- `frames::request::request_at` meets its contract.
-use borrow.Author.Rules.{rules}
 use Rattle.frames.proofs.request.request_at.Goals as goal
 
 pub returns : goal.returns

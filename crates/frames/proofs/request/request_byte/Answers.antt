@@ -1,5 +1,4 @@
 -- `frames::request::request_byte` meets its contract: field by field.
-use borrow.Author.Rules.{rules}
 use mathlib.Core.Path.{◌∙◌}
 use Rattle.frames.proofs.request.request_byte.Goals as goal
 

@@ -1,5 +1,4 @@
 -- `frames::request::request_wrong` meets its contract.
-use borrow.Author.Rules.{rules}
 use Rattle.frames.specs.Rules.{up_to}
 use Rattle.frames.specs.Layout.{record_wrong}
 use Rattle.frames.specs.Kind.{wrong_in}

@@ -1,5 +1,4 @@
 -- `frames::request::write_request` meets its contract: the tests, then the stores.
-use borrow.Author.Rules.{rules}
 use Rattle.frames.specs.Request.{request}
 use Rattle.frames.proofs.KindLaws.{wrote_frame, wrote_nothing}
 use Rattle.frames.proofs.RequestLaws.{length_request}

@@ -1,12 +1,7 @@
 -- `frames::spoiled::first_off` meets its contract: each turn of the loop is one look.
 use native.Mathlib.Omega.{arith}
-use mathlib.Core.Path.{◌≡◌, sym, ◌∙◌}
-use Prim.Native.Nat.{◌-◌, ◌≤◌}
-use borrow.Author.Rules.{rules}
-use lib.ListN.{length}
-use Rattle.frames.specs.Classes.{first_off}
-use Rattle.frames.specs.inside.Spoiled.{classes_of}
-use Rattle.frames.proofs.ClassLaws.{left, look_on, look_off, look_done, look_first}
+use mathlib.Core.Path.{sym, ◌∙◌}
+use Rattle.frames.proofs.ClassLaws.{look_on, look_off, look_done, look_first}
 use Rattle.frames.proofs.spoiled.first_off.Goals as goal
 
 pub loop-i-init : goal.loop-i-init

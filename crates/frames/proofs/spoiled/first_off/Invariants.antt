@@ -1,12 +1,10 @@
 -- `frames::spoiled::first_off` meets its contract: each turn of the loop is one look.
-use native.Mathlib.Omega.{arith}
-use mathlib.Core.Path.{◌≡◌, sym, ◌∙◌}
+use mathlib.Core.Path.{◌≡◌}
 use Prim.Native.Nat.{◌-◌, ◌≤◌}
-use borrow.Author.Rules.{rules}
 use lib.ListN.{length}
 use Rattle.frames.specs.Classes.{first_off}
 use Rattle.frames.specs.inside.Spoiled.{classes_of}
-use Rattle.frames.proofs.ClassLaws.{left, look_on, look_off, look_done, look_first}
+use Rattle.frames.proofs.ClassLaws.{left}
 use Rattle.frames.proofs.spoiled.first_off.Given as goal
 
 abbrev pub invariant-loop-i : goal.invariant-loop-i

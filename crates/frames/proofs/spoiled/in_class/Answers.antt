@@ -1,5 +1,4 @@
 -- `frames::spoiled::in_class` meets its contract: one class after the other.
-use borrow.Author.Rules.{rules}
 use borrow.Author.Tests.{eq-eqb, ne_eqb}
 use Rattle.frames.specs.Rules.{between}
 use Rattle.frames.specs.inside.Spoiled.{in_class}

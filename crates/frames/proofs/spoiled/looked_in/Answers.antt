@@ -1,5 +1,4 @@
 -- `frames::spoiled::looked_in` meets its contract.
-use borrow.Author.Rules.{rules}
 use borrow.Author.Tests.{eq-eqb, ne_eqb}
 use Rattle.frames.specs.inside.Spoiled.{looked_in}
 use Rattle.frames.proofs.spoiled.looked_in.Goals as goal

@@ -1,5 +1,4 @@
 -- `frames::timing::as_clock` meets its contract.
-use borrow.Author.Rules.{rules}
 use Rattle.frames.proofs.timing.as_clock.Goals as goal
 
 pub returns-in-Clock : goal.returns-in-Clock

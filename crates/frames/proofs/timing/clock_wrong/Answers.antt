@@ -1,5 +1,4 @@
 -- `frames::timing::clock_wrong` meets its contract.
-use borrow.Author.Rules.{rules}
 use Rattle.frames.specs.inside.Timing.{clock_wrong}
 use Rattle.frames.proofs.timing.clock_wrong.Goals as goal
 

@@ -3,7 +3,6 @@ use Rattle.frames.specs.Timing.{timing_kind}
 use mathlib.Core.Path.{sym, ◌∙◌}
 use borrow.Author.Tests.{eq-eqb, ne_eqb}
 use mathlib.Core.Path.{sym, ◌∙◌}
-use borrow.Author.Rules.{rules}
 use Rattle.frames.proofs.timing.kind_of.Goals as goal
 
 pub returns-then-status-eq-STATUS_Z : goal.returns-then-status-eq-STATUS_Z

@@ -1,6 +1,5 @@
 -- `frames::timing::net_value_wrong` meets its contract.
 use mathlib.Core.Path.{ap, ◌∙◌}
-use borrow.Author.Rules.{rules}
 use mir.Syntax.{w64}
 use mir.ValLaws.{to_z-of_z}
 use Rattle.times.specs.Net.{net_parts}

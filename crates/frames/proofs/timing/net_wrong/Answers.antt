@@ -1,6 +1,5 @@
 -- `frames::timing::net_wrong` meets its contract.
 use Rattle.frames.specs.inside.Timing.{net_wrong}
-use borrow.Author.Rules.{rules}
 use Rattle.frames.proofs.timing.net_wrong.Goals as goal
 
 pub returns : goal.returns

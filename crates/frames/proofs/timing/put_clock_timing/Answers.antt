@@ -1,5 +1,4 @@
 -- `frames::timing::put_clock_timing` meets its contract: its stores are a single run.
-use borrow.Author.Rules.{rules}
 use Rattle.frames.proofs.TimingLaws.{clock_stores}
 use Rattle.frames.proofs.timing.put_clock_timing.Goals as goal
 

@@ -1,5 +1,4 @@
 -- `frames::timing::raw_time_at` meets its contract.
-use borrow.Author.Rules.{rules}
 use Rattle.frames.proofs.timing.raw_time_at.Goals as goal
 
 pub returns : goal.returns

@@ -1,5 +1,4 @@
 -- `frames::timing::seen_at` meets its contract.
-use borrow.Author.Rules.{rules}
 use Rattle.frames.proofs.timing.seen_at.Goals as goal
 
 pub returns-in-Clock : goal.returns-in-Clock

@@ -1,5 +1,4 @@
 -- `frames::timing::seen_clock` meets its contract.
-use borrow.Author.Rules.{rules}
 use Rattle.frames.specs.inside.Timing.{seen_clock}
 use Rattle.frames.proofs.timing.seen_clock.Goals as goal
 

@@ -1,5 +1,4 @@
 -- `frames::timing::seen_net` meets its contract.
-use borrow.Author.Rules.{rules}
 use Rattle.frames.specs.inside.Timing.{seen_net}
 use Rattle.frames.proofs.timing.seen_net.Goals as goal
 

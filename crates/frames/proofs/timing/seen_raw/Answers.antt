@@ -1,5 +1,4 @@
 -- `frames::timing::seen_raw` meets its contract.
-use borrow.Author.Rules.{rules}
 use Rattle.frames.specs.inside.Timing.{seen_raw}
 use Rattle.frames.proofs.timing.seen_raw.Goals as goal
 

@@ -1,5 +1,4 @@
 -- `frames::timing::spare_wrong` meets its contract.
-use borrow.Author.Rules.{rules}
 use Rattle.frames.proofs.timing.spare_wrong.Goals as goal
 
 pub returns : goal.returns

@@ -1,5 +1,4 @@
 -- `frames::timing::timing_byte` meets its contract, kind by kind.
-use borrow.Author.Rules.{rules}
 use mathlib.Core.Path.{◌∙◌}
 use Rattle.frames.proofs.timing.timing_byte.Goals as goal
 

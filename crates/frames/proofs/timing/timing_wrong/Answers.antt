@@ -1,6 +1,5 @@
 -- `frames::timing::timing_wrong` meets its contract.
 use mathlib.Core.Path.{◌∙◌}
-use borrow.Author.Rules.{rules}
 use Rattle.frames.proofs.timing.timing_wrong.Goals as goal
 
 pub returns-in-Clock : goal.returns-in-Clock

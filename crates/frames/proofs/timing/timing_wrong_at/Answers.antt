@@ -1,6 +1,5 @@
 -- `frames::timing::timing_wrong_at` meets its contract.
 use Rattle.frames.specs.inside.Timing.{seen_clock, seen_net, seen_raw}
-use borrow.Author.Rules.{rules}
 use Rattle.frames.proofs.timing.timing_wrong_at.Goals as goal
 
 pub returns-in-Clock : goal.returns-in-Clock

@@ -1,5 +1,4 @@
 -- `frames::timing::unused_wrong` meets its contract.
-use borrow.Author.Rules.{rules}
 use Rattle.frames.proofs.timing.unused_wrong.Goals as goal
 
 pub returns : goal.returns

@@ -1,13 +1,10 @@
 -- `frames::timing::zero_run` meets its contract: `good` says whether the bytes so far are zero.
 use native.Mathlib.Omega.{arith}
 use native.Mathlib.Nat.{sub-zero}
-use mathlib.Core.Bool.{Bool, ◌&&◌}
-use mathlib.Core.Path.{◌≡◌, refl}
-use Prim.Native.Nat.{◌-◌, ◌≤◌}
+use mathlib.Core.Bool.{Bool}
+use mathlib.Core.Path.{refl}
 use Prim.Native.Nat.{ℕ}
 use lib.Dec.{eqb}
-use borrow.Author.Rules.{rules}
-use Rattle.frames.specs.Shape.{all_from}
 use Rattle.frames.proofs.TimingLaws.{run_goes, run_done}
 use Rattle.frames.proofs.timing.zero_run.Goals as goal
 

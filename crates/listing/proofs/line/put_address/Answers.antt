@@ -1,11 +1,8 @@
 -- `listing::line::put_address` meets its contract.
 use native.Mathlib.Omega.{arith}
 use mathlib.Core.List.{[], ◌∷◌}
-use lib.ListN.{get_or}
-use borrow.Author.Rules.{rules}
 use Rattle.text.specs.Lines.{TAB}
 use Rattle.text.proofs.PutLaws.{put_then}
-use Rattle.listing.specs.Text.{address_shown}
 use Rattle.listing.proofs.ColumnLaws.{address_part}
 use Rattle.listing.proofs.line.put_address.Goals as goal
 

@@ -1,6 +1,5 @@
 -- `listing::line::put_column` meets its contract.
 use native.Mathlib.Omega.{arith}
-use borrow.Author.Rules.{rules}
 use Rattle.text.proofs.PutLaws.{put_then}
 use Rattle.finder.proofs.Step.{part_is}
 use Rattle.listing.proofs.line.put_column.Goals as goal

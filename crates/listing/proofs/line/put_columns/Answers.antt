@@ -4,7 +4,6 @@ use Prim.Native.Nat.{◌≤◌}
 use lib.ListN.{length}
 use Rattle.text.specs.Put.{most_place}
 use mathlib.Core.Path.{◌∙◌}
-use borrow.Author.Rules.{rules}
 use Rattle.text.proofs.PutLaws.{put_none}
 use Rattle.listing.specs.Text.{columns}
 use Rattle.listing.proofs.ColumnLaws.{column_more}

@@ -1,7 +1,6 @@
 -- `listing::line::put_end` meets its contract.
 use native.Mathlib.Omega.{arith}
 use mathlib.Core.Path.{◌∙◌}
-use borrow.Author.Rules.{rules}
 use Rattle.text.proofs.PutLaws.{put_then, put_parted}
 use Rattle.listing.specs.Text.{end_text}
 use Rattle.listing.proofs.line.put_end.Goals as goal

@@ -1,6 +1,5 @@
 -- `listing::line::put_row` meets its contract.
 use native.Mathlib.Omega.{arith}
-use borrow.Author.Rules.{rules}
 use Prim.Native.Nat.{ℕ}
 use lib.ListN.{replicate, length-replicate}
 use Rattle.text.proofs.PutLaws.{put_beyond}

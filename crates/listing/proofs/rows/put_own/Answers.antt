@@ -2,7 +2,6 @@
 use borrow.Author.Tests.{eq-eqb, ne_eqb}
 use native.Mathlib.Omega.{arith}
 use Rattle.text.proofs.PutLaws.{put_none}
-use borrow.Author.Rules.{rules}
 use Rattle.listing.proofs.rows.put_own.Goals as goal
 
 pub returns-then-mark-seat : goal.returns-then-mark-seat

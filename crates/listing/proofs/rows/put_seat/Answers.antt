@@ -1,13 +1,9 @@
 -- `listing::rows::put_seat` meets its contract.
-use lib.ListN.{length}
 use Rattle.desk.specs.Memory.{records_of}
-use Rattle.listing.specs.Text.{rows_text}
-use Rattle.text.specs.Put.{Put}
 use Rattle.text.proofs.PutLaws.{put_none}
 use Rattle.listing.proofs.RowLaws.{cell_whole, seat_more}
 use native.Mathlib.Omega.{arith}
 use mathlib.Core.Path.{◌≡◌, refl, ◌∙◌}
-use Prim.Native.Nat.{◌-◌, ◌≤◌}
 use borrow.Author.Rules.{rules}
 use Rattle.listing.proofs.rows.put_seat.Goals as goal
 

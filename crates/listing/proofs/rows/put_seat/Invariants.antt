@@ -3,12 +3,8 @@ use lib.ListN.{length}
 use Rattle.desk.specs.Memory.{records_of}
 use Rattle.listing.specs.Text.{rows_text}
 use Rattle.text.specs.Put.{Put}
-use Rattle.text.proofs.PutLaws.{put_none}
-use Rattle.listing.proofs.RowLaws.{cell_whole, seat_more}
-use native.Mathlib.Omega.{arith}
-use mathlib.Core.Path.{◌≡◌, refl, ◌∙◌}
+use mathlib.Core.Path.{◌≡◌}
 use Prim.Native.Nat.{◌-◌, ◌≤◌}
-use borrow.Author.Rules.{rules}
 use Rattle.listing.proofs.rows.put_seat.Given as goal
 
 abbrev pub invariant-loop-i : goal.invariant-loop-i

@@ -1,13 +1,10 @@
 -- `listing::rows::put_seats` meets its contract.
-use lib.ListN.{length}
 use Rattle.desk.specs.Limits.{seat_count}
-use Rattle.text.specs.Put.{Put}
 use Rattle.text.proofs.PutLaws.{put_none}
 use Rattle.listing.specs.inside.Rows.{seats_of}
 use Rattle.listing.proofs.RowLaws.{seats_more}
 use native.Mathlib.Omega.{arith}
 use mathlib.Core.Path.{◌≡◌, refl, ◌∙◌}
-use Prim.Native.Nat.{◌-◌, ◌≤◌}
 use borrow.Author.Rules.{rules}
 use Rattle.listing.proofs.rows.put_seats.Goals as goal
 

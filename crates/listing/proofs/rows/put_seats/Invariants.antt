@@ -2,13 +2,9 @@
 use lib.ListN.{length}
 use Rattle.desk.specs.Limits.{seat_count}
 use Rattle.text.specs.Put.{Put}
-use Rattle.text.proofs.PutLaws.{put_none}
 use Rattle.listing.specs.inside.Rows.{seats_of}
-use Rattle.listing.proofs.RowLaws.{seats_more}
-use native.Mathlib.Omega.{arith}
-use mathlib.Core.Path.{◌≡◌, refl, ◌∙◌}
+use mathlib.Core.Path.{◌≡◌}
 use Prim.Native.Nat.{◌-◌, ◌≤◌}
-use borrow.Author.Rules.{rules}
 use Rattle.listing.proofs.rows.put_seats.Given as goal
 
 abbrev pub invariant-loop-s : goal.invariant-loop-s

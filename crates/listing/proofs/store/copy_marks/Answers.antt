@@ -1,11 +1,10 @@
 -- `listing::store::copy_marks` meets its contract.
 use mathlib.Core.List.{List}
-use lib.ListN.{length, take, get_or, set, length-set}
-use lib.Seq.{sets}
+use lib.ListN.{get_or, set, length-set}
 use Rattle.listing.proofs.StoreLaws.{copy_more, copy_whole}
 use native.Mathlib.Omega.{arith}
 use mathlib.Core.Path.{◌≡◌, refl, ap, ◌∙◌}
-use Prim.Native.Nat.{ℕ, ◌-◌, ◌≤◌}
+use Prim.Native.Nat.{ℕ}
 use borrow.Author.Rules.{rules}
 use Rattle.listing.proofs.store.copy_marks.Goals as goal
 

@@ -1,12 +1,8 @@
 -- `listing::store::copy_marks` meets its contract.
-use mathlib.Core.List.{List}
-use lib.ListN.{length, take, get_or, set, length-set}
+use lib.ListN.{length, take}
 use lib.Seq.{sets}
-use Rattle.listing.proofs.StoreLaws.{copy_more, copy_whole}
-use native.Mathlib.Omega.{arith}
-use mathlib.Core.Path.{◌≡◌, refl, ap, ◌∙◌}
-use Prim.Native.Nat.{ℕ, ◌-◌, ◌≤◌}
-use borrow.Author.Rules.{rules}
+use mathlib.Core.Path.{◌≡◌}
+use Prim.Native.Nat.{◌-◌, ◌≤◌}
 use Rattle.listing.proofs.store.copy_marks.Given as goal
 
 abbrev pub invariant-loop-i : goal.invariant-loop-i

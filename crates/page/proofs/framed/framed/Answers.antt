@@ -1,5 +1,5 @@
 -- `page::framed::framed` meets its contract.
-use Rattle.std.proofs.Common.{◌≡◌, ℕ, ◌+◌, ◌≤◌, List, ◌∷◌, length, take, drop, set, replicate, ap, ◌∙◌, arith, rules}
+use Rattle.std.proofs.Common.{◌≡◌, ℕ, ◌+◌, ◌≤◌, List, ◌∷◌, length, take, drop, set, replicate, ap, ◌∙◌, arith}
 use lib.Seq.{sets, sets-eq, slice, length-slice}
 use Rattle.frames.specs.Kind.{CR}
 use Rattle.page.specs.inside.Machine.{framed}

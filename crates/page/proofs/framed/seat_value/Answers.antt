@@ -1,5 +1,5 @@
 -- `page::framed::seat_value` meets its contract.
-use Rattle.std.proofs.Common.{◌≡◌, ℕ, ◌-◌, ◌<◌, true, false, ◌&&◌, leb, arith, rules}
+use Rattle.std.proofs.Common.{◌≡◌, ℕ, ◌-◌, ◌<◌, true, false, ◌&&◌, leb, arith}
 use Rattle.digits.specs.Digits.{is_digit}
 use Rattle.digits.proofs.Reading.{between}
 use Rattle.page.specs.Version.{digit_seat}

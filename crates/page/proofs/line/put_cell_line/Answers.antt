@@ -1,5 +1,5 @@
 -- `page::line::put_cell_line` meets its contract.
-use Rattle.std.proofs.Common.{arith, rules}
+use Rattle.std.proofs.Common.{arith}
 use Rattle.page.proofs.LineLaws.{put_cell_together}
 use Rattle.page.proofs.line.put_cell_line.Goals as goal
 

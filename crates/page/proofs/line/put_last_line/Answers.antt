@@ -1,5 +1,4 @@
 -- `page::line::put_last_line` meets its contract.
-use Rattle.std.proofs.Common.{rules}
 use Rattle.page.proofs.LineLaws.{put_last_together}
 use Rattle.page.proofs.line.put_last_line.Goals as goal
 

@@ -1,5 +1,4 @@
 -- `page::line::put_seat_line` meets its contract.
-use Rattle.std.proofs.Common.{rules}
 use Rattle.page.proofs.LineLaws.{put_seat_together}
 use Rattle.page.proofs.line.put_seat_line.Goals as goal
 

@@ -1,5 +1,5 @@
 -- `page::line::seat_digit` meets its contract.
-use Rattle.std.proofs.Common.{rules, le-ltb, lt-ltb}
+use Rattle.std.proofs.Common.{le-ltb, lt-ltb}
 use Rattle.page.specs.Version.{seat_digit}
 use Rattle.page.proofs.line.seat_digit.Goals as goal
 

@@ -1,15 +1,12 @@
 -- `page::read::check` meets its contract: after each line, what the machine has to say of the text is what it still has to say from there on.
-use Rattle.std.proofs.Common.{◌≡◌, ℕ, ◌+◌, ◌-◌, ◌≤◌, List, length, sym, ◌∙◌, add-one, arith, rules}
-use borrow.Author.Tests.{not-true, not-false}
+use Rattle.std.proofs.Common.{◌≡◌, ℕ, ◌+◌, ◌-◌, ◌≤◌, List, length}
 use Rattle.lines.specs.Machine.{verdict}
 use Rattle.desk.specs.declared.state.Seat.{Seat}
-use Rattle.desk.proofs.Below.{not_came, not_left}
 use Rattle.page.specs.declared.take.Sofar.{Sofar}
 use Rattle.page.specs.Version.{one}
 use Rattle.page.specs.inside.Machine.{machine}
 use Rattle.page.specs.inside.Taking.{Small}
 use Rattle.page.specs.inside.Checking.{left_from, read_to}
-use Rattle.page.proofs.ReadLaws.{part_line, part_size, first_by, line_inside, at_last, first_small, first_short, first_wrong, first_on, line_on, line_off, line_more, text_short, text_ends}
 use Rattle.page.proofs.read.check.Given as goal
 
 pub record Came (text : List ℕ) (at : ℕ) (row : List Seat) (s : Sofar) (n : ℕ) : Type 0 where

@@ -1,5 +1,4 @@
 -- `page::read::check_page` meets its contract.
-use Rattle.std.proofs.Common.{rules}
 use Rattle.page.proofs.DoneLaws.{checked_good, checked_page}
 use Rattle.page.proofs.read.check_page.Goals as goal
 

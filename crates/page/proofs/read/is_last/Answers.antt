@@ -1,5 +1,4 @@
 -- `page::read::is_last` meets its contract.
-use Rattle.std.proofs.Common.{rules}
 use Rattle.text.proofs.PutLaws.{put_whole}
 use Rattle.page.specs.Version.{one}
 use Rattle.page.proofs.VersionLaws.{one_shows_all}

@@ -1,5 +1,5 @@
 -- `page::read::wrong` meets its contract: no line is number 0.
-use Rattle.std.proofs.Common.{arith, rules, ne_eqb}
+use Rattle.std.proofs.Common.{arith, ne_eqb}
 use Rattle.page.proofs.read.wrong.Goals as goal
 
 pub returns : goal.returns

@@ -1,11 +1,9 @@
 -- `page::store::store` meets its contract.
-use Rattle.std.proofs.Common.{◌≡◌, ℕ, ◌-◌, ◌≤◌, List, length, refl, ap, ◌∙◌, arith, length-set, rules}
+use Rattle.std.proofs.Common.{◌≡◌, length, refl, ap, ◌∙◌, arith, length-set, rules}
 use lib.Seq.{length-sets}
-use Rattle.desk.specs.Tally.{Table}
-use Rattle.page.specs.inside.Stored.{begins_at, stored_cells, stored_marks, stored_tally}
+use Rattle.page.specs.inside.Stored.{stored_cells, stored_marks, stored_tally}
 use Rattle.page.proofs.TurnLaws.{frame_here, cells_more, marks_more, tally_more}
 use Rattle.page.proofs.store.store.Goals as goal
-use Rattle.page.proofs.store.store.Invariants.{Sofar}
 
 pub loop-j-init : goal.loop-j-init
 unfolding stored_cells stored_marks stored_tally

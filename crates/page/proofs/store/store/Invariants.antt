@@ -1,9 +1,7 @@
 -- `page::store::store` meets its contract.
-use Rattle.std.proofs.Common.{◌≡◌, ℕ, ◌-◌, ◌≤◌, List, length, refl, ap, ◌∙◌, arith, length-set, rules}
-use lib.Seq.{length-sets}
+use Rattle.std.proofs.Common.{◌≡◌, ℕ, ◌-◌, ◌≤◌, List, length}
 use Rattle.desk.specs.Tally.{Table}
 use Rattle.page.specs.inside.Stored.{begins_at, stored_cells, stored_marks, stored_tally}
-use Rattle.page.proofs.TurnLaws.{frame_here, cells_more, marks_more, tally_more}
 use Rattle.page.proofs.store.store.Given as goal
 
 pub record Sofar (text : List ℕ) (from held : ℕ) (cells₀ marks₀ cells marks : List ℕ) (tally : Table) (at j : ℕ) : Type 0 where

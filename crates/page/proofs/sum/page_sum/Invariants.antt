@@ -1,7 +1,6 @@
 -- `page::sum::page_sum` meets its contract: the sum of the bytes passed, modulo 65,536.
-use Rattle.std.proofs.Common.{◌≡◌, ℕ, ◌-◌, ◌%◌, ◌≤◌, List, length, take, ap, ◌∙◌, arith, take_all, rules}
+use Rattle.std.proofs.Common.{◌≡◌, ◌-◌, ◌%◌, ◌≤◌, length, take}
 use Rattle.page.specs.Sum.{sum_of, sum_modulus}
-use Rattle.page.proofs.SumLaws.{sum_more}
 use Rattle.page.proofs.sum.page_sum.Given as goal
 
 abbrev pub invariant-loop-i : goal.invariant-loop-i

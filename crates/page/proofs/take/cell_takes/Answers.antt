@@ -1,5 +1,4 @@
 -- `page::take::cell_takes` meets its contract.
-use Rattle.std.proofs.Common.{rules}
 use Rattle.desk.specs.Step.{progress_of}
 use Rattle.desk.proofs.ReplayLaws.{goes_step}
 use Rattle.page.specs.inside.Taking.{cell_hears, cell_takes}

@@ -1,5 +1,5 @@
 -- `page::take::cell_turn` meets its contract.
-use Rattle.std.proofs.Common.{ℕ, ◌-◌, ap, ◌∙◌, rules}
+use Rattle.std.proofs.Common.{ℕ, ◌-◌, ap, ◌∙◌}
 use Rattle.desk.proofs.Below.{not_came, not_left}
 use Rattle.page.proofs.take.cell_turn.Goals as goal
 

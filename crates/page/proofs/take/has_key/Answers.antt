@@ -1,5 +1,4 @@
 -- `page::take::has_key` meets its contract.
-use Rattle.std.proofs.Common.{rules}
 use Rattle.desk.specs.Seats.{keyed}
 use Rattle.page.proofs.take.has_key.Goals as goal
 

@@ -1,8 +1,6 @@
 -- `page::take::is_new` meets its contract.
-use Rattle.std.proofs.Common.{◌≡◌, ◌-◌, ◌≤◌, sym, refl, ◌∙◌, rules}
-use Rattle.desk.specs.Limits.{seat_count}
+use Rattle.std.proofs.Common.{sym, refl, ◌∙◌, rules}
 use Rattle.desk.specs.Below.{first}
-use Rattle.desk.specs.Seats.{keyed_at}
 use Rattle.desk.proofs.Below.{first_more}
 use Rattle.page.proofs.TakeLaws.{key_met, key_new}
 use Rattle.page.proofs.take.is_new.Goals as goal

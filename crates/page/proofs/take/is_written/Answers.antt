@@ -1,5 +1,5 @@
 -- `page::take::is_written` meets its contract.
-use Rattle.std.proofs.Common.{ℕ, List, ap, ◌∙◌, rules}
+use Rattle.std.proofs.Common.{ℕ, List, ap, ◌∙◌}
 use Rattle.text.proofs.PutLaws.{put_whole}
 use Rattle.lines.specs.Tokens.{same}
 use Rattle.page.specs.Version.{one}

@@ -1,5 +1,5 @@
 -- `page::take::key_shown` meets its contract.
-use Rattle.std.proofs.Common.{arith, rules}
+use Rattle.std.proofs.Common.{arith}
 use Rattle.page.proofs.take.key_shown.Goals as goal
 
 pub overflow_cast-result-2 : goal.overflow_cast-result-2

@@ -1,6 +1,5 @@
 -- `page::take::same_bytes` meets its contract.
-use Rattle.std.proofs.Common.{◌≡◌, ◌-◌, ◌≤◌, ◌&&◌, length, drop, refl, rules}
-use Rattle.lines.specs.Tokens as L
+use Rattle.std.proofs.Common.{refl, rules}
 use Rattle.page.proofs.SameLaws.{same_apart, same_turn, same_end}
 use Rattle.page.proofs.take.same_bytes.Goals as goal
 

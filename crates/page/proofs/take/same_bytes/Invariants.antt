@@ -1,7 +1,6 @@
 -- `page::take::same_bytes` meets its contract.
-use Rattle.std.proofs.Common.{◌≡◌, ◌-◌, ◌≤◌, ◌&&◌, length, drop, refl, rules}
+use Rattle.std.proofs.Common.{◌≡◌, ◌-◌, ◌≤◌, ◌&&◌, length, drop}
 use Rattle.lines.specs.Tokens as L
-use Rattle.page.proofs.SameLaws.{same_apart, same_turn, same_end}
 use Rattle.page.proofs.take.same_bytes.Given as goal
 
 abbrev pub invariant-loop-i : goal.invariant-loop-i

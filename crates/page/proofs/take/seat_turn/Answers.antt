@@ -1,5 +1,5 @@
 -- `page::take::seat_turn` meets its contract.
-use Rattle.std.proofs.Common.{◌≡◌, true, arith, rules}
+use Rattle.std.proofs.Common.{◌≡◌, true, arith}
 use Rattle.desk.proofs.Below.{not_came, not_left}
 use Rattle.page.specs.inside.Taking.{seat_takes}
 use Rattle.page.proofs.TakeLaws.{seat_test, Adds, seat_adds}

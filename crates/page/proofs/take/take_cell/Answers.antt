@@ -1,5 +1,5 @@
 -- `page::take::take_cell` meets its contract.
-use Rattle.std.proofs.Common.{◌≡◌, ℕ, ◌&&◌, eqb, List, get_or, ap, ◌∙◌, rules}
+use Rattle.std.proofs.Common.{◌≡◌, ℕ, ◌&&◌, eqb, List, get_or, ap, ◌∙◌}
 use Rattle.text.specs.Lines.{TAB, LF}
 use Rattle.frames.specs.Kind.{read}
 use Rattle.frames.specs.Reply.{reply, is_good}

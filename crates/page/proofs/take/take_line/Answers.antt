@@ -1,5 +1,4 @@
 -- `page::take::take_line` meets its contract.
-use Rattle.std.proofs.Common.{rules}
 use Rattle.page.proofs.TakeLaws.{other_line}
 use Rattle.page.proofs.take.take_line.Goals as goal
 

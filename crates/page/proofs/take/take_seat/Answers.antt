@@ -1,5 +1,5 @@
 -- `page::take::take_seat` meets its contract.
-use Rattle.std.proofs.Common.{◌≡◌, ◌≤◌, Bool, true, ◌&&◌, leb, ap, rules, leb-true}
+use Rattle.std.proofs.Common.{◌≡◌, ◌≤◌, Bool, true, ◌&&◌, leb, ap, leb-true}
 use Rattle.digits.proofs.Tests.{and_l, and_r}
 use Rattle.desk.specs.Key.{is_key}
 use Rattle.desk.proofs.Below.{not_came, not_left}

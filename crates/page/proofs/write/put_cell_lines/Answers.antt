@@ -1,11 +1,8 @@
 -- `page::write::put_cell_lines` meets its contract.
-use Rattle.std.proofs.Common.{◌≡◌, ◌-◌, ◌≤◌, length, refl, ◌∙◌, arith, rules}
-use Rattle.text.specs.Put.{Put}
+use Rattle.std.proofs.Common.{◌≡◌, refl, ◌∙◌, arith, rules}
 use Rattle.text.proofs.PutLaws.{put_none}
 use Rattle.desk.proofs.ClauseLaws.{part_cell}
-use Rattle.page.specs.Version.{one}
 use Rattle.page.specs.Page.{cell_lines}
-use Rattle.page.specs.inside.Writing.{of_cells}
 use Rattle.page.proofs.RowLaws.{cell_long, cells_more}
 use Rattle.page.proofs.write.put_cell_lines.Goals as goal
 

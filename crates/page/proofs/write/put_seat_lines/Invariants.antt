@@ -1,12 +1,10 @@
 -- `page::write::put_seat_lines` meets its contract.
-use Rattle.std.proofs.Common.{◌≡◌, ◌-◌, ◌≤◌, length, refl, ◌∙◌, arith, rules}
+use Rattle.std.proofs.Common.{◌≡◌, ◌-◌, ◌≤◌, length}
 use Rattle.text.specs.Put.{Put}
-use Rattle.text.proofs.PutLaws.{put_none}
 use Rattle.desk.specs.Limits.{seat_count}
 use Rattle.page.specs.Version.{one}
 use Rattle.page.specs.Page.{seat_lines}
 use Rattle.page.specs.inside.Writing.{of_seats}
-use Rattle.page.proofs.RowLaws.{seats_more}
 use Rattle.page.proofs.write.put_seat_lines.Given as goal
 
 abbrev pub invariant-loop-s : goal.invariant-loop-s

@@ -1,5 +1,5 @@
 -- `page::write::put_used` meets its contract.
-use Rattle.std.proofs.Common.{arith, rules, eq-eqb, ne_eqb}
+use Rattle.std.proofs.Common.{arith, eq-eqb, ne_eqb}
 use Rattle.text.proofs.PutLaws.{put_none}
 use Rattle.page.proofs.write.put_used.Goals as goal
 

@@ -1,5 +1,5 @@
 -- `page::write::write_page` meets its contract.
-use Rattle.std.proofs.Common.{◌≡◌, true, arith, rules}
+use Rattle.std.proofs.Common.{◌≡◌, true, arith}
 use Rattle.desk.specs.Memory.{Memory, memory}
 use Rattle.desk.specs.Desk.{is_desk}
 use Rattle.desk.proofs.Below.{not_came, not_left}

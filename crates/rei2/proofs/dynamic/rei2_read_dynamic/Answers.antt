@@ -1,7 +1,6 @@
 -- `rei2::dynamic::rei2_read_dynamic` meets its contract.
 use Rattle.rei2.specs.Frames.{dynamic_answer}
 use mathlib.Core.Path.{ap}
-use borrow.Author.Rules.{rules}
 use Rattle.rei2.proofs.dynamic.rei2_read_dynamic.Goals as goal
 
 pub returns-in-Request : goal.returns-in-Request

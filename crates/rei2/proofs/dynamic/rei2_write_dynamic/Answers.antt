@@ -1,7 +1,6 @@
 -- `rei2::dynamic::rei2_write_dynamic` meets its contract.
 use Rattle.rei2.specs.Frames.{written_answer}
 use mathlib.Core.Path.{ap}
-use borrow.Author.Rules.{rules}
 use Rattle.rei2.proofs.dynamic.rei2_write_dynamic.Goals as goal
 
 pub returns : goal.returns

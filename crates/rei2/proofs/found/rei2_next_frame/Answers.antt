@@ -3,7 +3,6 @@ use Rattle.finder.specs.declared.Found.{Found}
 use Rattle.rei2.specs.Calls.{frame_answer}
 use mathlib.Core.Path.{ap}
 use lib.ListN.{length}
-use borrow.Author.Rules.{rules}
 use Rattle.rei2.proofs.found.rei2_next_frame.Goals as goal
 
 pub returns-in-Whole : goal.returns-in-Whole

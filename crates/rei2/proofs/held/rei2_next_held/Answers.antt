@@ -1,7 +1,6 @@
 -- `rei2::held::rei2_next_held` meets its contract.
 use Rattle.rei2.specs.Calls.{cell_answer}
 use mathlib.Core.Path.{ap}
-use borrow.Author.Rules.{rules}
 use Rattle.rei2.proofs.held.rei2_next_held.Goals as goal
 
 pub returns-in-Cell : goal.returns-in-Cell

@@ -1,6 +1,5 @@
 -- `rei2::lent::capture_row` meets its contract.
 use Rattle.rei2.proofs.NumberLaws.{captured_is}
-use borrow.Author.Rules.{rules}
 use Rattle.rei2.proofs.lent.capture_row.Goals as goal
 
 pub returns : goal.returns

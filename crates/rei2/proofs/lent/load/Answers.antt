@@ -1,4 +1,4 @@
-use Rattle.std.proofs.Common.{◌≡◌, ◌<◌, ◌+◌, arith, rules}
+use Rattle.std.proofs.Common.{◌<◌, ◌+◌, arith}
 use Rattle.rei2.proofs.RowLaws.{copied_next}
 use Rattle.rei2.proofs.lent.load.Goals as goal
 

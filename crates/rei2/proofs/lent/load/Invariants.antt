@@ -1,5 +1,5 @@
 -- The first i seats are copied.
-use Rattle.std.proofs.Common.{◌≡◌, ◌-◌, ◌≤◌, length}
+use Rattle.std.proofs.Common.{◌≡◌, ◌-◌, ◌≤◌}
 use Rattle.std.proofs.Math.Seq.{paste}
 use Rattle.desk.specs.Limits.{seat_count}
 use Rattle.rei2.proofs.lent.load.Given as goal

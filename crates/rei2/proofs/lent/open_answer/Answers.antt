@@ -1,6 +1,5 @@
 -- `rei2::lent::open_answer` meets its contract.
 use mathlib.Core.Path.{refl}
-use borrow.Author.Rules.{rules}
 use Rattle.rei2.proofs.lent.open_answer.Goals as goal
 
 pub returns-in-Opened : goal.returns-in-Opened

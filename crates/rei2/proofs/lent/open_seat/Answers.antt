@@ -1,6 +1,5 @@
 -- `rei2::lent::open_seat` meets its contract.
 use Rattle.rei2.proofs.NumberLaws.{opening_place, step_place, one_seat_is}
-use borrow.Author.Rules.{rules}
 use Rattle.rei2.proofs.lent.open_seat.Goals as goal
 
 pub open_answer-said-requires : goal.open_answer-said-requires

@@ -1,5 +1,5 @@
 -- A row that does not have sixteen seats is no desk; otherwise it is the call by value, stored back.
-use Rattle.std.proofs.Common.{◌≡◌, List, length, subst, ne_eqb}
+use Rattle.std.proofs.Common.{List, subst, ne_eqb}
 use Rattle.desk.specs.declared.state.Seat.{Seat}
 use Rattle.rei2.specs.inside.Core.{CoreOpen}
 use Rattle.rei2.proofs.LentLaws.{done_open, refused_open}

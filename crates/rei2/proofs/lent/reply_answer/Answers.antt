@@ -1,6 +1,5 @@
 -- `rei2::lent::reply_answer` meets its contract.
 use mathlib.Core.Path.{refl}
-use borrow.Author.Rules.{rules}
 use Rattle.rei2.proofs.lent.reply_answer.Goals as goal
 
 pub returns-in-Taken : goal.returns-in-Taken

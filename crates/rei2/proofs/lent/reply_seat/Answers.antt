@@ -1,6 +1,5 @@
 -- `rei2::lent::reply_seat` meets its contract.
 use Rattle.rei2.proofs.NumberLaws.{reply_place, step_place, one_seat_is}
-use borrow.Author.Rules.{rules}
 use Rattle.rei2.proofs.lent.reply_seat.Goals as goal
 
 pub reply_answer-said-requires : goal.reply_answer-said-requires

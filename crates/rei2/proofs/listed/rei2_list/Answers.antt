@@ -1,7 +1,6 @@
 -- `rei2::listed::rei2_list` meets its contract.
 use Rattle.rei2.specs.Calls.{list_answer}
 use mathlib.Core.Path.{ap}
-use borrow.Author.Rules.{rules}
 use Rattle.rei2.proofs.listed.rei2_list.Goals as goal
 
 pub returns-in-Written : goal.returns-in-Written

@@ -1,7 +1,6 @@
 -- `rei2::look::rei2_look` meets its contract.
 use Rattle.rei2.specs.Look.{look_answer}
 use mathlib.Core.Path.{ap}
-use borrow.Author.Rules.{rules}
 use Rattle.rei2.proofs.look.rei2_look.Goals as goal
 
 pub returns-in-Held : goal.returns-in-Held

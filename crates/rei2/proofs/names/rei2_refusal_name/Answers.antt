@@ -1,6 +1,5 @@
 -- `rei2::names::rei2_refusal_name` meets its contract.
 use mathlib.Core.Path.{ap, ◌∙◌}
-use borrow.Author.Rules.{rules}
 use Rattle.rei2.specs.Names.{name_of}
 use Rattle.rei2.proofs.NameLaws.{names_tell, none_below, named}
 use Rattle.rei2.proofs.names.rei2_refusal_name.Goals as goal

@@ -1,6 +1,5 @@
 -- `rei2::reply::record_of` meets its contract.
 use mathlib.Core.Path.{refl}
-use borrow.Author.Rules.{rules}
 use Rattle.rei2.proofs.reply.record_of.Goals as goal
 
 pub returns : goal.returns

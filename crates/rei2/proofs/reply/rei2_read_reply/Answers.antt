@@ -1,6 +1,5 @@
 -- `rei2::reply::rei2_read_reply` meets its contract.
 use Rattle.rei2.proofs.NumberLaws.{reply_read, reply_refused_holds}
-use borrow.Author.Rules.{rules}
 use Rattle.rei2.proofs.reply.rei2_read_reply.Goals as goal
 
 pub returns-in-Read : goal.returns-in-Read

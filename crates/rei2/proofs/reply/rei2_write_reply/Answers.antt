@@ -1,5 +1,4 @@
 -- `rei2::reply::rei2_write_reply` meets its contract.
-use borrow.Author.Rules.{rules}
 use Rattle.rei2.proofs.TimingLaws.{within, wrote_reply}
 use Rattle.rei2.proofs.reply.rei2_write_reply.Goals as goal
 

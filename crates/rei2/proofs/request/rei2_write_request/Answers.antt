@@ -1,7 +1,6 @@
 -- `rei2::request::rei2_write_request` meets its contract.
 use Rattle.rei2.specs.Frames.{written_answer}
 use mathlib.Core.Path.{ap}
-use borrow.Author.Rules.{rules}
 use Rattle.rei2.proofs.request.rei2_write_request.Goals as goal
 
 pub returns : goal.returns

@@ -1,6 +1,5 @@
 -- `rei2::request::written` meets its contract.
 use mathlib.Core.Path.{refl}
-use borrow.Author.Rules.{rules}
 use Rattle.rei2.proofs.request.written.Goals as goal
 
 pub returns-in-Written : goal.returns-in-Written

@@ -5,7 +5,6 @@ use Prim.Native.Nat.{◌+◌, ◌≤◌}
 use Rattle.times.proofs.ClockLaws.{time_in_parts, time_no_room}
 use borrow.Author.Tests.{leb-true, leb-false}
 use mathlib.Core.Path.{sym, ◌∙◌}
-use borrow.Author.Rules.{rules}
 use Rattle.times.proofs.clock.clock_at.Goals as goal
 
 pub overflow_add-at : goal.overflow_add-at

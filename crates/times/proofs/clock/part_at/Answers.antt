@@ -1,7 +1,6 @@
 -- `times::clock::part_at` meets its contract.
 use Rattle.times.specs.inside.Clock.{part_of}
 use mathlib.Core.Path.{sym, ap, ◌∙◌}
-use borrow.Author.Rules.{rules}
 use Rattle.times.proofs.clock.part_at.Goals as goal
 
 pub returns-in-Is : goal.returns-in-Is

@@ -1,7 +1,6 @@
 -- `times::clock::put_clock` meets its contract.
 use borrow.Author.Tests.{leb-true}
 use mathlib.Core.Path.{sym, ◌∙◌}
-use borrow.Author.Rules.{rules}
 use Rattle.times.proofs.clock.put_clock.Goals as goal
 
 pub put_parts-requires : goal.put_parts-requires

@@ -1,6 +1,5 @@
 -- `times::clock::put_parts` meets its contract.
 use Rattle.times.proofs.ClockLaws.{stored_in_parts}
-use borrow.Author.Rules.{rules}
 use Rattle.times.proofs.clock.put_parts.Goals as goal
 
 pub returns : goal.returns

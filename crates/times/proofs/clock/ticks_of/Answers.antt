@@ -1,7 +1,6 @@
 -- `times::clock::ticks_of` meets its contract.
 use Rattle.times.specs.inside.Clock.{ticks_from}
 use borrow.Author.Tests.{le-leb, lt-leb}
-use borrow.Author.Rules.{rules}
 use Rattle.times.proofs.clock.ticks_of.Goals as goal
 
 pub returns-then-hours-gt23 : goal.returns-then-hours-gt23

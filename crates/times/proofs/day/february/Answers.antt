@@ -1,6 +1,5 @@
 -- `times::day::february` meets its contract.
 use mathlib.Core.Path.{sym, ◌∙◌}
-use borrow.Author.Rules.{rules}
 use Rattle.times.proofs.day.february.Goals as goal
 
 pub returns-then-is_leap : goal.returns-then-is_leap

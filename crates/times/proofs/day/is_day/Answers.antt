@@ -1,5 +1,4 @@
 -- `times::day::is_day` meets its contract.
-use borrow.Author.Rules.{rules}
 use borrow.Author.Tests.{le-leb, lt-leb}
 use Rattle.times.specs.Day.{real_day}
 use Rattle.times.proofs.day.is_day.Goals as goal

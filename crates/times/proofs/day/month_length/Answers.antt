@@ -1,5 +1,4 @@
 -- `times::day::month_length` meets its contract.
-use borrow.Author.Rules.{rules}
 use borrow.Author.Tests.{eq-eqb, ne_eqb}
 use Rattle.times.specs.Day.{month_length}
 use Rattle.times.proofs.day.month_length.Goals as goal

@@ -3,7 +3,6 @@ use mathlib.Core.Path.{◌≡◌, sym, ◌∙◌}
 use borrow.Author.Rules.{rules}
 use mir.Syntax.{w64}
 use mir.Val.{to_z, of_z}
-use borrow.Author.Tests.{not-true, not-false}
 use Rattle.times.proofs.NetLaws.{net_is, value_wrong, value_minus, value_plus}
 use Rattle.times.proofs.net.net_value.Goals as goal
 

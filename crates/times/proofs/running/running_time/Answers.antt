@@ -3,7 +3,6 @@ use mathlib.Core.Path.{◌≡◌, sym, ◌∙◌}
 use borrow.Author.Rules.{rules}
 use mir.Syntax.{w64}
 use mir.Val.{to_z, of_z}
-use borrow.Author.Tests.{not-true, not-false}
 use Rattle.times.proofs.RunningLaws.{out_of_range, with_minus, with_plus}
 use Rattle.times.proofs.running.running_time.Goals as goal
 

@@ -1,6 +1,5 @@
 -- `times::signed::diff` meets its contract.
 use mathlib.Core.Path.{◌∙◌}
-use borrow.Author.Rules.{rules}
 use mir.Syntax.{w64}
 use mir.ValLaws.{to_z-of_z}
 use Rattle.times.proofs.SignedLaws.{machine_sub, machine_fits}
