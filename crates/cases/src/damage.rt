@@ -7,6 +7,7 @@ use frames::reply::{StaticReply, read_reply, write_reply};
 use frames::request::{RequestRead, StaticRequest, read_request, write_request};
 use spelling::told::done;
 use spelling::{line, print};
+use std::io::{self, Write};
 
 // Which reader and writer a case is for.
 #[derive(Clone, Copy)]
@@ -16,24 +17,30 @@ pub enum Damaged {
     Dynamic,
 }
 
-pub fn damage(s: &[u8], kind: Damaged) {
+pub fn damage<W: Write>(to: &mut W, s: &[u8], kind: Damaged) -> io::Result<()> {
     let mut frame = [0u8; 100];
     let n = line::bytes(s, 1, &mut frame);
-    damage_places(kind, &mut frame[0..n]);
+    damage_places(to, kind, &mut frame[0..n])
 }
 
-fn damage_places(kind: Damaged, frame: &mut [u8]) {
+fn damage_places<W: Write>(to: &mut W, kind: Damaged, frame: &mut [u8]) -> io::Result<()> {
     let mut place = 0;
     while place < frame.len() {
-        damage_place(kind, frame, place);
+        damage_place(to, kind, frame, place)?;
         place += 1;
     }
+    Ok(())
 }
 
-// Prints the runs of equal answers at one place. Afterwards the place holds its own byte again.
-fn damage_place(kind: Damaged, frame: &mut [u8], place: usize) {
+// Prints the runs of equal answers at one place. Afterwards the place holds its own byte again, unless a write failed.
+fn damage_place<W: Write>(
+    to: &mut W,
+    kind: Damaged,
+    frame: &mut [u8],
+    place: usize,
+) -> io::Result<()> {
     let own = byte_at(frame, place);
-    print::decimal(place as u64);
+    print::decimal(to, place as u64)?;
     let mut last = answer_with(kind, frame, place, 0);
     let mut count: u64 = 1;
     let mut value: u8 = 0;
@@ -43,29 +50,30 @@ fn damage_place(kind: Damaged, frame: &mut [u8], place: usize) {
         if same_told(last, next) {
             count = count % 256 + 1;
         } else {
-            print_run(count, last);
+            print_run(to, count, last)?;
             count = 1;
             last = next;
         }
     }
-    print_run(count, last);
-    print::end_line();
+    print_run(to, count, last)?;
+    print::end_line(to)?;
     put_byte(frame, place, own);
+    Ok(())
 }
 
 fn same_told(a: Refusal, b: Refusal) -> bool {
     (a.number == b.number) & (a.offset == b.offset) & (a.spoiled == b.spoiled)
 }
 
-fn print_run(count: u64, t: Refusal) {
-    print::space();
-    print::decimal(count);
-    print::text(b"*");
-    print::decimal(t.number as u64);
-    print::text(b".");
-    print::decimal(t.offset as u64);
-    print::text(b".");
-    print::decimal(t.spoiled as u64);
+fn print_run<W: Write>(to: &mut W, count: u64, t: Refusal) -> io::Result<()> {
+    print::space(to)?;
+    print::decimal(to, count)?;
+    print::text(to, b"*")?;
+    print::decimal(to, t.number as u64)?;
+    print::text(to, b".")?;
+    print::decimal(to, t.offset as u64)?;
+    print::text(to, b".")?;
+    print::decimal(to, t.spoiled as u64)
 }
 
 fn answer_with(kind: Damaged, frame: &mut [u8], place: usize, value: u8) -> Refusal {

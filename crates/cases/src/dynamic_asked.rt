@@ -5,44 +5,45 @@ use frames::dynamic::{DynamicRead, DynamicRequest, read_dynamic, write_dynamic};
 use frames::refusals::of_reading;
 use spelling::told::print_told;
 use spelling::{line, print};
+use std::io::{self, Write};
 
-pub fn reading(s: &[u8]) {
+pub fn reading<W: Write>(to: &mut W, s: &[u8]) -> io::Result<()> {
     let mut b = [0u8; 100];
     let n = line::bytes(s, 1, &mut b);
     match read_dynamic(&b[0..n]) {
-        DynamicRead::Request(r) => print_dynamic(r),
-        DynamicRead::Refused(f) => print_told(of_reading(f)),
+        DynamicRead::Request(r) => print_dynamic(to, r)?,
+        DynamicRead::Refused(f) => print_told(to, of_reading(f))?,
     }
-    print::end_line();
+    print::end_line(to)
 }
 
-fn print_dynamic(r: DynamicRequest) {
-    print::text(b"0 0 0");
-    also_code(r.address);
-    also_code(r.requester);
-    also_code(r.order);
-    print::also(r.bib);
-    print::also(r.channel);
-    print::also(r.run);
-    print::also(r.stop_bib);
-    print::also(r.stop_channel);
-    print::also(r.stop_run);
-    print::also(r.sign);
-    print::also(r.time);
-    print::also(r.days);
-    print::also(r.period);
-    also_code(r.output);
+fn print_dynamic<W: Write>(to: &mut W, r: DynamicRequest) -> io::Result<()> {
+    print::text(to, b"0 0 0")?;
+    also_code(to, r.address)?;
+    also_code(to, r.requester)?;
+    also_code(to, r.order)?;
+    print::also(to, r.bib)?;
+    print::also(to, r.channel)?;
+    print::also(to, r.run)?;
+    print::also(to, r.stop_bib)?;
+    print::also(to, r.stop_channel)?;
+    print::also(to, r.stop_run)?;
+    print::also(to, r.sign)?;
+    print::also(to, r.time)?;
+    print::also(to, r.days)?;
+    print::also(to, r.period)?;
+    also_code(to, r.output)
 }
 
-pub fn writing(s: &[u8]) {
+pub fn writing<W: Write>(to: &mut W, s: &[u8]) -> io::Result<()> {
     let mut out = [238u8; 100];
     let room = (line::small(s, 1) % 101) as usize;
-    writing_to(dynamic_asked(s), &mut out[0..room]);
+    writing_to(to, dynamic_asked(s), &mut out[0..room])
 }
 
-fn writing_to(r: DynamicRequest, out: &mut [u8]) {
+fn writing_to<W: Write>(to: &mut W, r: DynamicRequest, out: &mut [u8]) -> io::Result<()> {
     let a = write_dynamic(r, out);
-    print_written(a, out);
+    print_written(to, a, out)
 }
 
 fn dynamic_asked(s: &[u8]) -> DynamicRequest {

@@ -12,88 +12,93 @@ mod written;
 
 use damage::Damaged;
 use spelling::{line, print};
+use std::io::{self, BufReader, BufWriter, Write};
 
-fn main() {
+fn main(rt: HostRuntime) -> io::Result<()> {
+    let mut from = BufReader::new(rt.alloc(), rt.reader())?;
+    let mut to = BufWriter::new(rt.alloc(), io::writer(&rt))?;
     let mut buffer = [0u8; 1024];
     let mut turns = u64::MAX;
     while turns > 0 {
-        let n = line::read_line(&mut buffer);
+        let n = line::read_line(&mut from, &mut buffer)?;
         if n == 0 {
-            return;
+            return Ok(());
         }
-        answer(&buffer[0..n]);
+        answer(&mut to, &buffer[0..n])?;
+        to.flush()?;
         turns -= 1;
     }
+    Ok(())
 }
 
-fn answer(s: &[u8]) {
+fn answer<W: Write>(to: &mut W, s: &[u8]) -> io::Result<()> {
     if line::asks(s, b"number") {
-        times_asked::number(s);
+        times_asked::number(to, s)
     } else if line::asks(s, b"digits") {
-        times_asked::digits_of(s);
+        times_asked::digits_of(to, s)
     } else if line::asks(s, b"clock") {
-        times_asked::clock(s);
+        times_asked::clock(to, s)
     } else if line::asks(s, b"clock-text") {
-        times_asked::clock_text(s);
+        times_asked::clock_text(to, s)
     } else {
-        answer_time(s);
+        answer_time(to, s)
     }
 }
 
-fn answer_time(s: &[u8]) {
+fn answer_time<W: Write>(to: &mut W, s: &[u8]) -> io::Result<()> {
     if line::asks(s, b"day") {
-        times_asked::day(s);
+        times_asked::day(to, s)
     } else if line::asks(s, b"net") {
-        times_asked::net(s);
+        times_asked::net(to, s)
     } else if line::asks(s, b"net-parts") {
-        times_asked::net_parts_of(s);
+        times_asked::net_parts_of(to, s)
     } else if line::asks(s, b"running") {
-        times_asked::running(s);
+        times_asked::running(to, s)
     } else {
-        answer_reading(s);
+        answer_reading(to, s)
     }
 }
 
-fn answer_reading(s: &[u8]) {
+fn answer_reading<W: Write>(to: &mut W, s: &[u8]) -> io::Result<()> {
     if line::asks(s, b"read-request") {
-        request_asked::reading(s);
+        request_asked::reading(to, s)
     } else if line::asks(s, b"read-reply") {
-        reply_asked::reading(s);
+        reply_asked::reading(to, s)
     } else if line::asks(s, b"read-reply-value") {
-        reply_asked::reading_value(s);
+        reply_asked::reading_value(to, s)
     } else if line::asks(s, b"read-dynamic") {
-        dynamic_asked::reading(s);
+        dynamic_asked::reading(to, s)
     } else {
-        answer_writing(s);
+        answer_writing(to, s)
     }
 }
 
-fn answer_writing(s: &[u8]) {
+fn answer_writing<W: Write>(to: &mut W, s: &[u8]) -> io::Result<()> {
     if line::asks(s, b"write-request") {
-        request_asked::writing(s);
+        request_asked::writing(to, s)
     } else if line::asks(s, b"write-reply") {
-        reply_asked::writing(s);
+        reply_asked::writing(to, s)
     } else if line::asks(s, b"write-reply-value") {
-        reply_asked::writing_value(s);
+        reply_asked::writing_value(to, s)
     } else if line::asks(s, b"write-dynamic") {
-        dynamic_asked::writing(s);
+        dynamic_asked::writing(to, s)
     } else {
-        answer_rest(s);
+        answer_rest(to, s)
     }
 }
 
-fn answer_rest(s: &[u8]) {
+fn answer_rest<W: Write>(to: &mut W, s: &[u8]) -> io::Result<()> {
     if line::asks(s, b"damage-request") {
-        damage::damage(s, Damaged::Request);
+        damage::damage(to, s, Damaged::Request)
     } else if line::asks(s, b"damage-reply") {
-        damage::damage(s, Damaged::Reply);
+        damage::damage(to, s, Damaged::Reply)
     } else if line::asks(s, b"damage-dynamic") {
-        damage::damage(s, Damaged::Dynamic);
+        damage::damage(to, s, Damaged::Dynamic)
     } else if line::asks(s, b"find") {
-        finder_asked::find(s);
+        finder_asked::find(to, s)
     } else if line::asks(s, b"find-from") {
-        finder_asked::find_from(s);
+        finder_asked::find_from(to, s)
     } else {
-        print::text(b"no such case\n");
+        print::text(to, b"no such case\n")
     }
 }

@@ -10,100 +10,107 @@ use frames::reply::{
 use frames::timing::Timing;
 use spelling::told::print_told;
 use spelling::{line, print};
+use std::io::{self, Write};
 
-pub fn reading(s: &[u8]) {
+pub fn reading<W: Write>(to: &mut W, s: &[u8]) -> io::Result<()> {
     let mut b = [0u8; 100];
     let n = line::bytes(s, 1, &mut b);
-    print_read(read_reply(&b[0..n]));
+    print_read(to, read_reply(&b[0..n]))
 }
 
-pub fn reading_value(s: &[u8]) {
+pub fn reading_value<W: Write>(to: &mut W, s: &[u8]) -> io::Result<()> {
     let mut b = [0u8; 51];
     line::bytes(s, 1, &mut b);
-    print_read(read_reply_value(b));
+    print_read(to, read_reply_value(b))
 }
 
-fn print_read(a: ReplyRead) {
+fn print_read<W: Write>(to: &mut W, a: ReplyRead) -> io::Result<()> {
     let verdict = a.verdict;
     let r = a.reply;
     match verdict {
-        ReadVerdict::Read => print_reply(r),
-        ReadVerdict::Refused(f) => print_told(of_reading(f)),
+        ReadVerdict::Read => print_reply(to, r)?,
+        ReadVerdict::Refused(f) => print_told(to, of_reading(f))?,
     }
-    print::end_line();
+    print::end_line(to)
 }
 
-fn print_reply(r: StaticReply) {
-    print::text(b"0 0 0");
+fn print_reply<W: Write>(to: &mut W, r: StaticReply) -> io::Result<()> {
+    print::text(to, b"0 0 0")?;
     let head = r.head;
-    print_head(head);
+    print_head(to, head)?;
     let timing = r.timing;
-    print_timing(timing);
+    print_timing(to, timing)?;
     let raw_time = r.raw_time;
-    print::also_bytes(&raw_time);
+    print::also_bytes(to, &raw_time)?;
     let raw_date = r.raw_date;
-    print::also_bytes(&raw_date);
+    print::also_bytes(to, &raw_date)?;
     let spare = r.spare;
-    print::also_bytes(&spare);
+    print::also_bytes(to, &spare)
 }
 
-fn print_head(r: ReplyHead) {
-    also_code(r.address);
-    also_code(r.program);
-    also_code(r.mode);
-    also_code(r.status);
-    also_code(r.requester);
-    print::also(r.number);
-    print::also(r.bib);
-    print::also(r.group);
-    print::also(r.run);
-    print::also(r.physical);
-    print::also(r.channel);
-    also_code(r.information);
+fn print_head<W: Write>(to: &mut W, r: ReplyHead) -> io::Result<()> {
+    also_code(to, r.address)?;
+    also_code(to, r.program)?;
+    also_code(to, r.mode)?;
+    also_code(to, r.status)?;
+    also_code(to, r.requester)?;
+    print::also(to, r.number)?;
+    print::also(to, r.bib)?;
+    print::also(to, r.group)?;
+    print::also(to, r.run)?;
+    print::also(to, r.physical)?;
+    print::also(to, r.channel)?;
+    also_code(to, r.information)
 }
 
-fn print_timing(t: Timing) {
+fn print_timing<W: Write>(to: &mut W, t: Timing) -> io::Result<()> {
     match t {
         Timing::Clock {
             ticks,
             day,
             month,
             year,
-        } => print_clock(ticks, day, month, year),
-        Timing::Net(value) => print_net(value),
-        Timing::Raw => print::text(b" raw"),
+        } => print_clock(to, ticks, day, month, year),
+        Timing::Net(value) => print_net(to, value),
+        Timing::Raw => print::text(to, b" raw"),
     }
 }
 
-fn print_clock(ticks: u32, day: u32, month: u32, year: u32) {
-    print::text(b" clock");
-    print::also(ticks);
-    print::also(day);
-    print::also(month);
-    print::also(year);
+fn print_clock<W: Write>(
+    to: &mut W,
+    ticks: u32,
+    day: u32,
+    month: u32,
+    year: u32,
+) -> io::Result<()> {
+    print::text(to, b" clock")?;
+    print::also(to, ticks)?;
+    print::also(to, day)?;
+    print::also(to, month)?;
+    print::also(to, year)
 }
 
-fn print_net(value: i64) {
-    print::text(b" net ");
-    print_signed(value);
+fn print_net<W: Write>(to: &mut W, value: i64) -> io::Result<()> {
+    print::text(to, b" net ")?;
+    print_signed(to, value)
 }
 
-pub fn writing(s: &[u8]) {
+pub fn writing<W: Write>(to: &mut W, s: &[u8]) -> io::Result<()> {
     let mut out = [238u8; 100];
     let room = (line::small(s, 1) % 101) as usize;
-    writing_to(reply_asked(s, 2), &mut out[0..room]);
+    writing_to(to, reply_asked(s, 2), &mut out[0..room])
 }
 
-fn writing_to(r: StaticReply, out: &mut [u8]) {
+fn writing_to<W: Write>(to: &mut W, r: StaticReply, out: &mut [u8]) -> io::Result<()> {
     let a = write_reply(r, out);
-    print_written(a, out);
+    print_written(to, a, out)
 }
 
-pub fn writing_value(s: &[u8]) {
+pub fn writing_value<W: Write>(to: &mut W, s: &[u8]) -> io::Result<()> {
     let w = write_reply_value(reply_asked(s, 1));
     let answer = w.answer;
     let frame = w.frame;
-    print_written(answer, &frame);
+    print_written(to, answer, &frame)
 }
 
 // The record that begins at word k, which is 1 or 2.

@@ -2,6 +2,7 @@
 use digits::byte_at;
 use spelling::line::{decimal, nth_word, number};
 use spelling::print;
+use std::io::{self, Write};
 
 // The code that the k-th word spells.
 pub fn code(s: &[u8], k: usize) -> u8 {
@@ -9,9 +10,9 @@ pub fn code(s: &[u8], k: usize) -> u8 {
 }
 
 // A space, and then a code.
-pub fn also_code(b: u8) {
-    print::space();
-    print::decimal(b as u64);
+pub fn also_code<W: Write>(to: &mut W, b: u8) -> io::Result<()> {
+    print::space(to)?;
+    print::decimal(to, b as u64)
 }
 
 // The number that the k-th word spells, with its sign.
@@ -27,12 +28,12 @@ pub fn signed(s: &[u8], k: usize) -> i64 {
     (decimal(s, at, end) % 9_223_372_036_854_775_808) as i64
 }
 
-pub fn print_signed(v: i64) {
+pub fn print_signed<W: Write>(to: &mut W, v: i64) -> io::Result<()> {
     if v < 0 {
-        print::text(b"-");
+        print::text(to, b"-")?;
         let rest = (-1 - v) as u64;
-        print::decimal(rest + 1);
+        print::decimal(to, rest + 1)
     } else {
-        print::decimal(v as u64);
+        print::decimal(to, v as u64)
     }
 }

@@ -3,6 +3,7 @@ use digits::refusal::Refusal;
 use frames::refusals::{WriteAnswer, of_writing};
 use spelling::print;
 use spelling::told::{done, print_told};
+use std::io::{self, Write};
 
 fn write_told(a: WriteAnswer) -> Refusal {
     match a {
@@ -12,9 +13,9 @@ fn write_told(a: WriteAnswer) -> Refusal {
 }
 
 // Prints the line of a writing: the answer, and the output after it.
-pub fn print_written(a: WriteAnswer, out: &[u8]) {
-    print_told(write_told(a));
-    print::space();
-    print::bytes(out);
-    print::end_line();
+pub fn print_written<W: Write>(to: &mut W, a: WriteAnswer, out: &[u8]) -> io::Result<()> {
+    print_told(to, write_told(a))?;
+    print::space(to)?;
+    print::bytes(to, out)?;
+    print::end_line(to)
 }

@@ -13,8 +13,11 @@ use frames::reply::{LETTERS, STATUSES};
 use memory::{MOST_BYTES, MOST_MARKS};
 use script::Script;
 use spelling::{line, print};
+use std::io::{self, BufReader, BufWriter, Write};
 
-fn main() {
+fn main(rt: HostRuntime) -> io::Result<()> {
+    let mut from = BufReader::new(rt.alloc(), rt.reader())?;
+    let mut to = BufWriter::new(rt.alloc(), io::writer(&rt))?;
     let mut buffer = [0u8; 1024];
     let mut cells = [0u8; MOST_BYTES];
     let mut marks = [0u32; MOST_MARKS];
@@ -22,51 +25,63 @@ fn main() {
     let mut script = script::empty(0, 0);
     let mut turns = u64::MAX;
     while turns > 0 {
-        let n = line::read_line(&mut buffer);
+        let n = line::read_line(&mut from, &mut buffer)?;
         if n == 0 {
-            return;
+            return Ok(());
         }
-        let next = answer_line(script, &buffer[0..n], &mut cells, &mut marks, &mut tally);
+        let next = answer_line(
+            &mut to,
+            script,
+            &buffer[0..n],
+            &mut cells,
+            &mut marks,
+            &mut tally,
+        )?;
+        to.flush()?;
         script = next;
         turns -= 1;
     }
+    Ok(())
 }
 
 // Answers a line, and returns the desk as it is afterwards.
-fn answer_line(
+fn answer_line<W: Write>(
+    to: &mut W,
     script: Script,
     s: &[u8],
     cells: &mut [u8],
     marks: &mut [u32],
     tally: &mut [[u32; STATUSES]; LETTERS],
-) -> Script {
+) -> io::Result<Script> {
     if line::asks(s, b"lend") {
-        return script::lending(s, cells, marks, tally);
+        return script::lending(to, s, cells, marks, tally);
     }
     if line::asks(s, b"mixes") {
-        mixes::playing(s, mixes::by_requester());
-        return script::lend(mixes::MIX_BYTES, mixes::MIX_MARKS, cells, marks, tally);
+        mixes::playing(to, s, mixes::by_requester())?;
+        return Ok(script::lend(mixes::MIX_BYTES, mixes::MIX_MARKS, cells, marks, tally));
     }
     if line::asks(s, b"mixes-by-address") {
-        mixes::playing(s, mixes::by_address());
-        return script::lend(mixes::MIX_BYTES, mixes::MIX_MARKS, cells, marks, tally);
+        mixes::playing(to, s, mixes::by_address())?;
+        return Ok(script::lend(mixes::MIX_BYTES, mixes::MIX_MARKS, cells, marks, tally));
     }
-    answer_within(script, s, cells, marks, tally)
+    answer_within(to, script, s, cells, marks, tally)
 }
 
 // All other lines are answered on the memory that is lent, and no more.
-fn answer_within(
+fn answer_within<W: Write>(
+    to: &mut W,
     script: Script,
     s: &[u8],
     cells: &mut [u8],
     marks: &mut [u32],
     tally: &mut [[u32; STATUSES]; LETTERS],
-) -> Script {
+) -> io::Result<Script> {
     let cell_bytes = script.cell_bytes;
     let mark_count = script.mark_count;
     if cell_bytes <= cells.len() {
         if mark_count <= marks.len() {
             return answer_lent(
+                to,
                 script,
                 s,
                 &mut cells[0..cell_bytes],
@@ -75,80 +90,87 @@ fn answer_within(
             );
         }
     }
-    print::text(b"more is lent than there is\n");
-    script
+    print::text(to, b"more is lent than there is\n")?;
+    Ok(script)
 }
 
-fn answer_lent(
+fn answer_lent<W: Write>(
+    to: &mut W,
     script: Script,
     s: &[u8],
     cells: &mut [u8],
     marks: &mut [u32],
     tally: &mut [[u32; STATUSES]; LETTERS],
-) -> Script {
+) -> io::Result<Script> {
     if line::asks(s, b"open") {
-        desk_asked::opening(script, s, cells, marks, tally)
+        desk_asked::opening(to, script, s, cells, marks, tally)
     } else if line::asks(s, b"reply") {
-        desk_asked::replying(script, s, cells, marks, tally)
+        desk_asked::replying(to, script, s, cells, marks, tally)
     } else {
-        answer_memory(script, s, cells, marks, tally)
+        answer_memory(to, script, s, cells, marks, tally)
     }
 }
 
-fn answer_memory(
+fn answer_memory<W: Write>(
+    to: &mut W,
     script: Script,
     s: &[u8],
     cells: &mut [u8],
     marks: &mut [u32],
     tally: &mut [[u32; STATUSES]; LETTERS],
-) -> Script {
+) -> io::Result<Script> {
     if line::asks(s, b"held") {
-        desk_asked::holding(script, s, cells, marks)
+        desk_asked::holding(to, script, s, cells, marks)
     } else if line::asks(s, b"mark") {
-        script::setting_mark(script, s, marks)
+        script::setting_mark(to, script, s, marks)
     } else if line::asks(s, b"cell") {
-        script::setting_cell(script, s, cells)
+        script::setting_cell(to, script, s, cells)
     } else {
-        answer_tally(script, s, tally)
+        answer_tally(to, script, s, tally)
     }
 }
 
-fn answer_tally(script: Script, s: &[u8], tally: &mut [[u32; STATUSES]; LETTERS]) -> Script {
+fn answer_tally<W: Write>(
+    to: &mut W,
+    script: Script,
+    s: &[u8],
+    tally: &mut [[u32; STATUSES]; LETTERS],
+) -> io::Result<Script> {
     if line::asks(s, b"reset") {
-        return desk_asked::resetting(script, tally);
+        return desk_asked::resetting(to, script, tally);
     }
     if line::asks(s, b"tally") {
-        tally_asked::setting(s, tally);
-        return script;
+        tally_asked::setting(to, s, tally)?;
+        return Ok(script);
     }
     if line::asks(s, b"look") {
-        tally_asked::looking(s, tally);
-        return script;
+        tally_asked::looking(to, s, tally)?;
+        return Ok(script);
     }
     if line::asks(s, b"looks") {
-        tally_asked::looking_at_all(tally);
-        return script;
+        tally_asked::looking_at_all(to, tally)?;
+        return Ok(script);
     }
-    answer_state(script, s)
+    answer_state(to, script, s)
 }
 
-fn answer_state(script: Script, s: &[u8]) -> Script {
+fn answer_state<W: Write>(to: &mut W, script: Script, s: &[u8]) -> io::Result<Script> {
     if line::asks(s, b"used") {
-        desk_asked::used(script)
+        desk_asked::used(to, script)
     } else {
-        answer_setting(script, s)
+        answer_setting(to, script, s)
     }
 }
 
-fn answer_setting(script: Script, s: &[u8]) -> Script {
+fn answer_setting<W: Write>(to: &mut W, script: Script, s: &[u8]) -> io::Result<Script> {
     if line::asks(s, b"bits") {
-        script::setting_bits(script, s)
+        script::setting_bits(to, script, s)
     } else if line::asks(s, b"count") {
-        script::setting_count(script, s)
+        script::setting_count(to, script, s)
     } else if line::asks(s, b"seat") {
-        script::setting_seat(script, s)
+        script::setting_seat(to, script, s)
     } else {
-        print::text(b"no such case\n");
-        script
+        print::text(to, b"no such case\n")?;
+        Ok(script)
     }
 }

@@ -11,6 +11,7 @@ use desk::state::{Desk, Seat, reset};
 use digits::{byte_at, put_byte, put_number};
 use frames::reply::{LETTERS, STATUSES};
 use spelling::{line, print};
+use std::io::{self, Write};
 
 // What is lent for a mix.
 pub const MIX_BYTES: usize = 408;
@@ -66,11 +67,11 @@ struct Mix {
     sum: u64,
 }
 
-pub fn playing(s: &[u8], apart: Apart) {
+pub fn playing<W: Write>(to: &mut W, s: &[u8], apart: Apart) -> io::Result<()> {
     let b = letters(s, 2);
     let p = play_all(s, apart, b, letters(s, 1) + b);
-    print::pair(p.mixes, p.sum);
-    print::end_line();
+    print::pair(to, p.mixes, p.sum)?;
+    print::end_line(to)
 }
 
 // How many letters the k-th word has, at most four.

@@ -5,6 +5,7 @@ use desk::state::{Desk, Seat, capacity};
 use digits::put_bytes;
 use frames::reply::{LETTERS, STATUSES};
 use spelling::{line, print};
+use std::io::{self, Write};
 
 #[derive(Clone, Copy)]
 pub struct Script {
@@ -45,17 +46,18 @@ pub fn lend(
     empty(cell_bytes, mark_count)
 }
 
-pub fn lending(
+pub fn lending<W: Write>(
+    to: &mut W,
     s: &[u8],
     cells: &mut [u8],
     marks: &mut [u32],
     tally: &mut [[u32; STATUSES]; LETTERS],
-) -> Script {
+) -> io::Result<Script> {
     let cell_bytes = line::small(s, 1) as usize;
     let mark_count = line::small(s, 2) as usize;
-    print::decimal(capacity(cell_bytes, mark_count) as u64);
-    print::end_line();
-    lend(cell_bytes, mark_count, cells, marks, tally)
+    print::decimal(to, capacity(cell_bytes, mark_count) as u64)?;
+    print::end_line(to)?;
+    Ok(lend(cell_bytes, mark_count, cells, marks, tally))
 }
 
 // The same memory with another state and other seats.
@@ -68,30 +70,30 @@ pub fn with(script: Script, desk: Desk, row: [Seat; SEATS]) -> Script {
     }
 }
 
-pub fn setting_bits(script: Script, s: &[u8]) -> Script {
-    print::text(b"set\n");
+pub fn setting_bits<W: Write>(to: &mut W, script: Script, s: &[u8]) -> io::Result<Script> {
+    print::text(to, b"set\n")?;
     let desk = script.desk;
     let row = script.row;
     let changed = Desk {
         bits: line::number(s, 1),
         count: desk.count,
     };
-    with(script, changed, row)
+    Ok(with(script, changed, row))
 }
 
-pub fn setting_count(script: Script, s: &[u8]) -> Script {
-    print::text(b"set\n");
+pub fn setting_count<W: Write>(to: &mut W, script: Script, s: &[u8]) -> io::Result<Script> {
+    print::text(to, b"set\n")?;
     let desk = script.desk;
     let row = script.row;
     let changed = Desk {
         bits: desk.bits,
         count: line::small(s, 1),
     };
-    with(script, changed, row)
+    Ok(with(script, changed, row))
 }
 
-pub fn setting_seat(script: Script, s: &[u8]) -> Script {
-    print::text(b"set\n");
+pub fn setting_seat<W: Write>(to: &mut W, script: Script, s: &[u8]) -> io::Result<Script> {
+    print::text(to, b"set\n")?;
     let seat = Seat {
         address: line::small(s, 2),
         requester: line::small(s, 3),
@@ -100,11 +102,11 @@ pub fn setting_seat(script: Script, s: &[u8]) -> Script {
         ended: line::small(s, 6),
     };
     let row = script.row;
-    with(
+    Ok(with(
         script,
         script.desk,
         put_seat(row, line::small(s, 1) as usize, seat),
-    )
+    ))
 }
 
 fn put_seat(row: [Seat; SEATS], i: usize, seat: Seat) -> [Seat; SEATS] {
@@ -116,16 +118,26 @@ fn put_seat(row: [Seat; SEATS], i: usize, seat: Seat) -> [Seat; SEATS] {
     row
 }
 
-pub fn setting_mark(script: Script, s: &[u8], marks: &mut [u32]) -> Script {
-    print::text(b"set\n");
+pub fn setting_mark<W: Write>(
+    to: &mut W,
+    script: Script,
+    s: &[u8],
+    marks: &mut [u32],
+) -> io::Result<Script> {
+    print::text(to, b"set\n")?;
     put_mark(marks, line::small(s, 1) as usize, line::small(s, 2));
-    script
+    Ok(script)
 }
 
-pub fn setting_cell(script: Script, s: &[u8], cells: &mut [u8]) -> Script {
-    print::text(b"set\n");
+pub fn setting_cell<W: Write>(
+    to: &mut W,
+    script: Script,
+    s: &[u8],
+    cells: &mut [u8],
+) -> io::Result<Script> {
+    print::text(to, b"set\n")?;
     let mut b = [0u8; 100];
     let n = line::bytes(s, 2, &mut b);
     put_bytes(cells, line::small(s, 1) as usize, &b[0..n]);
-    script
+    Ok(script)
 }

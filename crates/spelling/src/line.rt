@@ -1,26 +1,28 @@
 // A line of input, its words, and the numbers and bytes that they spell.
-ghost use Rattle.std.specs.Prelude.{◌≤◌, length};
+ghost use Rattle.std.specs.Prelude.{◌≡◌, ◌≤◌, IfOk, OnErr, length};
 
 use digits::{Number, byte_at, number_at, put_byte};
+use std::io::{self, Read};
 
 // Fills the buffer with the next line, without its LF, and returns its length.
-// It is 0 for an empty line and at the end of the input.
-pub fn read_line(buffer: &mut [u8]) -> usize
-    ensures { result ≤ length buffer.new }
+// It is 0 for an empty line and at the end of the input. An error is the reader's own, and leaves the line's beginning in the buffer.
+pub fn read_line<R: Read>(from: &mut R, buffer: &mut [u8]) -> io::Result<usize>
+    ensures ok { IfOk result (λ n. n ≤ length buffer.new) }
+    ensures err { OnErr result (length buffer.new ≡ length buffer.old) }
 {
     let mut i = 0;
     while i < buffer.len() {
         let mut one = [0u8; 1];
-        if io::read_full(libc::STDIN_FILENO, &mut one) == 0 {
-            return i;
+        if from.read(&mut one)? == 0 {
+            return Ok(i);
         }
         if one[0] == 10 {
-            return i;
+            return Ok(i);
         }
         put_byte(buffer, i, one[0]);
         i += 1;
     }
-    i
+    Ok(i)
 }
 
 // Where a word begins, and where it ends.

@@ -1,6 +1,7 @@
 // Answers, by the numbers of the table of refusals.
 use crate::print;
 use digits::refusal::Refusal;
+use std::io::{self, Write};
 
 // No refusal: 0 for all three.
 pub fn done() -> Refusal {
@@ -11,7 +12,7 @@ pub fn done() -> Refusal {
     }
 }
 
-pub fn print_told(t: Refusal) {
-    print::pair(t.number as u64, t.offset as u64);
-    print::also(t.spoiled);
+pub fn print_told<W: Write>(to: &mut W, t: Refusal) -> io::Result<()> {
+    print::pair(to, t.number as u64, t.offset as u64)?;
+    print::also(to, t.spoiled)
 }

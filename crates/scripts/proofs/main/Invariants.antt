@@ -1,6 +1,5 @@
 -- `scripts::main` is safe and ends.
 use mathlib.Core.Path.{◌≡◌}
-use borrow.Author.Rules.{rules}
 use lib.ListN.{length}
 use Rattle.scripts.proofs.main.Given as goal
 

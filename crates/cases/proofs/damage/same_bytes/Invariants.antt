@@ -1,6 +1,5 @@
 -- `cases::damage::same_bytes` is safe and ends.
 use Prim.Native.Nat.{◌-◌, ◌≤◌}
-use borrow.Author.Rules.{rules}
 use lib.ListN.{length}
 use Rattle.cases.proofs.damage.same_bytes.Given as goal
 

@@ -4,16 +4,16 @@ use Rattle.times.proofs.SignedLaws.{held, turned_fits, turned_held, neg_casts, p
 use Rattle.cases.proofs.words.print_signed.Goals as goal
 
 pub overflow_sub-rest : goal.overflow_sub-rest
-overflow_sub-rest c = turned_fits c.args.v c.ranges.v c.if-v-lt0.true
+overflow_sub-rest g c = turned_fits c.args.v c.ranges.v c.if-v-lt0.true
 
 pub overflow_cast-rest : goal.overflow_cast-rest
-overflow_cast-rest c =
+overflow_cast-rest g c =
     rw (turned_held c.args.v c.ranges.v c.if-v-lt0.true) (neg_casts c.args.v c.ranges.v c.if-v-lt0.true)
 
 pub overflow_add-rest : goal.overflow_add-rest
-overflow_add-rest c =
+overflow_add-rest g c =
     let h = c.ranges.v.sfits in
     rw (turned_held c.args.v c.ranges.v c.if-v-lt0.true) (search rules)
 
 pub overflow_cast-v : goal.overflow_cast-v
-overflow_cast-v c = rw (held c.args.v c.ranges.v) (pos_casts c.args.v c.ranges.v c.if-v-lt0.false)
+overflow_cast-v g c = rw (held c.args.v c.ranges.v) (pos_casts c.args.v c.ranges.v c.if-v-lt0.false)

@@ -1,7 +1,6 @@
 -- `cases::words::signed` is safe: minus a number below 2 ^ 63 fits.
 use native.Mathlib.Omega.{arith}
 use Prim.Native.Nat.{◌%◌}
-use borrow.Author.Rules.{rules}
 use Rattle.times.proofs.SignedLaws.{machine_fits}
 use Rattle.cases.proofs.words.signed.Goals as goal
 

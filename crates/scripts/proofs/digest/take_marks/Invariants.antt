@@ -1,6 +1,5 @@
 -- `scripts::digest::take_marks` is safe and ends.
 use Prim.Native.Nat.{◌-◌, ◌≤◌}
-use borrow.Author.Rules.{rules}
 use lib.ListN.{length}
 use Rattle.scripts.proofs.digest.take_marks.Given as goal
 

@@ -1,6 +1,5 @@
 -- `scripts::digest::take_row` is safe and ends.
 use Prim.Native.Nat.{◌-◌, ◌≤◌}
-use borrow.Author.Rules.{rules}
 use Rattle.scripts.proofs.digest.take_row.Given as goal
 
 abbrev pub invariant-loop-i : goal.invariant-loop-i

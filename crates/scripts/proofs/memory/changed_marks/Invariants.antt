@@ -1,6 +1,5 @@
 -- `scripts::memory::changed_marks` is safe and ends.
 use Prim.Native.Nat.{◌-◌, ◌≤◌}
-use borrow.Author.Rules.{rules}
 use lib.ListN.{length}
 use Rattle.scripts.proofs.memory.changed_marks.Given as goal
 

@@ -1,7 +1,6 @@
 -- `scripts::memory::copy_marks` is safe and ends.
 use mathlib.Core.Path.{◌≡◌}
 use Prim.Native.Nat.{◌-◌, ◌≤◌}
-use borrow.Author.Rules.{rules}
 use lib.ListN.{length}
 use Rattle.scripts.proofs.memory.copy_marks.Given as goal
 

@@ -1,7 +1,6 @@
 -- `scripts::memory::fill_marks` is safe and ends.
 use mathlib.Core.Path.{◌≡◌}
 use Prim.Native.Nat.{◌-◌, ◌≤◌}
-use borrow.Author.Rules.{rules}
 use lib.ListN.{length}
 use Rattle.scripts.proofs.memory.fill_marks.Given as goal
 

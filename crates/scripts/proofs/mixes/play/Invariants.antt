@@ -1,7 +1,6 @@
 -- `scripts::mixes::play` is safe and ends.
 use mathlib.Core.Path.{◌≡◌}
 use Prim.Native.Nat.{◌-◌, ◌≤◌}
-use borrow.Author.Rules.{rules}
 use lib.ListN.{length}
 use Rattle.scripts.proofs.mixes.play.Given as goal
 

@@ -1,6 +1,5 @@
 -- `scripts::mixes::play_all` is safe and ends.
 use Prim.Native.Nat.{◌-◌, ◌≤◌}
-use borrow.Author.Rules.{rules}
 use Rattle.scripts.proofs.mixes.play_all.Given as goal
 
 abbrev pub invariant-loop-m : goal.invariant-loop-m

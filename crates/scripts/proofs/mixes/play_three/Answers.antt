@@ -1,6 +1,5 @@
 -- `scripts::mixes::play_three` is safe and ends.
 use mathlib.Core.Path.{◌∙◌}
-use borrow.Author.Rules.{rules}
 use Rattle.scripts.proofs.mixes.play_three.Goals as goal
 
 pub shape_of-cells : goal.shape_of-cells

@@ -1,7 +1,6 @@
 -- `spelling::line::bytes` is safe and ends, and its bytes fit in the output.
 use mathlib.Core.Path.{◌≡◌}
 use Prim.Native.Nat.{◌-◌, ◌≤◌}
-use borrow.Author.Rules.{rules}
 use lib.ListN.{length}
 use Rattle.spelling.proofs.line.bytes.Given as goal
 

@@ -1,6 +1,5 @@
 -- `spelling::line::is_word` is safe and ends.
 use Prim.Native.Nat.{◌-◌, ◌≤◌}
-use borrow.Author.Rules.{rules}
 use lib.ListN.{length}
 use Rattle.spelling.proofs.line.is_word.Given as goal
 

@@ -1,6 +1,5 @@
 -- `spelling::line::nth_word` is safe and ends.
 use Prim.Native.Nat.{◌-◌, ◌≤◌}
-use borrow.Author.Rules.{rules}
 use lib.ListN.{length}
 use Rattle.spelling.proofs.line.nth_word.Given as goal
 
