@@ -1,6 +1,6 @@
 //! What the tests share: how a race office starts `rei2list` and `list`, and what it then sees.
 //!
-//! The tests need the proved program in target/bin, as `rt check rei2list` builds it.
+//! The tests need the proved program in crates/rei2list/out, as `rt run` in crates/rei2list builds it.
 
 use std::ffi::{CStr, OsStr};
 use std::fs::{self, File};

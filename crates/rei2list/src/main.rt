@@ -1,90 +1,124 @@
-// Lists the capture on standard input. A program has no exit status in this language: a list is whole if its last line begins with `end`, and
-// whatever fails says so in one line on standard error.
+// Lists the capture on standard input. The exit status says nothing: a list is whole if its last line begins with `end`, and whatever fails says
+// so in one line on standard error.
 #![tactic(auto)]
 
-use libc::{STDERR_FILENO, STDIN_FILENO, STDOUT_FILENO};
-use listing::{LONGEST_LIST, ListAnswer, MOST_INPUT, list};
+ghost use Rattle.std.specs.Io.{ReadsAtMost};
 
-fn main() {
-    // The program's own name is one of them.
-    let words = os::arg_count();
-    if words < 2 {
-        list_input();
-    } else if words == 2 {
-        answer_word();
+use listing::{LONGEST_LIST, ListAnswer, MOST_INPUT, list};
+use std::env::FillError;
+use std::io::{Error, Read, Result, Write};
+use std::rt::Env;
+
+fn main(rt: HostRuntime) {
+    if !is_given(&rt, 1) {
+        list_input(&rt);
+    } else if !is_given(&rt, 2) {
+        answer_word(&rt);
     } else {
-        refuse_words();
+        refuse_words(&rt);
     }
 }
 
+// Whether the program was started with so many arguments or more. Its own name is number 0.
+fn is_given(rt: &impl Env, i: usize) -> bool {
+    let mut word = [0u8; 1];
+    !matches!(rt.arg(i, &mut word), Err(FillError::NotPresent))
+}
+
 // Nothing is printed if the input cannot be read to its end, so that a part of a capture is never taken for the whole of it.
-fn list_input() {
+fn list_input(rt: &(impl Input + Print + Eprint)) {
     // One byte more than is listed, to see that there is more.
     let mut input = [0u8; MOST_INPUT + 1];
-    let got = read_input(&mut input);
-    if got < 0 {
-        os::fail(b"rei2list: standard input");
-        return;
-    }
-    let n = io::count(got, &input);
+    let n = match read_input(&mut rt.reader(), &mut input) {
+        Ok(n) => n,
+        Err(error) => {
+            complain(rt, "standard input", error);
+            return;
+        }
+    };
     let mut cells = [0; 13056];
     let mut marks = [0; 256];
     let mut out = [0u8; LONGEST_LIST];
     match list(&input[..n], &mut cells, &mut marks, &mut out) {
-        ListAnswer::Written(size) => print(&out[0..size]),
+        ListAnswer::Written(size) => print(rt, &out[0..size]),
         // No list is longer than out.
         ListAnswer::Room => {}
     }
 }
 
-// Reads until the input ends or buf is full, and returns how many bytes came, or -1 if a read failed.
-fn read_input(buf: &mut [u8]) -> isize {
+// Reads until the input ends or buf is full, and returns how many bytes came.
+fn read_input(input: &mut impl Read, buf: &mut [u8]) -> Result<usize>
+    ensures { ReadsAtMost result buf.new }
+{
     let mut done = 0;
     while done < buf.len() {
-        let got = libc::read(STDIN_FILENO, &mut buf[done..]);
-        if got < 0 {
-            return -1;
-        }
-        let more = io::count(got, &buf[done..]);
+        let more = input.read(&mut buf[done..])?;
         if more == 0 {
-            return done as isize;
+            return Ok(done);
         }
         done += more;
     }
-    done as isize
+    Ok(done)
 }
 
-fn print(text: &[u8]) {
-    let is_written = io::write_all(STDOUT_FILENO, text);
-    if !is_written {
-        os::fail(b"rei2list: standard output");
+fn print(rt: &(impl Print + Eprint), text: &[u8]) {
+    if let Err(error) = rt.write_all(text) {
+        complain(rt, "standard output", error);
     }
 }
 
-fn answer_word() {
-    let mut word = io::buffer();
-    let length = os::arg(1, &mut word);
-    if check::same(&word[..length], b"--help") {
-        print_help();
-    } else {
-        refuse_words();
+// One line on standard error: what failed, and the system's reason without its number.
+fn complain(rt: &impl Eprint, what: &str, error: Error) {
+    let mut text = [0u8; 128];
+    let mut room = &mut text[..];
+    let _ = write!(room, "{error}");
+    let _ = eprintln!(rt; "rei2list: {what}: {}", reason(&text));
+}
+
+fn reason(text: &[u8]) -> &str {
+    let Ok(text) = str::from_utf8(text) else {
+        return "";
+    };
+    match text.split_once(" (os error ") {
+        Some((reason, _)) => reason,
+        None => text.trim_end_matches('\0'),
     }
 }
 
-fn print_help() {
-    print(b"usage: rei2list < CAPTURE > LIST\n");
-    print(b"Lists the static replies in a capture of a REI2 serial line, sorted by request.\n");
-    print(b"A capture is the bytes of the line as they came, at most 32,768.\n");
+fn answer_word(rt: &(impl Env + Print + Eprint)) {
+    let mut word = [0u8; 4096];
+    match rt.arg(1, &mut word) {
+        Ok(length) if word[..length] == b"--help"[..] => print_help(rt),
+        _ => refuse_words(rt),
+    }
+}
+
+fn print_help(rt: &(impl Print + Eprint)) {
+    print(rt, b"usage: rei2list < CAPTURE > LIST\n");
     print(
+        rt,
+        b"Lists the static replies in a capture of a REI2 serial line, sorted by request.\n",
+    );
+    print(
+        rt,
+        b"A capture is the bytes of the line as they came, at most 32,768.\n",
+    );
+    print(
+        rt,
         b"The list has a heading, a row for each reply, and a last line: end, requests opened,\n",
     );
-    print(b"replies collected, dynamic requests, frames refused. Columns are separated by tabs.\n");
-    print(b"A list without its end line is not whole; standard error then says why.\n");
+    print(
+        rt,
+        b"replies collected, dynamic requests, frames refused. Columns are separated by tabs.\n",
+    );
+    print(
+        rt,
+        b"A list without its end line is not whole; standard error then says why.\n",
+    );
 }
 
-fn refuse_words() {
-    io::write_all(
-        STDERR_FILENO,
-        b"rei2list: the only argument is --help; the capture is read from standard input\n",
+fn refuse_words(rt: &impl Eprint) {
+    let _ = eprintln!(rt;
+        "rei2list: the only argument is --help; the capture is read from standard input"
     );
 }

@@ -107,3 +107,13 @@ fn a_list_that_cannot_be_written_is_reported() {
     let output = seen(command("run", ["rei2list"]).stdout(full), file("samples/example.capture"));
     assert_eq!(output.err, "rei2list: standard output: No space left on device\n");
 }
+
+#[test]
+fn a_list_that_nobody_reads_is_reported() {
+    let (near, far) = UnixStream::pair().expect("a socket");
+    drop(far);
+    let near = Stdio::from(OwnedFd::from(near));
+    let output = seen(command("run", ["rei2list"]).stdout(near), file("samples/example.capture"));
+    assert_eq!(output.err, "rei2list: standard output: Broken pipe\n");
+    assert!(output.done);
+}
