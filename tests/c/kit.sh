@@ -1,5 +1,5 @@
 # For the scripts beside this one to source: where the kit's tools are, and the compiler as all of them call it.
-own=$(dirname "$(dirname "$(rt doc)")")/on/$(uname -m)
+own=$(dirname "$(rt doc)")
 tools=$own/toolchain
 target=x86_64-unknown-linux-gnu
 
