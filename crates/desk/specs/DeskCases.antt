@@ -98,11 +98,11 @@ pub record DeskWorked : Type 0 where
   pub held_less : is_desk (with (seats (seat 32 49 7 1 1) two none) 3 3 records marks) ≡ false
   pub held_more : is_desk (with (seats (seat 32 49 7 3 1) two none) 3 3 records marks) ≡ false
   -- only the last record is E or Z, and a Z is the only one
-  pub EFirst : is_desk (with (seats (seat 32 49 7 2 0) two none) 3 3 (cells (told "1" "E") (told "A" "R") (told "1" "R")) marks) ≡ false
-  pub ETwice : is_desk (telling (seats one two none) 3 3 (cells (told "1" "E") (told "A" "R") (told "1" "E")) marks (tally 1 2 0)) ≡ false
-  pub ZFirst : is_desk (telling (seats (seat 32 49 7 2 0) two none) 3 3 (cells (told "1" "Z") (told "A" "R") (told "1" "R")) marks (tally 2 0 1)) ≡ false
-  pub ZLast : is_desk (telling (seats one two none) 3 3 (cells (told "1" "R") (told "A" "R") (told "1" "Z")) marks (tally 2 0 1)) ≡ false
-  pub ZAlone : is_desk (telling (seats one (seat 32 65 7 1 1) none) 3 3 (cells (told "1" "R") (told "A" "Z") (told "1" "E")) marks (tally 1 1 1)) ≡ true
+  pub e_first : is_desk (with (seats (seat 32 49 7 2 0) two none) 3 3 (cells (told "1" "E") (told "A" "R") (told "1" "R")) marks) ≡ false
+  pub e_twice : is_desk (telling (seats one two none) 3 3 (cells (told "1" "E") (told "A" "R") (told "1" "E")) marks (tally 1 2 0)) ≡ false
+  pub z_first : is_desk (telling (seats (seat 32 49 7 2 0) two none) 3 3 (cells (told "1" "Z") (told "A" "R") (told "1" "R")) marks (tally 2 0 1)) ≡ false
+  pub z_last : is_desk (telling (seats one two none) 3 3 (cells (told "1" "R") (told "A" "R") (told "1" "Z")) marks (tally 2 0 1)) ≡ false
+  pub z_alone : is_desk (telling (seats one (seat 32 65 7 1 1) none) 3 3 (cells (told "1" "R") (told "A" "Z") (told "1" "E")) marks (tally 1 1 1)) ≡ true
   -- `ended` is 1 if the last record is E or Z, and otherwise 0
   pub goes_on : is_desk (telling (seats (seat 32 49 7 2 0) two none) 3 3 (cells (told "1" "R") (told "A" "R") (told "1" "R")) marks (tally 3 0 0)) ≡ true
   pub not_ended : is_desk (with (seats (seat 32 49 7 2 0) two none) 3 3 records marks) ≡ false
