@@ -145,4 +145,5 @@ def main():
             open(p, "w", encoding="utf-8").write(n)
 
 
-main()
+if __name__ == "__main__":
+    main()
