@@ -14,4 +14,4 @@ same_told Time (Ticks w) e = absurd (let z : ◌≡◌ {A = ℕ} 0 1 = cc in ome
 same_told Time Time e = refl
 
 pub one_outcome : OneOutcome
-one_outcome = record { running_time_holds = λ of a b p q. same_told a b (p ∙ sym q) }
+one_outcome = record { running_time = λ of a b p q. same_told a b (p ∙ sym q) }

@@ -4,4 +4,4 @@ use Rattle.times.specs.declared.running.RunningOf.{RunningOf}
 use Rattle.times.specs.Running.{RunningAs}
 
 pub record OneOutcome : Type 0 where
-  pub running_time_holds : (of : RunningOf) → Once (RunningAs of)
+  pub running_time : (of : RunningOf) → Once (RunningAs of)

@@ -4,7 +4,13 @@ use crate::lex;
 use crate::parse::Function;
 
 /// The marks between claims. A text with one of them outside parentheses is more than one equation or one predicate.
-const BETWEEN_CLAIMS: [&str; 4] = ["≡", "×", "→", "⊎"];
+const BETWEEN_CLAIMS: [&str; 6] = ["≡", "≢", "×", "→", "⊎", "↔"];
+
+/// What a clause calls the returned value.
+const RESULT: &str = "result";
+
+/// The words that begin a term that is no predicate with its arguments.
+const NO_PREDICATES: [&str; 8] = ["λ", "let", "if", "elim", "do", "unfold", "record", "Type"];
 
 /// The form of a promise.
 pub enum Promise {
@@ -27,21 +33,24 @@ pub fn faults(function: &Function, for_tests: bool) -> Vec<String> {
     let ensures = || clauses(function, "ensures");
     if ensures().next().is_none() {
         found.push("has no `ensures`".to_string());
-    } else if function.gives && !ensures().any(names_result) {
+    } else if function.gives && !ensures().any(|text| names(text, RESULT)) {
         found.push("gives a value back, and no `ensures` names it".to_string());
     }
     for name in &function.lent {
-        if !ensures().any(|text| names_exit(text, name)) {
-            found.push(format!("`{name}` is lent by `&mut`, and no `ensures` names `{name} .exit`"));
+        if !ensures().any(|text| names_field(text, name, "new")) {
+            found.push(format!("`{name}` is lent by `&mut`, and no `ensures` names `{name}.new`"));
         }
     }
     found
 }
 
 /// The form of the function's promise; none if it has no `ensures`. Of several `ensures` one that leaves no second outcome
-/// is enough, since the others can only add to it. So an equation counts first, and then the first predicate.
+/// is enough, since the others can only add to it. So an equation counts first, and then the first predicate. With a `ghost`
+/// value it is neither, since the promise then holds only of what the caller picks for it.
 pub fn promise(function: &Function) -> Option<Promise> {
-    let forms = clauses(function, "ensures").map(|text| form(function, text));
+    let ghost = clauses(function, "ghost").next().is_some();
+    let form = |text| if ghost { Promise::Neither } else { form(function, text) };
+    let forms = clauses(function, "ensures").map(form);
     forms.min_by_key(|form| match form {
         Promise::Equation => 0,
         Promise::Predicate(_) => 1,
@@ -56,43 +65,37 @@ fn clauses<'a>(function: &'a Function, wanted: &'a str) -> impl Iterator<Item = 
 
 /// The form of one `ensures`.
 fn form(function: &Function, text: &[String]) -> Promise {
-    let Some((bound, body)) = claim(text) else { return Promise::Neither };
-    if is_equation(function, bound, body) {
+    if is_equation(function, text) {
         return Promise::Equation;
     }
-    predicate(bound, body).map_or(Promise::Neither, Promise::Predicate)
+    predicate(text).map_or(Promise::Neither, Promise::Predicate)
 }
 
-/// The bound name and the body of `λ bound. ⌜ body ⌝`.
-fn claim(text: &[String]) -> Option<(&str, &[String])> {
-    let [lambda, bound, dot, open, body @ .., close] = text else { return None };
-    let framed = [lambda, dot, open, close] == ["λ", ".", "⌜", "⌝"];
-    let whole = !body.iter().any(|name| name == "⌜" || name == "⌝");
-    (framed && whole).then_some((bound, body))
-}
-
-/// Is it `bound ≡ ..`, or `now (x .exit) ≡ ..` of a function that is lent only x and returns nothing? The right side must
-/// not name the result or any `.exit`.
-fn is_equation(function: &Function, bound: &str, body: &[String]) -> bool {
+/// Is it `result ≡ ..`, or `x.new ≡ ..` of a function that is lent only x and returns nothing? The right side must not name
+/// the result, or what x is at the end.
+fn is_equation(function: &Function, text: &[String]) -> bool {
     let left = match function.lent.as_slice() {
-        [] if bound != "_" => vec![bound],
-        [lent] if bound == "_" && !function.gives => vec!["now", "(", lent, ".", "exit", ")"],
+        [] => vec![RESULT],
+        [lent] if !function.gives => vec![lent, ".", "new"],
         _ => return false,
     };
-    let sides = body.split_at_checked(left.len()).filter(|(side, _)| *side == left);
+    let sides = text.split_at_checked(left.len()).filter(|(side, _)| *side == left);
     let Some([mark, right @ ..]) = sides.map(|(_, rest)| rest) else { return false };
-    let by_itself = !names(right, bound) && !function.lent.iter().any(|lent| names_exit(right, lent));
+    let at_the_end = |lent: &String| names_field(right, lent, "new") || names_field(right, lent, "exit");
+    let by_itself = !names(right, RESULT) && !function.lent.iter().any(at_the_end);
     let one = !outside(right).any(|name| BETWEEN_CLAIMS.contains(&name));
     mark == "≡" && !right.is_empty() && by_itself && one
 }
 
-/// The name P of a body `P a (b c) ..` or `M.P a ..`.
-fn predicate(bound: &str, body: &[String]) -> Option<String> {
-    let dots = body.iter().skip(1).step_by(2).take_while(|name| *name == ".").count();
-    let head = body.get(2 * dots)?;
-    let is_name = |name: &String| name.chars().any(char::is_alphanumeric) && name != bound;
-    let applied = body.len() > 2 * dots + 1 && !outside(body).any(is_operator);
-    (is_name(head) && is_name(&body[0]) && applied).then(|| head.clone())
+/// The name P of a text `P a (b c) ..` or `M.P a ..`. A module's name begins with a capital; after another name the dot is that
+/// of a field.
+fn predicate(text: &[String]) -> Option<String> {
+    let dots = text.iter().skip(1).step_by(2).take_while(|name| *name == ".").count();
+    let head = text.get(2 * dots)?;
+    let is_name = head.chars().any(char::is_alphanumeric) && head != RESULT && !NO_PREDICATES.contains(&head.as_str());
+    let modules = text.iter().step_by(2).take(dots).all(|name| name.starts_with(char::is_uppercase));
+    let applied = text.len() > 2 * dots + 1 && !outside(text).any(is_operator);
+    (is_name && modules && applied).then(|| head.clone())
 }
 
 /// Is it a name made only of marks, such as `≤`? `[]` and `_` do not count.
@@ -111,20 +114,15 @@ fn outside(text: &[String]) -> impl Iterator<Item = &str> {
     })
 }
 
-/// Does the text bind a name to the result, and name it?
-fn names_result(text: &[String]) -> bool {
-    matches!(text, [lambda, bound, _, rest @ ..] if lambda == "λ" && bound != "_" && names(rest, bound))
-}
-
 /// Does the text name `wanted`?
 fn names(text: &[String], wanted: &str) -> bool {
     (0..text.len()).any(|i| names_at(text, i, wanted))
 }
 
-/// Does the text name `parameter .exit`?
-fn names_exit(text: &[String], parameter: &str) -> bool {
-    let exits = |i: usize| text[i + 1..].starts_with(&[".".to_string(), "exit".to_string()]);
-    (0..text.len()).any(|i| names_at(text, i, parameter) && exits(i))
+/// Does the text name `parameter.field`?
+fn names_field(text: &[String], parameter: &str, field: &str) -> bool {
+    let has = |i: usize| text[i + 1..].starts_with(&[".".to_string(), field.to_string()]);
+    (0..text.len()).any(|i| names_at(text, i, parameter) && has(i))
 }
 
 /// Does the text name `wanted` at `i`? After a dot the same name would be a field.

@@ -8,7 +8,8 @@ pub struct Token {
     /// The word or the mark; for a clause, its keyword.
     pub text: String,
     pub line: usize,
-    /// For a clause, the names and marks in its braces, without comments, quoted texts and brackets `⟦ .. ⟧`.
+    /// For a clause, the names and marks in its braces, without comments, quoted texts and brackets `⟦ .. ⟧`. A clause with a
+    /// star, `ensures* { .. }`, has a `*` before them.
     pub clause: Option<Vec<String>>,
 }
 
@@ -148,8 +149,8 @@ impl Lexer {
                 }
                 if c == '\'' {
                     self.run(in_word); // a lifetime
-                } else if let Some(end) = self.clause_end(&text) {
-                    self.clause(end)?;
+                } else if let Some((end, star)) = self.clause_end(&text) {
+                    self.clause(end, star)?;
                 } else if !c.is_whitespace() {
                     self.tokens.push(Token { text, line, clause: None });
                 }
@@ -158,18 +159,22 @@ impl Lexer {
         Ok(())
     }
 
-    /// If `text` opens a clause, or is the `use` of a `ghost use`, returns the mark that ends it. Its keyword is then the last
-    /// token.
-    fn clause_end(&mut self, text: &str) -> Option<char> {
+    /// If `text` opens a clause, or is the `use` of a `ghost use`, returns the mark that ends it, and whether it has a star. Its
+    /// keyword is then the last token.
+    fn clause_end(&mut self, text: &str) -> Option<(char, bool)> {
         let is_head = |t: &Token| t.clause.is_none() && KEYWORDS.contains(&t.text.as_str());
-        let back = self.tokens.iter().rev().take(2).position(is_head)?;
-        let end = match (text, back) {
-            ("{", _) => '}',
-            ("use", 0) => ';',
+        let back = self.tokens.iter().rev().take(3).position(is_head)?;
+        let (before, after) = self.tokens.split_at(self.tokens.len() - back);
+        let ghost = before.last().is_some_and(|keyword| keyword.text == "ghost");
+        let after: Vec<&str> = after.iter().map(|t| t.text.as_str()).collect();
+        let star = after.first() == Some(&"*");
+        let end = match (text, ghost, after.as_slice()) {
+            ("use", true, []) => ';',
+            ("{", true, [_, ":"]) | ("{", false, [] | [_] | ["*", _]) => '}',
             _ => return None,
         };
-        self.tokens.truncate(self.tokens.len() - back); // drops a clause's name
-        Some(end)
+        self.tokens.truncate(self.tokens.len() - back); // drops a clause's star and name
+        Some((end, star))
     }
 
     /// Steps over a comment or a quoted text of antt, if one begins here.
@@ -185,8 +190,11 @@ impl Lexer {
     }
 
     /// Reads antt into the last token, up to an `end` outside all braces.
-    fn clause(&mut self, end: char) -> Result<(), String> {
+    fn clause(&mut self, end: char, star: bool) -> Result<(), String> {
         let mut names = Vec::new();
+        if star {
+            names.push("*".to_string());
+        }
         let mut depth = 0;
         loop {
             let c = self.peek(0);

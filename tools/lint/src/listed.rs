@@ -3,7 +3,7 @@
 use std::fs;
 use std::path::Path;
 
-/// A crate's line: `NAME: DEP DEP ..`.
+/// A crate's line: `NAME: DEP DEP ..`. Words after its name say how it is built, as in `NAME staticlib: DEP DEP ..`.
 struct Listed {
     line: usize,
     name: String,
@@ -44,9 +44,10 @@ fn read(root: &Path) -> Result<Vec<Listed>, String> {
         if text.is_empty() {
             continue;
         }
-        let (name, needs) = text.split_once(':').ok_or(format!("crates.txt:{}: expected NAME: DEP DEP ..", at + 1))?;
+        let sides = text.split_once(':').and_then(|(head, needs)| Some((head.split_whitespace().next()?, needs)));
+        let (name, needs) = sides.ok_or(format!("crates.txt:{}: expected NAME: DEP DEP ..", at + 1))?;
         let needs = needs.split_whitespace().map(String::from).collect();
-        found.push(Listed { line: at + 1, name: name.trim().to_string(), needs });
+        found.push(Listed { line: at + 1, name: name.to_string(), needs });
     }
     Ok(found)
 }

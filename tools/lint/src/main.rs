@@ -2,10 +2,10 @@
 //!
 //! `lint ROOT` reads each library crate of ROOT/crates. A function that another crate can reach must ask nothing of its
 //! caller (no `requires`). It must say what it does and returns (an `ensures`). It must also say what all memory that it is
-//! lent by `&mut` contains at the end (`out .exit` in an `ensures`).
+//! lent by `&mut` contains at the end (`out.new` in an `ensures`).
 //!
-//! No second outcome may meet what it promises. For an equation this is clear: `r ≡ ..`, or `now (out .exit) ≡ ..`. Any
-//! other promise must be one predicate, `P r ..`, and specs/Unique.antt of the crate must say that it has one outcome: in
+//! No second outcome may meet what it promises. For an equation this is clear: `result ≡ ..`, or `out.new ≡ ..`. Any other
+//! promise must be one predicate, `P result ..`, and specs/Unique.antt of the crate must say that it has one outcome: in
 //! `pub record OneOutcome`, a field with the function's name that says `Once` of `P`. Each field must belong to such a
 //! function, and a file of the crate's proofs must prove the record (a line `pub NAME : OneOutcome`).
 //!

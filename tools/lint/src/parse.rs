@@ -146,10 +146,35 @@ impl Parser<'_> {
         Ok(&self.tokens[start..self.at])
     }
 
-    /// Reads an item.
+    /// Reads the parameters of a generic item, `<T: A, const N: usize>`, if they come next. Returns what is inside.
+    fn generics(&mut self) -> Result<&[Token], String> {
+        let start = self.at;
+        let mut depth = 0;
+        loop {
+            match self.peek() {
+                "<" => depth += 1,
+                ">" if self.tokens[self.at - 1].text != "-" => depth -= 1, // `->` closes nothing
+                _ => {}
+            }
+            if depth > 0 {
+                self.group()?;
+            } else if start == self.at {
+                return Ok(&[]);
+            } else {
+                self.at += 1;
+                return Ok(&self.tokens[start + 1..self.at - 1]);
+            }
+        }
+    }
+
+    /// Reads an item, or an attribute of what it is in, `#![..]`.
     fn item(&mut self) -> Result<(), String> {
         while self.take("#") {
+            let inner = self.take("!");
             self.group()?;
+            if inner {
+                return Ok(());
+            }
         }
         let mut public = self.take("pub");
         if public && self.peek() == "(" {
@@ -197,10 +222,11 @@ impl Parser<'_> {
         if let Some(owner) = &self.owner {
             name = format!("{}::{name}", owner.join("::"));
         }
+        let mut mentions = paths(self.generics()?);
         self.until(&["("])?;
         let parameters = self.group()?;
         let lent = split(parameters).into_iter().filter_map(lent).collect();
-        let mut mentions = paths(parameters);
+        mentions.extend(paths(parameters));
         let rest = self.until(&["{", ";"])?;
         mentions.extend(paths(rest));
         let gives = rest.first().is_some_and(|t| t.text == "-"); // the arrow
@@ -239,16 +265,22 @@ impl Parser<'_> {
         self.group().map(|_| ())
     }
 
-    /// Reads an `impl` block, from its type on.
+    /// Reads an `impl` block, from its parameters or its type on.
     fn methods(&mut self) -> Result<(), String> {
-        let owner = paths(self.until(&["{"])?).into_iter().next();
+        self.generics()?;
+        let head = self.until(&["{"])?;
+        let (owner, of_trait) = (paths(head).into_iter().next(), head.iter().any(|t| t.text == "for"));
+        if of_trait {
+            return self.error("the lint cannot read an `impl` of a trait: its functions are public without a `pub`");
+        }
         self.block(self.module, owner)
     }
 
     /// Reads a struct, an enum or a constant, from its name on. One of `ends` is its last token or opens its last group.
     fn data(&mut self, public: bool, ends: &[&str]) -> Result<(), String> {
         let (name, line) = (self.next()?, self.line());
-        let mut mentions = paths(self.until(ends)?);
+        let mut mentions = paths(self.generics()?);
+        mentions.extend(paths(self.until(ends)?));
         mentions.extend(paths(self.group()?));
         self.push(name, line, public, Kind::Data, mentions);
         Ok(())

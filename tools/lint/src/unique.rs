@@ -44,7 +44,7 @@ impl Unique {
     /// What the statement about a function lacks, if the function promises this predicate. Two functions of the same name, in
     /// two modules or of two types, share a statement, which must say `Once` of the predicates of both.
     pub fn asked(&mut self, function: &str, predicate: &str) -> Option<String> {
-        let name = function.rsplit("::").next().unwrap_or_default().replace('_', "-");
+        let name = function.rsplit("::").next().unwrap_or_default();
         let Some(field) = self.fields.iter_mut().find(|field| field.name == name) else {
             return Some(format!(
                 "no statement that no second outcome meets its promise ({name} in specs/Unique.antt)"

@@ -94,9 +94,9 @@ fn refuses(files: &[(&str, &str)], error: &str) {
 
 #[test]
 fn function_in_order_passes() {
-    finds("pub fn f(n: u8) -> u8\n    ensures { λ r. ⌜ r ≡ n ⌝ }\n{\n    n\n}\n", 1, 0, &[]);
+    finds("#![tactic(auto)]\n\npub fn f(n: u8) -> u8\n    ensures { result ≡ n }\n{\n    n\n}\n", 1, 0, &[]);
     finds(
-        "#[no_mangle]\npub extern \"C\" fn f(out: &mut [u8])\n    ensures all { λ _. ⌜ now (out .exit) ≡ [] ⌝ }\n{}\n",
+        "#[unsafe(no_mangle)]\npub extern \"C\" fn f(out: &mut [u8])\n    ensures all { out.new ≡ [] }\n{}\n",
         1,
         0,
         &[],
@@ -105,71 +105,82 @@ fn function_in_order_passes() {
 
 #[test]
 fn requires_is_a_fault() {
-    let ensures = "ensures { λ r. ⌜ r ≡ n ⌝ }";
+    let ensures = "ensures { result ≡ n }";
     let fault = ["1: f: has a `requires`"];
-    finds(&format!("pub fn f(n: u8) -> u8 requires {{ ⌜ n < 9 ⌝ }} {ensures} {{ n }}"), 1, 1, &fault);
-    finds(&format!("pub fn f(n: u8) -> u8 requires small {{ ⌜ n < 9 ⌝ }} {ensures} {{ n }}"), 1, 1, &fault);
-    finds(&format!("pub fn f(n: u8) -> u8 {ensures} requires {{ a }} requires {{ b }} {{ n }}"), 1, 1, &fault);
-    finds(&format!("pub fn f(n: u8) -> u8 ghost {{ ℕ }} {ensures} requires {{ λ g. b }} {{ n }}"), 1, 1, &fault);
+    for requires in ["requires { n < 9 }", "requires small { n < 9 }", "requires* { a }", "requires* small { a }"] {
+        finds(&format!("pub fn f(n: u8) -> u8 {requires} {ensures} {{ n }}"), 1, 1, &fault);
+    }
+    finds(&format!("pub fn f(n: u8) -> u8 {ensures} requires one {{ a }} requires two {{ b }} {{ n }}"), 1, 1, &fault);
+    let both = [fault[0], "1: f: its promise is neither an equation nor one predicate"];
+    finds(&format!("pub fn f(n: u8) -> u8 ghost g: {{ ℕ }} {ensures} requires {{ g < 9 }} {{ n }}"), 1, 1, &both);
+}
+
+#[test]
+fn promise_of_a_ghost_value_is_a_fault() {
+    let fault = ["1: f: its promise is neither an equation nor one predicate"];
+    for promise in ["result ≡ n", "result ≡ g", "P g result"] {
+        let text = format!("pub fn f(n: u8) -> u8 ghost g: {{ ℕ }} ensures {{ {promise} }} {{ n }}");
+        finds(&text, 1, 1, &fault);
+    }
 }
 
 #[test]
 fn no_ensures_is_a_fault() {
     finds("\n\npub fn f(n: u8) -> u8 {\n    n\n}\n", 1, 1, &["3: f: has no `ensures`"]);
-    finds("pub fn f() ghost { ℕ } {}", 1, 1, &["1: f: has no `ensures`"]);
+    finds("pub fn f() ghost g: { ℕ } {}", 1, 1, &["1: f: has no `ensures`"]);
     let both = ["1: f: has a `requires`", "1: f: has no `ensures`"];
-    finds("pub fn f(n: u8) requires { ⌜ n < 9 ⌝ } {}", 1, 1, &both);
+    finds("pub fn f(n: u8) requires { n < 9 } {}", 1, 1, &both);
 }
 
 #[test]
 fn lent_memory_without_its_exit_is_a_fault() {
-    let fault = ["1: f: `out` is lent by `&mut`, and no `ensures` names `out .exit`"];
+    let fault = ["1: f: `out` is lent by `&mut`, and no `ensures` names `out.new`"];
     for parameter in ["out: &mut [u8]", "out: &'a mut [u8; 3]", "mut out: & mut u8", "out: (&mut u8)"] {
         let text = |clauses: &str| format!("pub fn f<'a>(n: u8, {parameter}) {clauses} {{}}");
-        finds_stated(&text("ensures { λ _. ⌜ P (now (out .entry)) ⌝ }"), 1, 1, &fault);
-        finds_stated(&text("ensures { λ _. ⌜ P (now (out .exit)) ⌝ }"), 1, 0, &[]);
-        finds(&text("ensures { λ _. ⌜ n ≡ n ⌝ } ensures named { λ _. ⌜ now (out .exit) ≡ n ⌝ }"), 1, 0, &[]);
+        finds_stated(&text("ensures { P out.old }"), 1, 1, &fault);
+        finds_stated(&text("ensures { P out.new }"), 1, 0, &[]);
+        finds(&text("ensures same { n ≡ n } ensures named { out.new ≡ n }"), 1, 0, &[]);
     }
     finds("pub fn f(out: &mut u8) {}", 1, 1, &["1: f: has no `ensures`", fault[0]]);
-    let only_requires = "pub fn f(out: &mut u8) requires { out .exit } ensures { λ _. ⌜ P a ⌝ } {}";
+    let only_requires = "pub fn f(out: &mut u8) requires { out.new } ensures { P a } {}";
     finds_stated(only_requires, 1, 1, &["1: f: has a `requires`", fault[0]]);
 }
 
 #[test]
 fn shared_and_held_references_are_no_fault() {
-    let text = "pub fn f<'a>(s: &'a [u8], t: &[&mut u8], w: Both<'a, 'a>, n: u8) ensures { λ r. ⌜ r ≡ tt ⌝ } {}";
+    let text = "pub fn f<'a>(s: &'a [u8], t: &[&mut u8], w: Both<'a, 'a>, n: u8) ensures { result ≡ tt } {}";
     finds(text, 1, 0, &[]);
 }
 
 #[test]
 fn each_of_two_lent_parameters_counts() {
-    let text = |claim: &str| {
-        format!("pub fn f<'a>(one: &mut [u8], k: Both<'a, 'a>, two: &mut u8) ensures {{ λ _. ⌜ {claim} ⌝ }} {{}}")
-    };
-    let fault = |name: &str| format!("1: f: `{name}` is lent by `&mut`, and no `ensures` names `{name} .exit`");
-    finds_stated(&text("P (now (one .exit))"), 1, 1, &[&fault("two")]);
-    finds_stated(&text("P (now (two .exit))"), 1, 1, &[&fault("one")]);
+    let text =
+        |claim: &str| format!("pub fn f<'a>(one: &mut [u8], k: Both<'a, 'a>, two: &mut u8) ensures {{ {claim} }} {{}}");
+    let fault = |name: &str| format!("1: f: `{name}` is lent by `&mut`, and no `ensures` names `{name}.new`");
+    finds_stated(&text("P one.new"), 1, 1, &[&fault("two")]);
+    finds_stated(&text("P two.new"), 1, 1, &[&fault("one")]);
     finds_stated(&text("P 1"), 1, 1, &[&fault("one"), &fault("two")]);
-    finds_stated(&text("P (now (one .exit)) (now (two .exit))"), 1, 0, &[]);
+    finds_stated(&text("P one.new two.new"), 1, 0, &[]);
 }
 
 #[test]
 fn exit_is_spelled_in_several_ways() {
-    let text = |claim: &str| format!("pub fn f(in_: u8, out: &mut u8) ensures {{ λ _. ⌜ P {claim} ⌝ }} {{}}");
-    for claim in ["(now (out .exit))", "(now («out» .exit))", "(now (out.exit))", "(out .exit .0)"] {
+    let text = |claim: &str| format!("pub fn f(in_: u8, out: &mut u8) ensures {{ P {claim} }} {{}}");
+    for claim in ["out.new", "«out».new", "(f out.new)", "out.new.0"] {
         finds_stated(&text(claim), 1, 0, &[]);
     }
-    let fault = ["1: f: `out` is lent by `&mut`, and no `ensures` names `out .exit`"];
+    let fault = ["1: f: `out` is lent by `&mut`, and no `ensures` names `out.new`"];
     for claim in [
-        "(now (my-out .exit))",
-        "(now (outer .exit))",
-        "(now (x .out .exit))",
-        "(now (out .exits))",
-        "out exit",
-        "a -- out .exit\n",
-        "a {- out .exit -}",
-        "a \"out .exit\"",
-        "a ⟦out.exit⟧ .entry",
+        "my-out.new",
+        "outer.new",
+        "x.out.new",
+        "out.news",
+        "out new",
+        "out.exit",
+        "a -- out.new\n",
+        "a {- out.new -}",
+        "a \"out.new\"",
+        "a ⟦out.new⟧.old",
     ] {
         finds_stated(&text(claim), 1, 1, &fault);
     }
@@ -179,31 +190,44 @@ fn exit_is_spelled_in_several_ways() {
 fn result_without_its_name_is_a_fault() {
     let text = |clause: &str| format!("pub fn f(n: u8) -> u8 ensures {{ {clause} }} {{ n }}");
     let fault = ["1: f: gives a value back, and no `ensures` names it"];
-    for clause in ["λ _. ⌜ P n ⌝", "λ r. ⌜ P n ⌝", "λ r. ⌜ P (n .r) ⌝", "λ r. ⌜ P n ⌝ -- r\n"] {
+    for clause in ["P n", "P results", "P n.result", "P n -- result\n"] {
         finds_stated(&text(clause), 1, 1, &fault);
     }
-    finds_stated(&text("λ r. ⌜ P (r .0) ⌝"), 1, 0, &[]);
-    finds_stated("pub fn f(n: u8) ensures { λ _. ⌜ P n ⌝ } {}", 1, 0, &[]);
+    finds_stated(&text("P result.0"), 1, 0, &[]);
+    finds_stated("pub fn f(n: u8) ensures { P n } {}", 1, 0, &[]);
 }
 
 // No second outcome.
 
 #[test]
 fn plain_equation_needs_no_statement() {
-    for claim in
-        ["n", "f (g ≡ h) n", "sum (λ x. n) + 1", "record { a = 1; b = (c × d) }", "clock .got (now s) at", "[]"]
-    {
-        finds(&format!("pub fn f(n: u8) -> u8 ensures {{ λ r.\n    ⌜ r ≡\n {claim} ⌝ }} {{ n }}"), 1, 0, &[]);
+    for claim in [
+        "n",
+        "f (g ≡ h) n",
+        "sum (λ x. n) + 1",
+        "record { a = 1; b = (c × d) }",
+        "clock.got s.now at",
+        "[]",
+        "if b then n else 0",
+    ] {
+        finds(&format!("pub fn f(n: u8) -> u8 ensures {{\n    result ≡\n {claim} }} {{ n }}"), 1, 0, &[]);
     }
-    let lent = |claim: &str| format!("pub fn f(out: &mut [u8]) ensures {{ λ _. ⌜ {claim} ⌝ }} {{}}");
-    finds(&lent("now (out .exit) ≡ set (now (out .entry)) 1"), 1, 0, &[]);
-    finds(&lent("now («out» .exit) ≡ []"), 1, 0, &[]);
+    let lent = |claim: &str| format!("pub fn f(out: &mut [u8]) ensures {{ {claim} }} {{}}");
+    finds(&lent("out.new ≡ set out.old 1"), 1, 0, &[]);
+    finds(&lent("«out».new ≡ []"), 1, 0, &[]);
 }
 
 #[test]
 fn predicate_with_its_statement_passes() {
-    for claim in ["P r", "P {A = ℕ} (n ≡ n) r", "P [] (r .answer) _", "M.P n r", "L.M.P n r", "P «record» n r"] {
-        finds_stated(&format!("pub fn f(n: u8) -> u8 ensures {{ λ r.\n ⌜ {claim}\n ⌝ }} {{ n }}"), 1, 0, &[]);
+    for claim in [
+        "P result",
+        "P {A = ℕ} (n ≡ n) result",
+        "P [] result.answer _",
+        "M.P n result",
+        "L.M.P n result",
+        "P «record» n result",
+    ] {
+        finds_stated(&format!("pub fn f(n: u8) -> u8 ensures {{\n {claim}\n }} {{ n }}"), 1, 0, &[]);
     }
 }
 
@@ -211,59 +235,85 @@ fn predicate_with_its_statement_passes() {
 fn promise_of_another_form_is_a_fault() {
     let fault = ["1: f: its promise is neither an equation nor one predicate"];
     for clause in [
-        "λ r. ⌜ told r ≡ n ⌝",
-        "λ r. ⌜ (r ≡ n) ⌝",
-        "λ r. ⌜ n ≡ r ⌝",
-        "λ r. ⌜ r ≡ n × P r ⌝",
-        "λ r. ⌜ (r .a ≡ n) × (r .b ≡ n) ⌝",
-        "λ r. ⌜ P r × P n ⌝",
-        "λ r. ⌜ P r ≡ Q r ⌝",
-        "λ r. ⌜ r ≡ n ≡ n ⌝",
-        "λ r. ⌜ r ≡ n → P r ⌝",
-        "λ r. ⌜ r ≡ n ⊎ P r ⌝",
-        "λ r. ⌜ (x : ℕ) → P x r ⌝",
-        "λ r. ⌜ r ≤ n ⌝",
-        "λ r. ⌜ n < r ⌝",
-        "λ r. ⌜ r .good n ⌝",
-        "λ r. ⌜ (P) r ⌝",
-        "λ r. ⌜ \"P\" r ⌝",
-        "λ r. ⌜ P r ⌝ ∧ ⌜ P n ⌝",
-        "λ r. do v ← ⟦n⟧ .entry; ⌜ r ≡ v ⌝",
-        "λ r. r",
-        "λ r. ⌜ r ⌝",
-        "λ r. ⌜ r ≡ ⌝",
-        "λ r. ⌜ r ≡ r ⌝",
-        "λ r. ⌜ r ≡ f (r) ⌝",
+        "told result ≡ n",
+        "(result ≡ n)",
+        "n ≡ result",
+        "result ≡ n × P result",
+        "(result.a ≡ n) × (result.b ≡ n)",
+        "P result × P n",
+        "P result ≡ Q result",
+        "result ≡ n ≡ n",
+        "result ≡ n ≢ n",
+        "result ≡ n → P result",
+        "result ≡ n ⊎ P result",
+        "result ≡ n ↔ P result",
+        "(x : ℕ) → P x result",
+        "¬ P result",
+        "result ≤ n",
+        "n < result",
+        "result.good n",
+        "n.good result",
+        "(P) result",
+        "\"P\" result",
+        "P result ∧ P n",
+        "λ r. ⌜ r ≡ result ⌝",
+        "⌜ P result ⌝",
+        "let v = n in result ≡ v",
+        "let v = n in P v result",
+        "if b then P result else P n",
+        "result",
+        "(result)",
+        "result ≡",
+        "result ≡ result",
+        "result ≡ f (result)",
     ] {
         finds(&format!("pub fn f(n: u8) -> u8 ensures {{ {clause} }} {{ n }}"), 1, 1, &fault);
     }
     finds("pub fn f() ensures { a } {}", 1, 1, &fault);
-    finds("pub fn f() ensures { λ _. ⌜ _ ≡ tt ⌝ } {}", 1, 1, &fault);
-    finds("pub fn f() ensures { λ _. ⌜ P ⌝ } {}", 1, 1, &fault);
+    finds("pub fn f() ensures { _ ≡ tt } {}", 1, 1, &fault);
+    finds("pub fn f() ensures { P } {}", 1, 1, &fault);
+}
+
+#[test]
+fn promise_with_a_star_is_a_fault() {
+    let fault = ["1: f: its promise is neither an equation nor one predicate"];
+    for clause in [
+        "ensures* { ⌜ P result ⌝ ∗ ⌜ P n ⌝ }",
+        "ensures* { do v ← ⟦n⟧.old; ⌜ result ≡ v ⌝ }",
+        "ensures* all { result ≡ n }",
+        "ensures* { P result }",
+    ] {
+        finds(&format!("pub fn f(n: u8) -> u8 {clause} {{ n }}"), 1, 1, &fault);
+    }
+    let two = "pub fn f(n: u8) -> u8 ensures* lent { P n } ensures same { result ≡ n } { n }";
+    finds(two, 1, 0, &[]);
 }
 
 #[test]
 fn equation_that_leaves_out_lent_memory_is_a_fault() {
     let fault = ["1: f: its promise is neither an equation nor one predicate"];
     for (parameters, clause) in [
-        ("out: &mut u8", "λ _. ⌜ now (out .exit) ≡ now (out .exit) ⌝"),
-        ("out: &mut u8", "λ _. ⌜ now (out .exit) ≡ 1 × P 1 ⌝"),
-        ("out: &mut u8", "λ _. ⌜ out .exit ≡ 1 ⌝"),
-        ("one: &mut u8, two: &mut u8", "λ _. ⌜ now (one .exit) ≡ now (two .exit) ⌝"),
+        ("out: &mut u8", "out.new ≡ out.new"),
+        ("out: &mut u8", "out.new ≡ f out.exit.now"),
+        ("out: &mut u8", "out.new ≡ 1 × P 1"),
+        ("out: &mut u8", "out.new.0 ≡ 1"),
+        ("one: &mut u8, two: &mut u8", "one.new ≡ two.new"),
     ] {
         finds(&format!("pub fn f({parameters}) ensures {{ {clause} }} {{}}"), 1, 1, &fault);
     }
+    let unnamed = "1: f: `out` is lent by `&mut`, and no `ensures` names `out.new`";
+    finds("pub fn f(out: &mut u8) ensures { out.exit ≡ 1 } {}", 1, 1, &[unnamed, fault[0]]);
     let gives = |clause: &str| format!("pub fn f(out: &mut u8) -> u8 ensures {{ {clause} }} {{ 1 }}");
-    finds(&gives("λ r. ⌜ r ≡ now (out .exit) ⌝"), 1, 1, &fault);
+    finds(&gives("result ≡ out.new"), 1, 1, &fault);
     let unnamed = "1: f: gives a value back, and no `ensures` names it";
-    finds(&gives("λ _. ⌜ now (out .exit) ≡ 1 ⌝"), 1, 1, &[unnamed, fault[0]]);
+    finds(&gives("out.new ≡ 1"), 1, 1, &[unnamed, fault[0]]);
 }
 
 #[test]
 fn one_of_several_promises_is_enough() {
     let text = |clauses: &str| format!("pub fn f(n: u8) -> u8 {clauses} {{ n }}");
-    let [equation, odd] = ["ensures { λ r. ⌜ r ≡ n ⌝ }", "ensures { λ r. ⌜ r ≤ n ⌝ }"];
-    let [p, q] = ["ensures { λ r. ⌜ P r ⌝ }", "ensures { λ r. ⌜ Q r ⌝ }"];
+    let [equation, odd] = ["ensures same { result ≡ n }", "ensures low { result ≤ n }"];
+    let [p, q] = ["ensures p { P result }", "ensures q { Q result }"];
     finds(&text(&format!("{odd} {p} {equation}")), 1, 0, &[]);
     finds(&text(&format!("{equation} {p} {odd}")), 1, 0, &[]);
     finds_stated(&text(&format!("{odd} {p} {odd} {q}")), 1, 0, &[]);
@@ -273,7 +323,7 @@ fn one_of_several_promises_is_enough() {
 
 /// A crate whose function `some_call` promises the predicate `P`.
 const PREDICATE: (&str, &str) =
-    ("crates/a/src/lib.rt", "pub fn some_call(n: u8) -> u8\n    ensures { λ r. ⌜ P n r ⌝ }\n{\n    n\n}\n");
+    ("crates/a/src/lib.rt", "pub fn some_call(n: u8) -> u8\n    ensures { P n result }\n{\n    n\n}\n");
 
 /// A proof of its statements.
 const PROOF: (&str, &str) = ("crates/a/proofs/deep/Laws.antt", "-- A law.\npub one : OneOutcome\none = x\n");
@@ -294,7 +344,7 @@ use a.{b}
 pub record OneOutcome (n : ℕ)
     : Type 0 where
   -- of it
-  pub some-call : Once (λ r. P n r)
+  pub some_call : Once (λ r. P n r)
 
 pub x : ℕ
 ";
@@ -302,9 +352,9 @@ pub x : ℕ
 #[test]
 fn statement_is_read() {
     for unique in [
-        "pub record OneOutcome : Type 0 where\n  pub some-call : (n : ℕ) → Once (P n)\n",
-        "pub record OneOutcome : Type 0 where\n  pub some-call :\n    (n : ℕ)\n    → Once\n      (P n)\n",
-        "pub record OneOutcome : Type 0 where\n  pub «some-call» : Once (P n)\n",
+        "pub record OneOutcome : Type 0 where\n  pub some_call : (n : ℕ) → Once (P n)\n",
+        "pub record OneOutcome : Type 0 where\n  pub some_call :\n    (n : ℕ)\n    → Once\n      (P n)\n",
+        "pub record OneOutcome : Type 0 where\n  pub «some_call» : Once (P n)\n",
         AMONG_OTHERS,
     ] {
         says_of(unique, &[]);
@@ -313,17 +363,17 @@ fn statement_is_read() {
 
 #[test]
 fn predicate_without_a_statement_is_a_fault() {
-    let fault = ["no statement that no second outcome meets its promise (some-call in specs/Unique.antt)"];
+    let fault = ["no statement that no second outcome meets its promise (some_call in specs/Unique.antt)"];
     let place = "crates/a/src/lib.rt:1: some_call:";
     finds_in(&[PREDICATE], 1, 1, &[&format!("{place} {}", fault[0])]);
     for unique in [
         "",
         "pub record OneOutcome : Type 0 where\n",
-        "pub record OneOutcomes : Type 0 where\n  pub some-call : Once (P n)\n",
-        "record OneOutcome : Type 0 where\n  pub some-call : Once (P n)\n",
-        "pub record OneOutcome : Type 0 where\n  -- pub some-call : Once (P n)\n",
-        "pub record OneOutcome : Type 0 where\n{-\n  pub some-call : Once (P n)\n-}\n",
-        "pub record OneOutcome : Type 0 where\n\npub record Other : Type 0 where\n  pub some-call : Once (P n)\n",
+        "pub record OneOutcomes : Type 0 where\n  pub some_call : Once (P n)\n",
+        "record OneOutcome : Type 0 where\n  pub some_call : Once (P n)\n",
+        "pub record OneOutcome : Type 0 where\n  -- pub some_call : Once (P n)\n",
+        "pub record OneOutcome : Type 0 where\n{-\n  pub some_call : Once (P n)\n-}\n",
+        "pub record OneOutcome : Type 0 where\n\npub record Other : Type 0 where\n  pub some_call : Once (P n)\n",
     ] {
         says_of(unique, &fault);
     }
@@ -332,10 +382,10 @@ fn predicate_without_a_statement_is_a_fault() {
 #[test]
 fn statement_that_says_too_little_is_a_fault() {
     for said in
-        ["(n : ℕ) → P n", "Once (Q n)", "Once-more (P n)", "Once (P′ n)", "Once n -- P", "Once \"P\"", "\n  -- Once P"]
+        ["(n : ℕ) → P n", "Once (Q n)", "Once_more (P n)", "Once (P' n)", "Once n -- P", "Once \"P\"", "\n  -- Once P"]
     {
-        let unique = format!("pub record OneOutcome : Type 0 where\n  pub some-call : {said}\n");
-        says_of(&unique, &["its statement some-call does not say Once of P"]);
+        let unique = format!("pub record OneOutcome : Type 0 where\n  pub some_call : {said}\n");
+        says_of(&unique, &["its statement some_call does not say Once of P"]);
     }
 }
 
@@ -350,8 +400,8 @@ fn finds_unique(files: &[(&str, &str)], count: usize, faults: &[&str]) {
 
 #[test]
 fn stale_statement_is_a_fault() {
-    let text = "pub fn f() -> u8 ensures { λ r. ⌜ P r ⌝ } {}\npub fn g() -> u8 ensures { λ r. ⌜ r ≡ 1 ⌝ } {}\n\
-        fn h() -> u8 ensures { λ r. ⌜ P r ⌝ } {}\n";
+    let text = "pub fn f() -> u8 ensures { P result } {}\npub fn g() -> u8 ensures { result ≡ 1 } {}\n\
+        fn h() -> u8 ensures { P result } {}\n";
     let unique = "pub record OneOutcome : Type 0 where\n  pub gone : Once Q\n  pub f : Once P\n  pub g : Once P\n  \
         pub h :\n    Once P\n  f : Once P\n";
     let fault = |at: &str| format!(":{at}: no public function of this name promises a predicate");
@@ -363,7 +413,7 @@ fn stale_statement_is_a_fault() {
 
 #[test]
 fn statements_without_a_proof_are_a_fault() {
-    let text = ("crates/a/src/lib.rt", "pub fn f() -> u8 ensures { λ r. ⌜ P r ⌝ } {}\n");
+    let text = ("crates/a/src/lib.rt", "pub fn f() -> u8 ensures { P result } {}\n");
     let fault = [": no file of proofs has a line `pub NAME : OneOutcome`"];
     finds_unique(&[text, STATED[0]], 1, &fault);
     for proof in [
@@ -388,8 +438,8 @@ fn statements_without_a_proof_are_a_fault() {
 
 #[test]
 fn functions_of_one_name_share_a_statement() {
-    let text = "pub mod one { pub fn f() -> u8 ensures { λ r. ⌜ P r ⌝ } {} }\n\
-        pub struct S; impl S { pub fn f() -> u8 ensures { λ r. ⌜ Q r ⌝ } {} }\n";
+    let text = "pub mod one { pub fn f() -> u8 ensures { P result } {} }\n\
+        pub struct S; impl S { pub fn f() -> u8 ensures { Q result } {} }\n";
     finds_stated(text, 2, 1, &["2: S::f: its statement f does not say Once of Q"]);
     let both = ("crates/a/specs/Unique.antt", "pub record OneOutcome : Type 0 where\n  pub f : Once P × Once Q\n");
     finds_in(&[("crates/a/src/lib.rt", text), both, STATED[1]], 2, 0, &[]);
@@ -397,7 +447,7 @@ fn functions_of_one_name_share_a_statement() {
 
 #[test]
 fn statement_of_another_crate_does_not_count() {
-    let text = "pub fn f() -> u8 ensures { λ r. ⌜ P r ⌝ } {}\n";
+    let text = "pub fn f() -> u8 ensures { P result } {}\n";
     let fault =
         "crates/b/src/lib.rt:1: f: no statement that no second outcome meets its promise (f in specs/Unique.antt)";
     let files = [("crates/a/src/lib.rt", text), STATED[0], STATED[1], ("crates/b/src/lib.rt", text)];
@@ -406,7 +456,7 @@ fn statement_of_another_crate_does_not_count() {
 
 #[test]
 fn library_for_tests_needs_no_statement() {
-    let text = ("crates/a/src/lib.rt", "pub fn f(n: u8) -> u8 ensures { λ r. ⌜ r ≤ n ⌝ } {}\n");
+    let text = ("crates/a/src/lib.rt", "pub fn f(n: u8) -> u8 ensures { result ≤ n } {}\n");
     let stale = ("crates/a/specs/Unique.antt", "pub record OneOutcome : Type 0 where\n  pub gone : Once Q\n");
     let repo = Repo::new(&[text, stale, ("crates.txt", "a:\n")]);
     let passed = (0, "lint: 1 public functions, 0 fall short\n".to_string(), String::new());
@@ -488,10 +538,10 @@ fn method_is_reached() {
     reaches("struct S { k: u8 } impl S { pub fn f(self) {} }", &["S::f"]);
     reaches("pub struct R<'a> { pub s: &'a [u8] } impl<'a> R<'a> { pub fn f(self) {} }", &["R::f"]);
     finds_stated(
-        "pub struct S(u8);\nimpl S {\n    pub fn f(&mut self)\n        ensures { λ _. ⌜ P (now (self .entry)) ⌝ }\n    {}\n}\n",
+        "pub struct S(u8);\nimpl S {\n    pub fn f(&mut self)\n        ensures { P self.old }\n    {}\n}\n",
         1,
         1,
-        &["3: S::f: `self` is lent by `&mut`, and no `ensures` names `self .exit`"],
+        &["3: S::f: `self` is lent by `&mut`, and no `ensures` names `self.new`"],
     );
 }
 
@@ -530,7 +580,7 @@ fn method_is_reached_where_a_value_is_handed_out() {
 
 /// Two libraries: `a` is in order, and `t` has faults that a library for tests may have.
 const TWO: [(&str, &str); 2] = [
-    ("crates/a/src/lib.rt", "pub fn f() ensures { λ r. ⌜ r ≡ 1 ⌝ } {}"),
+    ("crates/a/src/lib.rt", "pub fn f() ensures { result ≡ 1 } {}"),
     ("crates/t/src/lib.rt", "pub fn read(out: &mut u8) ensures { a } {}\npub fn print() {}\n"),
 ];
 
@@ -547,7 +597,7 @@ fn library_for_tests_needs_no_ensures() {
     let repo = Repo::new(&[TWO[0], TWO[1], crates, ("crates/p/src/main.rt", "fn main() {}")]);
     let passed = (0, "lint: 3 public functions, 0 fall short\n".to_string(), String::new());
     assert_eq!(repo.lint(&["--tests", "t"]), passed);
-    let faults = "crates/t/src/lib.rt:1: read: `out` is lent by `&mut`, and no `ensures` names `out .exit`\n\
+    let faults = "crates/t/src/lib.rt:1: read: `out` is lent by `&mut`, and no `ensures` names `out.new`\n\
         crates/t/src/lib.rt:1: read: its promise is neither an equation nor one predicate\n\
         crates/t/src/lib.rt:2: print: has no `ensures`\nlint: 3 public functions, 2 fall short\n";
     assert_eq!(repo.lint(&[]), (1, faults.to_string(), String::new()));
@@ -556,17 +606,18 @@ fn library_for_tests_needs_no_ensures() {
 
 #[test]
 fn requires_of_a_library_for_tests_is_a_fault() {
-    let file = ("crates/u/src/lib.rt", "pub fn f(n: u8) requires { ⌜ n < 9 ⌝ } {}\n");
+    let file = ("crates/u/src/lib.rt", "pub fn f(n: u8) requires { n < 9 } {}\n");
     let printed = "crates/u/src/lib.rt:1: f: has a `requires`\nlint: 4 public functions, 1 fall short\n";
     fails_listed(file, "a:\nt:\nu: t\n", "t,u", printed);
 }
 
 #[test]
 fn library_that_depends_on_one_for_tests_is_a_fault() {
-    let file = ("crates/b/src/lib.rt", "pub fn g() ensures { λ r. ⌜ r ≡ 1 ⌝ } {}\n");
+    let file = ("crates/b/src/lib.rt", "pub fn g() ensures { result ≡ 1 } {}\n");
     let printed = "crates.txt:3: b: depends on `t`, which is for tests alone\n\
         lint: 4 public functions, 0 fall short; faults in crates.txt: 1\n";
     fails_listed(file, "a:\nt:\nb: a t\n", "t", printed);
+    fails_listed(file, "a:\nt:\nb staticlib may_wait=4: a t\n", "t", printed);
 }
 
 #[test]
@@ -596,6 +647,7 @@ fn list_of_crates_that_cannot_be_read_is_refused() {
     };
     refused(Repo::new(&TWO), ": cannot be read: No such file or directory (os error 2)");
     refused(Repo::new(&[TWO[0], TWO[1], ("crates.txt", "t:\na\n")]), ":2: expected NAME: DEP DEP ..");
+    refused(Repo::new(&[TWO[0], TWO[1], ("crates.txt", "t:\n : a\n")]), ":2: expected NAME: DEP DEP ..");
 }
 
 // How text is read.
@@ -604,19 +656,22 @@ fn list_of_crates_that_cannot_be_read_is_refused() {
 fn braces_in_clauses_are_matched() {
     let rest = "{ let s = S { a: 1 }; }\npub fn g() {}\n";
     for claim in [
-        "⌜ r ≡ record { a = 1 } ⌝",
-        "⌜ r ≡ record { a = record { b = 1 } } ⌝",
+        "result ≡ record { a = 1 }",
+        "result ≡ record { a = record { b = 1 } }",
         "-- a comment }\n a",
         "{- } {- } -} } -} a",
-        "⌜ r ≡ codes \"}\\\"}\" ⌝",
-        "do v ← ⟦b'}'⟧ .entry; ⌜ r ≡ v ⌝",
-        "do v ← ⟦S { a: b\"}\"[0] }.a⟧ .entry; ⌜ r ≡ v ⌝",
-        "⌜ b' ≡ x' ⌝",
+        "result ≡ codes \"}\\\"}\"",
+        "result ≡ ⟦<S<b'}'> as Key>⟧.key",
+        "do v ← ⟦S { a: b\"}\"[0] }.a⟧.old; ⌜ result ≡ v ⌝",
+        "b' ≡ x'",
     ] {
-        let line = 2 + claim.matches('\n').count();
-        let fault = format!("{line}: g: has no `ensures`");
-        finds(&format!("fn f() -> S ensures {{ λ r. {claim} }} {rest}"), 1, 1, &[&fault]);
-        finds(&format!("fn f() -> S ensures first {{ λ r. {claim} }} ensures {{ a }} {rest}"), 1, 1, &[&fault]);
+        let lines = claim.matches('\n').count();
+        let fault = |lines: usize| format!("{}: g: has no `ensures`", 2 + lines);
+        finds(&format!("fn f() -> S ensures {{ {claim} }} {rest}"), 1, 1, &[&fault(lines)]);
+        finds(&format!("fn f() -> S ensures first {{ {claim} }} ensures more {{ a }} {rest}"), 1, 1, &[&fault(lines)]);
+        finds(&format!("fn f() -> S ensures* {{ {claim} }} {rest}"), 1, 1, &[&fault(lines)]);
+        let two = format!("fn f() -> S ghost g: {{ {claim} }} ensures* first {{ {claim} }} {rest}");
+        finds(&two, 1, 1, &[&fault(2 * lines)]);
     }
 }
 
@@ -639,44 +694,59 @@ fn braces_in_comments_and_literals_are_passed_over() {
     ] {
         let line = 1 + code.matches('\n').count();
         let fault = format!("{line}: g: has no `ensures`");
-        finds(&format!("pub fn f() ensures {{ λ r. ⌜ r ≡ 1 ⌝ }} {{ {code} }} pub fn g() {{}}"), 2, 1, &[&fault]);
+        finds(&format!("pub fn f() ensures {{ result ≡ 1 }} {{ {code} }} pub fn g() {{}}"), 2, 1, &[&fault]);
     }
-    finds("const C: [u8; 2] = *b\"{;\";\n// pub fn no() {\npub fn g() ensures { λ r. ⌜ r ≡ 1 ⌝ } {}\n", 1, 0, &[]);
+    finds("const C: [u8; 2] = *b\"{;\";\n// pub fn no() {\npub fn g() ensures { result ≡ 1 } {}\n", 1, 0, &[]);
 }
 
 #[test]
 fn words_in_comments_are_no_clauses() {
     let text =
-        "// requires nothing; pub fn no() {}\npub fn f() // requires { a }\n    // ensures {\n    ensures { λ r. ⌜ r ≡ 1 ⌝ }\n{}\n";
+        "// requires nothing; pub fn no() {}\npub fn f() // requires { a }\n    // ensures {\n    ensures { result ≡ 1 }\n{}\n";
     finds(text, 1, 0, &[]);
-    finds("pub fn f() // ensures { λ r. ⌜ r ≡ 1 ⌝ }\n{}\n", 1, 1, &["1: f: has no `ensures`"]);
-    finds(
-        "pub fn f() ensures { -- requires { a }\n λ r. ⌜ r ≡ 1 ⌝ } { let requires_ = b\"requires { a }\"; }",
-        1,
-        0,
-        &[],
-    );
+    finds("pub fn f() // ensures { result ≡ 1 }\n{}\n", 1, 1, &["1: f: has no `ensures`"]);
+    finds("pub fn f() ensures { -- requires { a }\n result ≡ 1 } { let requires_ = b\"requires { a }\"; }", 1, 0, &[]);
 }
 
 #[test]
 fn all_items_are_read() {
-    let text = "ghost use mathlib.Core.Path.{_≡_, -- }\n  refl};
+    let text = "#![tactic(auto, using(law))]
+ghost use Rattle.std.specs.Prelude.{◌≡◌, -- }\n  refl};
 const N: usize = 3;
 pub const S0: S = S { a: [0; N] };
 #[repr(C)]
+#[derive(Clone, Copy)]
 pub struct S { pub a: [u8; 3] }
+pub struct Held { pub n: u8, pub ghost small: { n < 9 -- }\n }, ghost ok: { n ≡ n } }
 pub struct Pair(pub u8, pub [u8; 2]);
 pub struct Unit;
 pub enum E { A, B(u8), C { d: [u8; 51] } }
 type Row = [S; 4];
 use other::thing;
-pub fn arrays(a: [u8; 51], b: [[u8; 2]; 3]) -> [[u8; 2]; 3] ensures { λ r. ⌜ r ≡ 1 ⌝ } { [[0; 2]; 3] }
+pub fn arrays(a: [u8; 51], b: [[u8; 2]; 3]) -> [[u8; 2]; 3] ensures { result ≡ 1 } { [[0; 2]; 3] }
 pub fn bounds<'a, 'b>(a: &'a u8) -> &'a u8 where 'b: 'a { a }
 extern \"C\" {
     pub fn foreign(to: &[u8; 7]) -> i32;
 }
 ";
-    finds(text, 3, 2, &["13: bounds: has no `ensures`", "15: foreign: has no `ensures`"]);
+    finds(text, 3, 2, &["17: bounds: has no `ensures`", "19: foreign: has no `ensures`"]);
+}
+
+#[test]
+fn parameters_of_types_are_passed_over() {
+    let fault = "1: f: `out` is lent by `&mut`, and no `ensures` names `out.new`";
+    for types in [
+        "T",
+        "'a, T: 'a + Ord",
+        "F: Fn(&mut u8) -> u8",
+        "F: Fn(Vec<u8>) -> Vec<Vec<u8>>, const N: usize",
+        "const N: usize = { 2 > 1 }",
+    ] {
+        let text = |claim: &str| format!("pub fn f<{types}>(n: T, out: &mut [T]) ensures {{ {claim} }} {{}}");
+        finds(&text("out.new ≡ out.old"), 1, 0, &[]);
+        finds_stated(&text("P n"), 1, 1, &[fault]);
+        reaches(&format!("mod m {{ pub struct S<{types}> {{ n: T }} impl<{types}> S<T> {{ pub fn f() {{}} }} }}"), &[]);
+    }
 }
 
 // Files, and what is printed.
@@ -713,7 +783,7 @@ fn programs_are_skipped_and_nothing_public_is_status_1() {
 
 #[test]
 fn list_names_each_public_function() {
-    let text = "pub fn f() ensures { λ r. ⌜ r ≡ 1 ⌝ } {}\npub struct S;\nimpl S { pub fn g() {} }\nfn h() {}\n";
+    let text = "pub fn f() ensures { result ≡ 1 } {}\npub struct S;\nimpl S { pub fn g() {} }\nfn h() {}\n";
     let printed = "crates/a/src/lib.rt:1: f\ncrates/a/src/lib.rt:3: S::g\n\
         crates/a/src/lib.rt:3: S::g: has no `ensures`\nlint: 2 public functions, 1 fall short\n";
     let repo = Repo::new(&[("crates/a/src/lib.rt", text)]);
@@ -724,7 +794,7 @@ fn list_names_each_public_function() {
 fn missing_file_is_refused() {
     let missing = "cannot be read: No such file or directory (os error 2)";
     let error = format!("crates/a/src/x.rt: {missing}");
-    refuses(&[("crates/a/src/lib.rt", "mod x;\npub fn f() ensures { λ r. ⌜ r ≡ 1 ⌝ } {}\n")], &error);
+    refuses(&[("crates/a/src/lib.rt", "mod x;\npub fn f() ensures { result ≡ 1 } {}\n")], &error);
     let files = [("crates/a/src/lib.rt", "pub mod x;"), ("crates/a/src/x.rt", "mod y;"), ("crates/a/src/y.rt", "")];
     refuses(&files, &format!("crates/a/src/x/y.rt: {missing}"));
     let repo = Repo::new(&[]);
@@ -743,6 +813,11 @@ fn text_that_cannot_be_read_is_refused() {
         ("fn f() {}\n}", "2: the lint cannot read an item that begins with `}`"),
         ("mod m { fn f() {} ", "1: the file ends inside an item"),
         ("mod m fn f() {} ", "1: expected a `{` after this"),
+        ("pub fn f<T(a: T) {}", "1: the file ends inside an item"),
+        (
+            "impl<T> Show for S<T> { fn f(&self) {} }",
+            "1: the lint cannot read an `impl` of a trait: its functions are public without a `pub`",
+        ),
         ("pub fn f(a: u8", "1: the file ends inside an item"),
         ("const A: u8 = 1)\n;", "1: nothing opens what closes here"),
         ("mod m {}\npub use m::*;", "2: a glob in a `pub use`: name what it passes on"),
@@ -758,7 +833,7 @@ fn text_that_cannot_be_read_is_refused() {
 #[test]
 fn bad_usage_is_refused() {
     let usage = (2, String::new(), "lint: usage: lint ROOT [--list] [--tests NAME,..]\n".to_string());
-    let repo = Repo::new(&[("crates/a/src/lib.rt", "pub fn f() ensures { λ r. ⌜ r ≡ 1 ⌝ } {}")]);
+    let repo = Repo::new(&[("crates/a/src/lib.rt", "pub fn f() ensures { result ≡ 1 } {}")]);
     assert_eq!(run(&mut Command::new(env!("CARGO_BIN_EXE_lint"))), usage);
     assert_eq!(repo.lint(&["--lst"]), usage);
     assert_eq!(repo.lint(&["other"]), usage);
