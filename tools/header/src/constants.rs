@@ -10,28 +10,31 @@ use std::path::Path;
 /// a source. The second is in a file of specs: a definition, a field of a definition, or a case, which is
 /// `NAME ≡ NUMBER` or `NAME ≡ record { FIELD = NUMBER }`.
 const LIMITS: [(&str, [(&str, &str); 2]); 14] = [
-    ("REI2_SEATS", [("desk/src/limits.rt", "SEATS"), ("desk/specs/Limits.antt", "seatCount")]),
-    ("REI2_CELLS", [("desk/src/limits.rt", "CELLS"), ("desk/specs/Limits.antt", "mostCells")]),
+    ("REI2_SEATS", [("desk/src/limits.rt", "SEATS"), ("desk/specs/Limits.antt", "seat_count")]),
+    ("REI2_CELLS", [("desk/src/limits.rt", "CELLS"), ("desk/specs/Limits.antt", "most_cells")]),
     ("REI2_CELL_SIZE", [("desk/src/limits.rt", "CELL_SIZE"), ("rei2/specs/Cases.antt", "limits ≡ .cell_size")]),
-    ("REI2_LETTERS", [("frames/src/reply.rt", "LETTERS"), ("desk/specs/Tally.antt", "letterCount")]),
-    ("REI2_STATUSES", [("frames/src/reply.rt", "STATUSES"), ("desk/specs/Tally.antt", "statusCount")]),
-    ("REI2_REQUEST_SIZE", [("frames/src/request.rt", "REQUEST_SIZE"), ("frames/specs/Request.antt", "request .size")]),
-    ("REI2_REPLY_SIZE", [("frames/src/reply.rt", "REPLY_SIZE"), ("frames/specs/Reply.antt", "reply .size")]),
-    ("REI2_DYNAMIC_SIZE", [("frames/src/dynamic.rt", "DYNAMIC_SIZE"), ("frames/specs/Dynamic.antt", "dynamic .size")]),
-    ("REI2_REQUEST_LEAD", [("frames/src/request.rt", "REQUEST_LEAD"), ("frames/specs/Request.antt", "request .lead")]),
-    ("REI2_REPLY_LEAD", [("frames/src/reply.rt", "REPLY_LEAD"), ("frames/specs/Reply.antt", "reply .lead")]),
-    ("REI2_DYNAMIC_LEAD", [("frames/src/dynamic.rt", "DYNAMIC_LEAD"), ("frames/specs/Dynamic.antt", "dynamic .lead")]),
-    ("REI2_MOST_INPUT", [("listing/src/lib.rt", "MOST_INPUT"), ("listing/specs/Listing.antt", "mostInput")]),
-    ("REI2_LONGEST_LIST", [("listing/src/lib.rt", "LONGEST_LIST"), ("listing/specs/Cases.antt", "longestList ≡")]),
-    ("REI2_NAME_SIZE", [("rei2/src/names.rt", "NAME_SIZE"), ("rei2/specs/Names.antt", "nameSize")]),
+    ("REI2_LETTERS", [("frames/src/reply.rt", "LETTERS"), ("desk/specs/Tally.antt", "letter_count")]),
+    ("REI2_STATUSES", [("frames/src/reply.rt", "STATUSES"), ("desk/specs/Tally.antt", "status_count")]),
+    ("REI2_REQUEST_SIZE", [("frames/src/request.rt", "REQUEST_SIZE"), ("frames/specs/Request.antt", "request.size")]),
+    ("REI2_REPLY_SIZE", [("frames/src/reply.rt", "REPLY_SIZE"), ("frames/specs/Reply.antt", "reply.size")]),
+    ("REI2_DYNAMIC_SIZE", [("frames/src/dynamic.rt", "DYNAMIC_SIZE"), ("frames/specs/Dynamic.antt", "dynamic.size")]),
+    ("REI2_REQUEST_LEAD", [("frames/src/request.rt", "REQUEST_LEAD"), ("frames/specs/Request.antt", "request.lead")]),
+    ("REI2_REPLY_LEAD", [("frames/src/reply.rt", "REPLY_LEAD"), ("frames/specs/Reply.antt", "reply.lead")]),
+    ("REI2_DYNAMIC_LEAD", [("frames/src/dynamic.rt", "DYNAMIC_LEAD"), ("frames/specs/Dynamic.antt", "dynamic.lead")]),
+    ("REI2_MOST_INPUT", [("listing/src/lib.rt", "MOST_INPUT"), ("listing/specs/Listing.antt", "most_input")]),
+    ("REI2_LONGEST_LIST", [("listing/src/lib.rt", "LONGEST_LIST"), ("listing/specs/Cases.antt", "longest_list ≡")]),
+    ("REI2_NAME_SIZE", [("rei2/src/names.rt", "NAME_SIZE"), ("rei2/specs/Names.antt", "name_size")]),
 ];
 
 /// The table of refusals: a source whose constants are the numbers of the refusals, and the file that defines them.
 const REFUSALS: (&str, &str) = ("digits/src/refusal.rt", "digits/specs/Refusals.antt");
 
+/// The refusals that no exported call gives. The header has no constant for them.
+const NOT_EXPORTED: [&str; 1] = ["PAGE"];
+
 /// Each enum of kinds, and the function that gives each constructor its number: the field `kind` of a record.
 const KINDS: [(&str, &str, &str); 2] =
-    [("rei2_timing", "rei2/specs/Reply.antt", "numbersOf"), ("rei2_found", "rei2/specs/Calls.antt", "frameAnswer")];
+    [("rei2_timing", "rei2/specs/Reply.antt", "numbers_of"), ("rei2_found", "rei2/specs/Calls.antt", "frame_answer")];
 
 /// The programs that list captures.
 const PROGRAMS: [&str; 2] = ["rei2list/src/main.rt", "lists/src/main.rt"];
@@ -63,6 +66,7 @@ pub fn differences(root: &Path, header: &Declared) -> Result<Vec<String>, String
     let known = |had: &Constant| wanted.iter().any(|w| w.group == had.group && w.name == had.name);
     let unknown = header.constants.iter().filter(|had| !known(had));
     found.extend(unknown.map(|had| format!("{}: not compared: no number is known that it stands for", had.name)));
+    found.extend(not_exported_differences(root)?);
     for program in PROGRAMS {
         found.extend(lent_differences(root, program, &header.constants)?);
     }
@@ -99,16 +103,29 @@ fn refusals(root: &Path) -> Result<Vec<Wanted>, String> {
     let done = vec![("the answer of a call that was done".to_string(), Some(0))];
     let mut found = vec![Wanted { group, name: "REI2_DONE".to_string(), places: done }];
     let mut names = file.constants();
-    names.extend(definitions.refusals().into_iter().map(|name| name.replace('-', "_")));
+    names.extend(definitions.refusals());
     names.sort();
     names.dedup();
+    names.retain(|name| !NOT_EXPORTED.contains(&name.as_str()));
     for name in names {
-        let defined = name.replace('_', "-");
         let in_source = (format!("{} ({name})", REFUSALS.0), file.constant(&name));
-        let in_spec = (format!("{} ({defined})", REFUSALS.1), definitions.refusal(&defined));
+        let in_spec = (format!("{} ({name})", REFUSALS.1), definitions.refusal(&name));
         found.push(Wanted { group, name: format!("REI2_{name}"), places: vec![in_source, in_spec] });
     }
     Ok(found)
+}
+
+/// The differences between source and definition in the numbers of refusals that the header does not have.
+fn not_exported_differences(root: &Path) -> Result<Vec<String>, String> {
+    let (file, definitions) = (Source::at(root, REFUSALS.0)?, Spec::read(root, REFUSALS.1)?);
+    let shown = |number: Option<u64>| number.map_or("no single number".to_string(), |number| number.to_string());
+    let line = |name: &&str| {
+        let (in_source, in_spec) = (file.constant(name), definitions.refusal(name));
+        let differs = in_source.is_none() || in_source != in_spec;
+        let (source, spec) = (shown(in_source), shown(in_spec));
+        differs.then(|| format!("{name}: {source} in {} ({name}), {spec} in {} ({name})", REFUSALS.0, REFUSALS.1))
+    };
+    Ok(NOT_EXPORTED.iter().filter_map(line).collect())
 }
 
 fn kinds(root: &Path) -> Result<Vec<Wanted>, String> {

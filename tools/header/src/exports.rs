@@ -1,5 +1,6 @@
-//! Reads what a Rattle crate exports, in the form of C declarations: the functions marked `#[no_mangle] pub extern "C"`,
-//! and the `#[repr(C)]` structs that these functions or the structs' fields name, in whichever crate they are declared.
+//! Reads what a Rattle crate exports, in the form of C declarations: the functions marked
+//! `#[unsafe(no_mangle)] pub extern "C"`, and the `#[repr(C)]` structs that these functions or the structs' fields name, in
+//! whichever crate they are declared.
 
 use crate::declared::{Declared, Function, Part, Struct};
 use crate::lex::{self, Token};
@@ -23,6 +24,9 @@ const NUMBERS: [(&str, &str); 12] = [
     ("f64", "double"),
     ("bool", "bool"),
 ];
+
+/// The mark of an exported function.
+const MARK: &str = "[ unsafe ( no_mangle ) ]";
 
 /// What the crate `name` below `root` exports.
 pub fn exported(root: &Path, name: &str) -> Result<Declared, String> {
@@ -49,16 +53,21 @@ impl Reader<'_> {
         let (before, rest) = source.tokens.split_at(at);
         let [keyword, name, open, ..] = rest else { return Ok(()) };
         let foreign = ends_with(before, &["extern", "\"C\""]);
-        let marked = attributes(before).contains("[ no_mangle ]");
-        if keyword.text != "fn" || !(foreign || marked) || open.text != "(" {
+        let attributes = attributes(before);
+        let marked = attributes.contains("no_mangle");
+        if keyword.text != "fn" || !(foreign || marked) {
             return Ok(());
         }
-        if !marked || !ends_with(before, &["pub", "extern", "\"C\""]) {
-            self.fault(&name.text, "is not exported: `#[no_mangle] pub extern \"C\"` is asked for");
+        if open.text != "(" {
+            self.fault(&name.text, &format!("its parameters are not read: {}", open.text));
+            return Ok(());
+        }
+        if !attributes.contains(MARK) || !ends_with(before, &["pub", "extern", "\"C\""]) {
+            self.fault(&name.text, "is not exported: `#[unsafe(no_mangle)] pub extern \"C\"` is asked for");
         }
         let list = lex::group(&rest[2..]);
         let mut parameters = Vec::new();
-        for parameter in parted(list) {
+        for parameter in lex::parted(list) {
             parameters.extend(self.parameter(source, &name.text, parameter)?);
         }
         let result = match rest.get(list.len() + 4..).unwrap_or_default() {
@@ -121,13 +130,12 @@ impl Reader<'_> {
         if let Some((_, number)) = NUMBERS.iter().find(|(rattle, _)| *rattle == name.text) {
             return Ok(number.to_string());
         }
-        let (crate_name, module) = source.home(&name.text);
-        let home = (crate_name, module, name.text.clone());
+        let home = source.home(&name.text);
         if !self.homes.contains(&home) {
             self.homes.push(home.clone());
             self.structure(&home)?;
         }
-        Ok(c_name(&name.text))
+        Ok(c_name(&home.2))
     }
 
     /// Reads the struct that is declared there, and the structs of its fields.
@@ -140,7 +148,7 @@ impl Reader<'_> {
             return Ok(());
         };
         let mut fields = Vec::new();
-        for field in parted(lex::group(&source.tokens[at + 2..])) {
+        for field in lex::parted(lex::group(&source.tokens[at + 2..])) {
             fields.push(self.field(&source, name, field)?);
         }
         self.found.add_struct(Struct { name: c_name(name), fields });
@@ -205,14 +213,4 @@ fn attributes(tokens: &[Token]) -> String {
         end = tokens[..end].iter().rposition(|token| token.text == "#").unwrap_or(0);
     }
     lex::shown(&tokens[end..last])
-}
-
-/// Splits a list at its commas.
-fn parted(list: &[Token]) -> Vec<&[Token]> {
-    let mut depth = 0;
-    let parts = list.split(|token| {
-        depth += lex::nesting(&token.text);
-        depth == 0 && token.text == ","
-    });
-    parts.filter(|part| !part.is_empty()).collect()
 }

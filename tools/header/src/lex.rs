@@ -67,8 +67,18 @@ pub fn group(tokens: &[Token]) -> &[Token] {
     &tokens[1..end.unwrap_or(tokens.len())]
 }
 
+/// Splits a list at its commas.
+pub fn parted(list: &[Token]) -> Vec<&[Token]> {
+    let mut depth = 0;
+    let parts = list.split(|token| {
+        depth += nesting(&token.text);
+        depth == 0 && token.text == ","
+    });
+    parts.filter(|part| !part.is_empty()).collect()
+}
+
 /// 1 if a token opens a group, -1 if it closes one, and otherwise 0.
-pub fn nesting(text: &str) -> i32 {
+fn nesting(text: &str) -> i32 {
     match text {
         "(" | "[" | "{" => 1,
         ")" | "]" | "}" => -1,
@@ -85,7 +95,7 @@ fn in_word(c: char) -> bool {
     c.is_alphanumeric() || c == '_'
 }
 
-/// May `c` be part of a name of antt? `n+n` is one name, and so is `IN-USE`.
+/// May `c` be part of a name of antt? `n+n` is one name, and so is `b'`.
 fn in_name(c: char) -> bool {
     !c.is_whitespace() && !"(){}.;,@\"«»".contains(c)
 }

@@ -29,13 +29,15 @@ impl Source {
         Source::read(root, crate_name, module.trim_end_matches(".rt"))
     }
 
-    /// The crate and module in which a type or a constant is declared that this file names: where a `use` imports it from,
-    /// or this file itself.
-    pub fn home(&self, name: &str) -> (String, String) {
-        match self.used(name) {
-            Some(path) => self.place(&path),
-            None => (self.crate_name.clone(), self.module.clone()),
-        }
+    /// The crate and module in which a type or a constant is declared that this file names, and its name there: where a `use`
+    /// imports it from, or this file itself.
+    pub fn home(&self, name: &str) -> (String, String, String) {
+        let path = self.used(name).unwrap_or_default();
+        let Some((declared, path)) = path.split_last().filter(|(_, path)| !path.is_empty()) else {
+            return (self.crate_name.clone(), self.module.clone(), name.to_string());
+        };
+        let (crate_name, module) = self.place(path);
+        (crate_name, module, declared.clone())
     }
 
     /// The crate and module that a path leads to. The path begins with `crate`, with a module below this one, or with a crate.
@@ -96,13 +98,17 @@ impl Source {
         }
         let words: Vec<String> = tokens.iter().map(|t| t.text.clone()).filter(|text| text != ":").collect();
         let (name, path) = words.split_last()?;
-        let (crate_name, module) = match path {
+        let (crate_name, module, name) = match path {
             [] if lex::number(name).is_some() => return lex::number(name),
             [] => self.home(name),
             // the module at the start of the path may be imported by a `use`
-            path => self.place(&[self.used(&path[0]).unwrap_or_default(), path.to_vec()].concat()),
+            [first, rest @ ..] => {
+                let first = self.used(first).unwrap_or_else(|| vec![first.clone()]);
+                let (crate_name, module) = self.place(&[&first, rest].concat());
+                (crate_name, module, name.clone())
+            }
         };
-        Source::found(&self.root, &crate_name, &module)?.constant(name)
+        Source::found(&self.root, &crate_name, &module)?.constant(&name)
     }
 
     /// Reads a module that is a file, or that is inside another module: `mod NAME { .. }`.
@@ -124,15 +130,10 @@ impl Source {
         made.map(|i| self.value(length(&plain[i..])?)).collect()
     }
 
-    /// The path before `name` in the `use` that ends with it: `a::b` is `["a", "b"]`.
+    /// The path that a `use` imports by this name: `a::b` is `["a", "b"]`.
     fn used(&self, name: &str) -> Option<Vec<String>> {
-        let uses = self.tokens.split(|token| token.text == ";");
-        uses.filter_map(|item| used_path(item).filter(|path| path.last().is_some_and(|last| last == name)))
-            .map(|mut path| {
-                path.pop();
-                path
-            })
-            .find(|path| !path.is_empty())
+        let items = self.tokens.split(|token| token.text == ";");
+        items.flat_map(imports).find(|(imported, _)| imported == name).map(|(_, path)| path)
     }
 }
 
@@ -145,14 +146,33 @@ fn length(tokens: &[Token]) -> Option<&[Token]> {
     Some(&inside[end + 1..])
 }
 
-/// The words of the path of the `use` at the end of an item; none for a `ghost use`.
-fn used_path(item: &[Token]) -> Option<Vec<String>> {
-    let at = item.iter().rposition(|token| token.text == "use")?;
-    let ghost = at > 0 && item[at - 1].text == "ghost";
-    let path = &item[at + 1..];
-    let plain = path.iter().all(|token| lex::is_word(&token.text) || token.text == ":");
-    let words = path.iter().filter(|token| token.text != ":").map(|token| token.text.clone());
-    (plain && !ghost).then(|| words.collect())
+/// What the `use` at the end of an item imports: names, each with its path. A `ghost use` imports nothing.
+fn imports(item: &[Token]) -> Vec<(String, Vec<String>)> {
+    let at = item.iter().rposition(|token| token.text == "use").filter(|at| *at == 0 || item[at - 1].text != "ghost");
+    let tree = at.map(|at| &item[at + 1..]).unwrap_or_default();
+    let plain = |token: &Token| lex::is_word(&token.text) || [":", "{", "}", ",", "*"].contains(&token.text.as_str());
+    if tree.iter().all(plain) {
+        imported(tree, &[])
+    } else {
+        Vec::new()
+    }
+}
+
+/// What the tree of a `use` imports below the path `prefix`. A `*` is the name of all.
+fn imported(tree: &[Token], prefix: &[String]) -> Vec<(String, Vec<String>)> {
+    let mut path = prefix.to_vec();
+    for (i, token) in tree.iter().enumerate() {
+        match token.text.as_str() {
+            "{" => {
+                return lex::parted(lex::group(&tree[i..])).into_iter().flat_map(|part| imported(part, &path)).collect()
+            }
+            "as" => return tree.get(i + 1).map(|name| (name.text.clone(), path)).into_iter().collect(),
+            "self" if !path.is_empty() => {} // `a::{self}` is `a`
+            ":" => {}
+            word => path.push(word.to_string()),
+        }
+    }
+    path.last().cloned().map(|name| (name, path)).into_iter().collect()
 }
 
 /// The folder of a crate's sources.

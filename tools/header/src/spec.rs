@@ -41,14 +41,14 @@ impl Spec {
         self.items().filter_map(number).collect()
     }
 
-    /// The number of the definition `NAME`. With `NAME .FIELD`, the number of a field of the record that is defined. With
+    /// The number of the definition `NAME`. With `NAME.FIELD`, the number of a field of the record that is defined. With
     /// `NAME ≡` or `NAME ≡ .FIELD`, the number of a case. None unless there is exactly one.
     pub fn number(&self, of: &str) -> Option<u64> {
         if let Some((name, wanted)) = of.split_once(" ≡ .") {
             let cases = self.cases(name).filter(|case| case.starts_with(&["record", "{"]));
             return single(cases.filter_map(|case| lex::number(field(&case, wanted)?)));
         }
-        if let Some((name, wanted)) = of.split_once(" .") {
+        if let Some((name, wanted)) = of.split_once('.') {
             let records = self.items().filter(|item| item.starts_with(&[name, "=", "record", "{"]));
             return single(records.filter_map(|item| lex::number(field(&item, wanted)?)));
         }
@@ -58,10 +58,10 @@ impl Spec {
         single(self.numbers().into_iter().filter(|(name, _)| name == of).map(|(_, value)| value))
     }
 
-    /// Each refusal: `NAME = plain NUMBER` without an offset, `NAME = placed NUMBER` with one, or `NAME = spoiledAt NUMBER` with two.
+    /// Each refusal: `NAME = plain NUMBER` without an offset, `NAME = placed NUMBER` with one, or `NAME = spoiled_at NUMBER` with two.
     fn refused(&self) -> Vec<(String, u64)> {
         let number = |item: Vec<&str>| match item.as_slice() {
-            [name, "=", "plain" | "placed" | "spoiledAt", value] => Some((name.to_string(), lex::number(value)?)),
+            [name, "=", "plain" | "placed" | "spoiled_at", value] => Some((name.to_string(), lex::number(value)?)),
             _ => None,
         };
         self.items().filter_map(number).collect()

@@ -7,16 +7,16 @@ use std::{env, fs, process};
 
 /// The files without differences, each with its path and its text.
 const FILES: [(&str, &str); 26] = [
-    ("crates/rei2/src/lib.rt", "pub mod calls;\n"),
+    ("crates/rei2/src/lib.rt", "#![tactic(auto)]\n\npub mod calls;\n"),
     ("crates/rei2/src/calls.rt", CALLS),
     ("crates/rei2/src/names.rt", "pub const NAME_SIZE: usize = 14;\n"),
-    ("crates/rei2/specs/Names.antt", "abbrev pub nameSize : ℕ\nnameSize = 14\n"),
+    ("crates/rei2/specs/Names.antt", "abbrev pub name_size : ℕ\nname_size = 14\n"),
     ("crates/rei2/specs/Cases.antt", LENT),
     ("crates/desk/src/state.rt", STATE),
     ("crates/desk/src/limits.rt", SIZES),
     ("rei2.h", HEADER),
     ("crates/desk/specs/Limits.antt", LIMITS),
-    ("crates/desk/specs/Tally.antt", "abbrev pub letterCount : ℕ\nletterCount = 4\n\nstatusCount = 2\n"),
+    ("crates/desk/specs/Tally.antt", "abbrev pub letter_count : ℕ\nletter_count = 4\n\nstatus_count = 2\n"),
     ("crates/frames/src/request.rt", "pub const REQUEST_LEAD: u8 = 0x11;\npub const REQUEST_SIZE: usize = 24;\n"),
     ("crates/frames/src/reply.rt", REPLY),
     ("crates/frames/src/dynamic.rt", DYNAMIC),
@@ -27,8 +27,8 @@ const FILES: [(&str, &str); 26] = [
     ("crates/digits/specs/Refusals.antt", REFUSALS),
     ("crates/listing/src/lib.rt", LISTING),
     ("crates/listing/src/line.rt", LINE),
-    ("crates/listing/specs/Listing.antt", "abbrev pub mostInput : ℕ\nmostInput = 32768\n"),
-    ("crates/listing/specs/Cases.antt", "pub record Worked : Type 0 where\n  pub longest : longestList ≡ 14170\n"),
+    ("crates/listing/specs/Listing.antt", "abbrev pub most_input : ℕ\nmost_input = 32768\n"),
+    ("crates/listing/specs/Cases.antt", "pub record Worked : Type 0 where\n  pub longest : longest_list ≡ 14170\n"),
     ("crates/rei2/specs/Reply.antt", NUMBERS),
     ("crates/rei2/specs/Calls.antt", FOUND),
     ("crates/rei2list/src/main.rt", PROGRAM),
@@ -36,14 +36,14 @@ const FILES: [(&str, &str); 26] = [
 ];
 
 const LIMITS: &str = "-- Limits.
-abbrev pub seatCount : ℕ
-seatCount = 16
+abbrev pub seat_count : ℕ
+seat_count = 16
 
-unfoldable pub mostCells : ℕ
-mostCells = 256
+unfoldable pub most_cells : ℕ
+most_cells = 256
 
-abbrev pub cellSize : ℕ
-cellSize = reply .size -- bytes
+abbrev pub cell_size : ℕ
+cell_size = reply.size -- bytes
 ";
 
 const LENT: &str = "pub record Lends : Type 0 where
@@ -59,7 +59,7 @@ pub const STATUS_R: u8 = b'R';
 pub const STATUS_E: u8 = b'E';
 
 pub fn letter_place(letter: u8) -> usize
-    ensures { λ r. ⌜ r ≡ letterPlace letter ⌝ }
+    ensures { result ≡ letter_place letter }
 {
     match letter {
         b'0' => 0,
@@ -100,6 +100,7 @@ const TABLE: &str = "pub const KIND: u32 = 1;
 pub const FIELD: u32 = 2;
 pub const ROOM: u32 = 3;
 pub const IN_USE: u32 = 4;
+pub const PAGE: u32 = 7;
 // pub const OLD: u32 = 5;
 
 pub fn plain(number: u32) -> Refusal {
@@ -121,8 +122,10 @@ abbrev pub ROOM : Refusal
 ROOM =
     plain 3
 
-IN-USE = plain 4
-{- NO-SEAT = plain 5
+IN_USE = plain 4
+
+PAGE = placed 7
+{- NO_SEAT = plain 5
 OLD = plain 6 -}
 
 abbrev pub most : ℕ
@@ -142,7 +145,7 @@ pub const MOST_INPUT: usize = 32768;
 pub const LONGEST_LIST: usize = 62 + CELLS * ROW + 2 * (2 * (1 + 5) + 2);
 "#;
 
-const LINE: &str = "use frames::dynamic::field;
+const LINE: &str = "use frames::{dynamic::{DYNAMIC_SIZE, field}, reply};
 pub const ROW: usize = 11 + (field::SPARE - field::STATUS - 2) + 1 + DIGITS;
 const DIGITS: usize = 2;
 ";
@@ -156,17 +159,17 @@ pub mod field {
 }
 ";
 
-const FOUND: &str = "frameAnswer (OnTheWay start) = record { kind = 1; start = start }
-frameAnswer Nothing = record { start = 0; kind = 0 }
+const FOUND: &str = "frame_answer (OnTheWay start) = record { kind = 1; start = start }
+frame_answer Nothing = record { start = 0; kind = 0 }
 ";
 
-const NUMBERS: &str = "abbrev pub numbersOf : Timing → TimingNumbers
-numbersOf (Clock ticks) = record { kind = 1; ticks = ticks; net = pos 0 }
-numbersOf (Net value) =
+const NUMBERS: &str = "abbrev pub numbers_of : Timing → TimingNumbers
+numbers_of (Clock ticks) = record { kind = 1; ticks = ticks; net = pos 0 }
+numbers_of (Net value) =
     record { ticks = 0; in = record { kind = 9 }; kind = 2; net = value }
-numbersOf Raw = record { kind = 0; ticks = 0; net = pos 0 }
+numbers_of Raw = record { kind = 0; ticks = 0; net = pos 0 }
 
-back n = cond (eqb (n .kind) 0) Raw (Net 3)
+back n = cond (eqb n.kind 0) Raw (Net 3)
 ";
 
 const PROGRAM: &str = "fn main() {
@@ -178,11 +181,11 @@ const PROGRAM: &str = "fn main() {
 }
 ";
 
-const PROGRAM_BY_NAMES: &str = "use desk::limits::CELLS;
-use desk::limits::CELL_SIZE;
+const PROGRAM_BY_NAMES: &str = "use desk::limits::{CELLS, CELL_SIZE};
 use listing::LONGEST_LIST;
+use std::io::{self, Read, Write};
 
-fn main() {
+fn main(rt: HostRuntime) {
     let mut input = [0u8; listing::MOST_INPUT + 1];
     let mut cells = [0; CELLS * CELL_SIZE];
     let marks = [0; desk::limits::CELLS];
@@ -190,38 +193,40 @@ fn main() {
 }
 ";
 
-const CALLS: &str = r#"// Calls with `#[no_mangle] pub extern "C" fn rei2_in_a_comment()`.
+const CALLS: &str = r#"// Calls with `#[unsafe(no_mangle)] pub extern "C" fn rei2_in_a_comment()`.
+ghost use Rattle.std.specs.Prelude.{◌≡◌};
+ghost use Rattle.desk.specs.declared.state.{Desk, Seat};
+
 use crate::lib::Unused;
-use desk::state::Desk;
-use desk::state::Seat;
-use frames::reply::LETTERS;
-use frames::reply::STATUSES;
-ghost use mathlib.Core.Path.{_≡_};
+use desk::state::{self as desk_state, Desk, Seat};
+use frames::reply::{LETTERS, STATUSES};
 
 #[repr(C)]
+#[derive(Clone, Copy)]
 pub struct DeskAnswer {
     pub desk: Desk,
     pub number: u32,
     pub seat: usize,
 }
 
-#[no_mangle]
+#[unsafe(no_mangle)]
 pub extern "C" fn rei2_take(
     seats: &mut [Seat],
     desk: Desk,
     frame: &[u8],
 ) -> DeskAnswer
-    ensures { λ r. ⌜ r ≡ taken (now (frame .entry)) "(" ⌝ }
+    ensures seat { result ≡ taken frame.now "(" }
+    ensures row { TookOne seats.old result.seat seats.new }
 {
     helper(b"){", b'"', b'\'', b'\x22')
 }
 
-#[no_mangle]
+#[unsafe(no_mangle)]
 pub extern "C" fn rei2_look(desk: Desk, at: i64, tally: &[[u32; STATUSES]; LETTERS]) -> u32 {
     0
 }
 
-#[no_mangle]
+#[unsafe(no_mangle)]
 pub extern "C" fn rei2_nothing() {}
 
 fn helper(out: &mut [u8]) -> u32 {
@@ -230,6 +235,7 @@ fn helper(out: &mut [u8]) -> u32 {
 "#;
 
 const STATE: &str = r#"
+#[derive(Clone, Copy)]
 #[repr(C)]
 pub struct Desk {
     pub bits: u64,
@@ -237,6 +243,7 @@ pub struct Desk {
 }
 
 #[repr(C)]
+#[derive(Clone, Copy)]
 pub struct Seat {
     pub requester: u32,
     pub held: u32,
@@ -687,23 +694,31 @@ fn a_slice_becomes_mutable() {
 
 #[test]
 fn a_function_more_is_exported() {
-    let more = "#[no_mangle]\npub extern \"C\" fn rei2_more(x: u8) -> u8 {\n    x\n}\n\nfn helper(";
+    let more = "#[unsafe(no_mangle)]\npub extern \"C\" fn rei2_more(x: u8) -> u8 {\n    x\n}\n\nfn helper(";
     differs_in("crates/rei2/src/calls.rt", "fn helper(", more, &["rei2_more: the header lacks this function"]);
 }
 
 #[test]
 fn a_function_without_its_mark() {
-    let wanted = ["rei2_nothing: is not exported: `#[no_mangle] pub extern \"C\"` is asked for"];
-    let old = "#[no_mangle]\npub extern \"C\" fn rei2_nothing";
+    let wanted = ["rei2_nothing: is not exported: `#[unsafe(no_mangle)] pub extern \"C\"` is asked for"];
+    let old = "#[unsafe(no_mangle)]\npub extern \"C\" fn rei2_nothing";
     differs_in("crates/rei2/src/calls.rt", old, "pub extern \"C\" fn rei2_nothing", &wanted);
-    differs_in("crates/rei2/src/calls.rt", old, "#[no_mangle]\npub fn rei2_nothing", &wanted);
+    differs_in("crates/rei2/src/calls.rt", old, "#[unsafe(no_mangle)]\npub fn rei2_nothing", &wanted);
+    differs_in("crates/rei2/src/calls.rt", old, "#[no_mangle]\npub extern \"C\" fn rei2_nothing", &wanted);
+    let wanted = ["rei2_nothing: its parameters are not read: <", "rei2_nothing: no function that is exported"];
+    differs_in("crates/rei2/src/calls.rt", "rei2_nothing()", "rei2_nothing<'a>()", &wanted);
 }
 
 #[test]
 fn a_struct_without_its_layout() {
     let wanted =
         ["rei2_seat: desk::state has no `#[repr(C)] struct Seat`", "rei2_seat: no struct of an exported function"];
-    differs_in("crates/desk/src/state.rt", "#[repr(C)]\npub struct Seat", "pub struct Seat", &wanted);
+    differs_in(
+        "crates/desk/src/state.rt",
+        "#[repr(C)]\n#[derive(Clone, Copy)]\npub struct Seat",
+        "#[derive(Clone, Copy)]\npub struct Seat",
+        &wanted,
+    );
 }
 
 #[test]
@@ -712,18 +727,39 @@ fn a_struct_of_another_crate_moves_a_field() {
     differs_in("crates/desk/src/state.rt", "bits: u64", "bits: u32", &wanted);
 }
 
+#[test]
+fn an_import_is_read_in_each_form() {
+    let calls = "crates/rei2/src/calls.rt";
+    let imports = "use desk::state::{self as desk_state, Desk, Seat};\nuse frames::reply::{LETTERS, STATUSES};\n";
+    for other in [
+        "use desk::state::Desk;\nuse desk::state::Seat;\nuse frames::reply::LETTERS;\nuse frames::reply::STATUSES;\n",
+        "use desk::{state::{Seat, Desk}};\nuse frames::{reply::{STATUSES, LETTERS,}, request};\n",
+        "use desk::{state::Desk, state::{Seat,},};\npub(crate) use frames::reply::{LETTERS, STATUSES};\n",
+    ] {
+        differs_in(calls, imports, other, &[]);
+    }
+    let renamed = CALLS.replace(" Seat}", " Seat as Row}").replace("[Seat]", "[Row]");
+    let renamed = renamed.replace("{LETTERS,", "{LETTERS as ROWS,").replace("; LETTERS]", "; ROWS]");
+    differs_in(calls, CALLS, &renamed, &[]);
+    let wanted =
+        ["rei2_seat: rei2::calls has no `#[repr(C)] struct Seat`", "rei2_seat: no struct of an exported function"];
+    for other in ["Desk};", "Desk, *};", "Desk, Seat as Row};"] {
+        differs_in(calls, "Desk, Seat};\nuse frames", &format!("{other}\nuse frames"), &wanted);
+    }
+}
+
 // Constants.
 
 #[test]
 fn a_limit_has_another_number_in_the_header() {
     let wanted = [
         "REI2_SEATS: 16 in desk/src/limits.rt (SEATS), 17 in the header",
-        "REI2_SEATS: 16 in desk/specs/Limits.antt (seatCount), 17 in the header",
+        "REI2_SEATS: 16 in desk/specs/Limits.antt (seat_count), 17 in the header",
     ];
     differs("REI2_SEATS = 16", "REI2_SEATS = 17", &wanted);
     let wanted = [
         "REI2_REPLY_LEAD: 18 in frames/src/reply.rt (REPLY_LEAD), 19 in the header",
-        "REI2_REPLY_LEAD: 18 in frames/specs/Reply.antt (reply .lead), 19 in the header",
+        "REI2_REPLY_LEAD: 18 in frames/specs/Reply.antt (reply.lead), 19 in the header",
     ];
     differs("REI2_REPLY_LEAD = 0x12", "REI2_REPLY_LEAD = 0x13", &wanted);
 }
@@ -739,29 +775,29 @@ fn a_limit_has_another_number_in_a_source() {
 
 #[test]
 fn a_limit_has_another_number_in_a_definition() {
-    let wanted = ["REI2_CELLS: 255 in desk/specs/Limits.antt (mostCells), 256 in the header"];
-    differs_in("crates/desk/specs/Limits.antt", "mostCells = 256", "mostCells = 255", &wanted);
-    let wanted = ["REI2_REQUEST_SIZE: 25 in frames/specs/Request.antt (request .size), 24 in the header"];
+    let wanted = ["REI2_CELLS: 255 in desk/specs/Limits.antt (most_cells), 256 in the header"];
+    differs_in("crates/desk/specs/Limits.antt", "most_cells = 256", "most_cells = 255", &wanted);
+    let wanted = ["REI2_REQUEST_SIZE: 25 in frames/specs/Request.antt (request.size), 24 in the header"];
     differs_in("crates/frames/specs/Request.antt", "size = 24", "size = 25", &wanted);
-    let wanted = ["REI2_REPLY_SIZE: 50 in frames/specs/Reply.antt (reply .size), 51 in the header"];
+    let wanted = ["REI2_REPLY_SIZE: 50 in frames/specs/Reply.antt (reply.size), 51 in the header"];
     differs_in("crates/frames/specs/Reply.antt", "size = 51", "size = 50", &wanted);
-    let wanted = ["REI2_NAME_SIZE: 13 in rei2/specs/Names.antt (nameSize), 14 in the header"];
-    differs_in("crates/rei2/specs/Names.antt", "nameSize = 14", "nameSize = 13", &wanted);
+    let wanted = ["REI2_NAME_SIZE: 13 in rei2/specs/Names.antt (name_size), 14 in the header"];
+    differs_in("crates/rei2/specs/Names.antt", "name_size = 14", "name_size = 13", &wanted);
 }
 
 #[test]
 fn a_limit_has_another_number_in_a_case() {
-    let wanted = ["REI2_LONGEST_LIST: 1417 in listing/specs/Cases.antt (longestList ≡), 14170 in the header"];
+    let wanted = ["REI2_LONGEST_LIST: 1417 in listing/specs/Cases.antt (longest_list ≡), 14170 in the header"];
     differs_in("crates/listing/specs/Cases.antt", "≡ 14170", "≡ 1417", &wanted);
     let wanted = ["REI2_CELL_SIZE: 50 in rei2/specs/Cases.antt (limits ≡ .cell_size), 51 in the header"];
     differs_in("crates/rei2/specs/Cases.antt", "= 51", "= 50", &wanted);
     let wanted = ["REI2_CELL_SIZE: no single number in rei2/specs/Cases.antt (limits ≡ .cell_size)"];
     differs_in("crates/rei2/specs/Cases.antt", "limits ≡ record", "others ≡ record", &wanted);
     differs_in("crates/rei2/specs/Cases.antt", "limits ≡ record", "limits ≡ f record", &wanted);
-    let wanted = ["REI2_LONGEST_LIST: no single number in listing/specs/Cases.antt (longestList ≡)"];
+    let wanted = ["REI2_LONGEST_LIST: no single number in listing/specs/Cases.antt (longest_list ≡)"];
     differs_in("crates/listing/specs/Cases.antt", "≡ 14170", "≡ size", &wanted);
-    let twice = "longestList ≡ 14170\n  pub again : longestList ≡ 14170";
-    differs_in("crates/listing/specs/Cases.antt", "longestList ≡ 14170", twice, &wanted);
+    let twice = "longest_list ≡ 14170\n  pub again : longest_list ≡ 14170";
+    differs_in("crates/listing/specs/Cases.antt", "longest_list ≡ 14170", twice, &wanted);
 }
 
 #[test]
@@ -803,14 +839,14 @@ fn a_limit_has_no_number() {
     differs_in("crates/listing/src/lib.rt", "const LONGEST_LIST", "// const LONGEST_LIST", &both);
     let again = "const LONGEST_LIST: usize = 1;\nconst LONGEST_LIST";
     differs_in("crates/listing/src/lib.rt", "const LONGEST_LIST", again, &both);
-    let wanted = ["REI2_SEATS: no single number in desk/specs/Limits.antt (seatCount)"];
+    let wanted = ["REI2_SEATS: no single number in desk/specs/Limits.antt (seat_count)"];
     for other in
-        ["seatCounts = 16", "-- seatCount = 16", "seatCount = f 16", "  seatCount = 16", "{-\nseatCount = 16\n-}"]
+        ["seat_counts = 16", "-- seat_count = 16", "seat_count = f 16", "  seat_count = 16", "{-\nseat_count = 16\n-}"]
     {
-        differs_in("crates/desk/specs/Limits.antt", "seatCount = 16", other, &wanted);
+        differs_in("crates/desk/specs/Limits.antt", "seat_count = 16", other, &wanted);
     }
-    differs_in("crates/desk/specs/Limits.antt", "seatCount = 16", "seatCount = 16\nseatCount = 16", &wanted);
-    let wanted = ["REI2_DYNAMIC_SIZE: no single number in frames/specs/Dynamic.antt (dynamic .size)"];
+    differs_in("crates/desk/specs/Limits.antt", "seat_count = 16", "seat_count = 16\nseat_count = 16", &wanted);
+    let wanted = ["REI2_DYNAMIC_SIZE: no single number in frames/specs/Dynamic.antt (dynamic.size)"];
     differs_in("crates/frames/specs/Dynamic.antt", "; size = 46", "; size = 46 + 0", &wanted);
     differs_in("crates/frames/specs/Dynamic.antt", "; size = 46", "", &wanted);
 }
@@ -868,7 +904,7 @@ fn a_constant_that_is_not_read_is_told() {
 fn a_refusal_has_another_number() {
     let wanted = [
         "REI2_IN_USE: 4 in digits/src/refusal.rt (IN_USE), 5 in the header",
-        "REI2_IN_USE: 4 in digits/specs/Refusals.antt (IN-USE), 5 in the header",
+        "REI2_IN_USE: 4 in digits/specs/Refusals.antt (IN_USE), 5 in the header",
     ];
     differs("REI2_IN_USE = 4", "REI2_IN_USE = 5", &wanted);
     let wanted = ["REI2_FIELD: 8 in digits/specs/Refusals.antt (FIELD), 2 in the header"];
@@ -884,8 +920,8 @@ fn a_refusal_is_only_on_one_side() {
     let lacks = "REI2_NO_SEAT: enum rei2_refusal of the header lacks this constant";
     differs_in(
         "crates/digits/specs/Refusals.antt",
-        "IN-USE = plain 4",
-        "IN-USE = plain 4\nNO-SEAT = plain 5",
+        "IN_USE = plain 4",
+        "IN_USE = plain 4\nNO_SEAT = plain 5",
         &[lacks],
     );
     let more = "pub const NO_SEAT: u32 = 5;\npub const IN_USE";
@@ -897,37 +933,49 @@ fn a_refusal_is_only_on_one_side() {
 }
 
 #[test]
+fn a_refusal_that_is_not_exported_has_one_number() {
+    let wanted = ["PAGE: 8 in digits/src/refusal.rt (PAGE), 7 in digits/specs/Refusals.antt (PAGE)"];
+    differs_in("crates/digits/src/refusal.rt", "PAGE: u32 = 7", "PAGE: u32 = 8", &wanted);
+    let wanted = ["PAGE: 7 in digits/src/refusal.rt (PAGE), no single number in digits/specs/Refusals.antt (PAGE)"];
+    differs_in("crates/digits/specs/Refusals.antt", "PAGE = placed 7", "PAGE = placed n", &wanted);
+    let wanted = ["PAGE: no single number in digits/src/refusal.rt (PAGE), 7 in digits/specs/Refusals.antt (PAGE)"];
+    differs_in("crates/digits/src/refusal.rt", "pub const PAGE: u32 = 7;\n", "", &wanted);
+    let wanted = ["REI2_PAGE: not compared: no number is known that it stands for"];
+    differs("REI2_DONE = 0,", "REI2_DONE = 0, REI2_PAGE = 7,", &wanted);
+}
+
+#[test]
 fn a_kind_has_another_number() {
     let wanted = [
-        "REI2_CLOCK: 1 in rei2/specs/Reply.antt (numbersOf Clock), 0 in the header",
-        "REI2_RAW: 0 in rei2/specs/Reply.antt (numbersOf Raw), 1 in the header",
+        "REI2_CLOCK: 1 in rei2/specs/Reply.antt (numbers_of Clock), 0 in the header",
+        "REI2_RAW: 0 in rei2/specs/Reply.antt (numbers_of Raw), 1 in the header",
     ];
     differs("REI2_RAW = 0, REI2_CLOCK = 1", "REI2_RAW = 1, REI2_CLOCK = 0", &wanted);
-    let wanted = ["REI2_NET: 3 in rei2/specs/Reply.antt (numbersOf Net), 2 in the header"];
+    let wanted = ["REI2_NET: 3 in rei2/specs/Reply.antt (numbers_of Net), 2 in the header"];
     differs_in("crates/rei2/specs/Reply.antt", "kind = 2", "kind = 3", &wanted);
-    let wanted = ["REI2_ON_THE_WAY: 2 in rei2/specs/Calls.antt (frameAnswer OnTheWay), 1 in the header"];
+    let wanted = ["REI2_ON_THE_WAY: 2 in rei2/specs/Calls.antt (frame_answer OnTheWay), 1 in the header"];
     differs_in("crates/rei2/specs/Calls.antt", "kind = 1", "kind = 2", &wanted);
-    let wanted = ["REI2_NET: no single number in rei2/specs/Reply.antt (numbersOf Net)"];
+    let wanted = ["REI2_NET: no single number in rei2/specs/Reply.antt (numbers_of Net)"];
     differs_in("crates/rei2/specs/Reply.antt", "kind = 2", "kind = two", &wanted);
 }
 
 #[test]
 fn a_kind_by_name_has_its_definitions_number() {
-    let named = |number: &str| format!("abbrev pub TWO : ℕ\nTWO = {number}\n\nabbrev pub numbersOf :");
+    let named = |number: &str| format!("abbrev pub TWO : ℕ\nTWO = {number}\n\nabbrev pub numbers_of :");
     let text =
-        |number: &str| NUMBERS.replace("abbrev pub numbersOf :", &named(number)).replace("kind = 2", "kind = TWO");
+        |number: &str| NUMBERS.replace("abbrev pub numbers_of :", &named(number)).replace("kind = 2", "kind = TWO");
     differs_in("crates/rei2/specs/Reply.antt", NUMBERS, &text("2"), &[]);
-    let wanted = ["REI2_NET: 3 in rei2/specs/Reply.antt (numbersOf Net), 2 in the header"];
+    let wanted = ["REI2_NET: 3 in rei2/specs/Reply.antt (numbers_of Net), 2 in the header"];
     differs_in("crates/rei2/specs/Reply.antt", NUMBERS, &text("3"), &wanted);
 }
 
 #[test]
 fn a_kind_is_only_on_one_side() {
-    let more = "numbersOf Raw = record { kind = 0; ticks = 0; net = pos 0 }\nnumbersOf Mark = record { kind = 3 }";
+    let more = "numbers_of Raw = record { kind = 0; ticks = 0; net = pos 0 }\nnumbers_of Mark = record { kind = 3 }";
     let wanted = ["REI2_MARK: enum rei2_timing of the header lacks this constant"];
     differs_in("crates/rei2/specs/Reply.antt", more.lines().next().expect("a line"), more, &wanted);
     let wanted = ["REI2_NOTHING: not compared: no number is known that it stands for"];
-    differs_in("crates/rei2/specs/Calls.antt", "frameAnswer Nothing", "answer Nothing", &wanted);
+    differs_in("crates/rei2/specs/Calls.antt", "frame_answer Nothing", "answer Nothing", &wanted);
 }
 
 #[test]

@@ -63,20 +63,26 @@ fn check(root: &Path) -> Seen {
     seen
 }
 
-/// The Markdown files below a folder. Hidden folders and those named `target` are skipped.
+/// The Markdown files below a folder. Hidden folders, those named `target` and the folder `out` of a crate are skipped.
 fn collect(folder: &Path, pages: &mut Vec<PathBuf>) {
     let Ok(entries) = fs::read_dir(folder) else { return };
     for entry in entries.flatten() {
         let path = entry.path();
         let name = entry.file_name().to_string_lossy().into_owned();
         if path.is_dir() {
-            if name != "target" && !name.starts_with('.') {
+            let built = name == "target" || name == "out" && is_crate(folder);
+            if !built && !name.starts_with('.') {
                 collect(&path, pages);
             }
         } else if name.ends_with(".md") {
             pages.push(path);
         }
     }
+}
+
+/// Is it the folder of a crate?
+fn is_crate(folder: &Path) -> bool {
+    folder.parent().is_some_and(|around| around.ends_with("crates"))
 }
 
 /// The targets of `[text](target)` that do not name another host. Code is skipped.
@@ -185,6 +191,14 @@ mod tests {
         let root =
             folder("built", &[("target/A.md", "[b](nowhere)"), (".git/B.md", "[b](nowhere)"), ("C.md", "[own](C.md)")]);
         assert_eq!(check(&root), Seen { pages: 1, links: 1, ..Seen::default() });
+    }
+
+    #[test]
+    fn the_folder_out_of_a_crate_is_passed_over() {
+        let nowhere = "[b](nowhere)";
+        let root = folder("out", &[("crates/a/out/A.md", nowhere), ("crates/a/B.md", ""), ("docs/out/C.md", nowhere)]);
+        let broken = vec!["docs/out/C.md: nowhere: no such file".to_string()];
+        assert_eq!(check(&root), Seen { pages: 2, links: 1, broken, ..Seen::default() });
     }
 
     #[test]

@@ -1,4 +1,4 @@
-//! Names that a page cites from a source file, as in "`realDay`, `leap` and `monthLength` in [times/specs/Day](../crates/times/specs/Day.antt)".
+//! Names that a page cites from a source file, as in "`real_day`, `leap` and `month_length` in [times/specs/Day](../crates/times/specs/Day.antt)".
 //! Each of them must be defined in that file.
 
 use std::fs;
@@ -89,7 +89,7 @@ fn defines(line: &str, name: &str) -> bool {
     }
     let Some(after) = rest.strip_prefix(name) else { return false };
     // A definition goes on with its type, its parameters or its fields.
-    rest.len() < line.trim_start().len() && !after.starts_with(|c: char| c.is_alphanumeric() || "_-′".contains(c))
+    rest.len() < line.trim_start().len() && !after.starts_with(|c: char| c.is_alphanumeric() || "_-'′".contains(c))
         || after.starts_with(" :")
 }
 
@@ -137,7 +137,16 @@ mod tests {
         {
             assert!(defines(line, "leap"), "{line}");
         }
-        for line in ["leap y = y", "pub leapYear : A", "pub leap-day : A", "-- leap", "use A.{leap}", "    leap(y)"] {
+        for line in [
+            "leap y = y",
+            "pub leapYear : A",
+            "pub leap_year : A",
+            "pub leap-day : A",
+            "pub leap' : A",
+            "-- leap",
+            "use A.{leap}",
+            "    leap(y)",
+        ] {
             assert!(!defines(line, "leap"), "{line}");
         }
     }
