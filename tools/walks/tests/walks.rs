@@ -136,10 +136,10 @@ impl Repo {
         repo
     }
 
-    /// A repository with the module `rei2::lent` of this one, and with the module that has the lengths of its arrays.
-    fn as_here() -> Repo {
-        let repo = Repo::new(&read(&here().join("crates/rei2/src/lent.rt")));
-        repo.has("frames", "reply", &read(&here().join("crates/frames/src/reply.rt")));
+    /// A repository with the module `rei2::lent` for which walks were written, and with the module that has the lengths of its arrays.
+    fn as_written() -> Repo {
+        let repo = Repo::new(&read(&kept("lent.rt")));
+        repo.has("frames", "reply", &read(&kept("reply.rt")));
         repo
     }
 
@@ -180,9 +180,14 @@ fn says(status: i32, printed: &str, errors: &str) -> (i32, String, String) {
     (status, printed.to_string(), errors.to_string())
 }
 
-/// The repository that the program is in.
-fn here() -> PathBuf {
-    Path::new(env!("CARGO_MANIFEST_DIR")).join("../..")
+/// A file of the older kit's form: the module with its calls, or the walk of one.
+fn kept(name: &str) -> PathBuf {
+    Path::new(env!("CARGO_MANIFEST_DIR")).join(format!("tests/kept/{name}.txt"))
+}
+
+/// The walk of a call.
+fn walk_of(call: &str) -> PathBuf {
+    kept(&format!("{call}.antt"))
 }
 
 fn proof(root: &Path, call: &str) -> PathBuf {
@@ -266,25 +271,25 @@ fn has_no_form(module: &str, call: &str) {
     refuses(module, &format!("{call} does not have the form of a call on lent seats"));
 }
 
-// ---- the repository's files
+// ---- the walks that were in use
 
 #[test]
 fn the_files_of_the_repository_are_what_it_writes() {
-    let repo = Repo::as_here();
+    let repo = Repo::as_written();
     assert_eq!(repo.walks(&[]), says(0, "walks: 4 walks written\n", ""));
     for call in ["rei2_reset", "rei2_open", "rei2_reply", "rei2_capture"] {
-        assert!(read(&repo.proof(call)) == read(&proof(&here(), call)), "{call}");
+        assert!(read(&repo.proof(call)) == read(&walk_of(call)), "{call}");
     }
-    assert_eq!(walks(&here(), &["--check"]), says(0, "walks: 4 walks are as written\n", ""));
+    assert_eq!(repo.walks(&["--check"]), says(0, "walks: 4 walks are as written\n", ""));
 }
 
 #[test]
 fn a_check_fails_where_a_file_differs_by_a_byte() {
-    let repo = Repo::as_here();
+    let repo = Repo::as_written();
     let calls = ["rei2_reset", "rei2_open", "rei2_reply", "rei2_capture"];
     for call in calls {
         fs::create_dir_all(repo.proof(call).parent().expect("a file has a folder")).expect("a folder is made");
-        fs::copy(proof(&here(), call), repo.proof(call)).expect("a file is copied");
+        fs::copy(walk_of(call), repo.proof(call)).expect("a file is copied");
     }
     assert_eq!(repo.walks(&["--check"]), says(0, "walks: 4 walks are as written\n", ""));
     for call in calls {
