@@ -61,7 +61,7 @@ impl Room {
 
 impl Drop for Room {
     fn drop(&mut self) {
-        // the folder is below target/; if it cannot be removed now, the next run removes it
+        // if it cannot be removed now, the next run removes it
         let _ = fs::remove_dir_all(&self.0);
     }
 }

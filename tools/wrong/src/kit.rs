@@ -6,10 +6,9 @@ use std::path::{Path, PathBuf};
 use std::process::{Command, ExitStatus, Stdio};
 use std::time::{Duration, Instant};
 
-/// Where the kit is, and where its part for this kind of machine is.
+/// Where the kit is.
 pub struct Kit {
     home: PathBuf,
-    own: PathBuf,
 }
 
 /// What a check ended with, and all that it printed.
@@ -39,11 +38,10 @@ impl Kit {
             Some(home) => PathBuf::from(home),
             None => home_of_rt()?,
         };
-        let own = home.join("on").join(std::env::consts::ARCH);
-        if !own.join("bin/rattle").exists() {
-            return Err(format!("the kit at {} has no rattle for {}", home.display(), std::env::consts::ARCH));
+        if !home.join("bin/rattle").exists() {
+            return Err(format!("the kit at {} has no rattle", home.display()));
         }
-        Ok(Kit { home, own })
+        Ok(Kit { home })
     }
 
     /// Checks the copy in `folder` of the crate `name` of `repo`, with the incremental folder `over` if there is one.
@@ -55,12 +53,35 @@ impl Kit {
         over: Option<&Path>,
         limit: Duration,
     ) -> Result<Checked, String> {
-        let log = folder.join("log");
-        let mut command = Command::new(self.own.join("bin/rattle"));
-        command.current_dir(folder).arg("check").args(self.words(repo, name, folder));
+        let mut words = vec!["--jobs".to_string(), "1".to_string()];
         if let Some(over) = over {
-            command.arg("--incremental").arg(over);
+            words.extend(["--incremental".to_string(), over.display().to_string()]);
         }
+        self.ran(repo, name, folder, &words, limit)
+    }
+
+    /// The names of the goals and steps of each function's proof of the copy in `folder`, as rattle lists them. It checks no proof.
+    pub fn names(&self, repo: &Repo, name: &str, folder: &Path, limit: Duration) -> Result<String, String> {
+        let to = folder.join("names");
+        let words = ["--generated".to_string(), to.display().to_string(), "--old-names".to_string()];
+        let said = self.ran(repo, name, folder, &words, limit)?;
+        let list = to.join("names.json");
+        fs::read_to_string(&list)
+            .map_err(|_| format!("rattle lists no names: {}", said.text.lines().last().unwrap_or("")))
+    }
+
+    /// Runs rattle on the copy in `folder` of the crate `name`, with these words after those that each run has.
+    fn ran(
+        &self,
+        repo: &Repo,
+        name: &str,
+        folder: &Path,
+        words: &[String],
+        limit: Duration,
+    ) -> Result<Checked, String> {
+        let log = folder.join("log");
+        let mut command = Command::new(self.home.join("bin/rattle"));
+        command.current_dir(folder).arg("check").args(self.words(repo, name, folder)).args(words);
         let out = File::create(&log).map_err(|e| format!("{}: {e}", log.display()))?;
         let err = out.try_clone().map_err(|e| format!("{}: {e}", log.display()))?;
         command.stdin(Stdio::null()).stdout(out).stderr(err);
@@ -72,26 +93,21 @@ impl Kit {
 
     fn words(&self, repo: &Repo, name: &str, folder: &Path) -> Vec<String> {
         let root = if folder.join("src/main.rt").exists() { "src/main.rt" } else { "src/lib.rt" };
-        let own = self.own.join("rlib");
-        let mut words: Vec<String> = ["--crate-name", name, root, "--extern"].map(String::from).to_vec();
-        words.push(format!("std={}/std.rlib", own.display()));
+        let own = self.home.join("rlibs");
+        let mut words: Vec<String> = ["--crate-name", name, root].map(String::from).to_vec();
+        let mut add = |word: &str, value: String| words.extend([word.to_string(), value]);
+        add("--extern", format!("std={}/std.rlib", own.display()));
         for dependency in repo.dependencies(name) {
-            let rlibs = if repo.has(dependency) { repo.rlibs() } else { own.clone() };
-            words.push("--extern".to_string());
-            words.push(format!("{dependency}={}/{dependency}.rlib", rlibs.display()));
+            let rlibs = if repo.has(dependency) { repo.rlibs(dependency) } else { own.clone() };
+            add("--extern", format!("{dependency}={}/{dependency}.rlib", rlibs.display()));
         }
-        for rlibs in [repo.rlibs(), own] {
-            words.push("-L".to_string());
-            words.push(format!("dependency={}", rlibs.display()));
+        add("-L", format!("dependency={}", own.display()));
+        for below in repo.below(name) {
+            add("-L", format!("dependency={}", repo.rlibs(below).display()));
         }
-        let logic = [
-            ("--antt-project", self.home.join("logic/antt-project.json")),
-            ("--logic-built", self.own.join("logic-built")),
-        ];
-        for (word, path) in logic {
-            words.push(word.to_string());
-            words.push(path.display().to_string());
-        }
+        add("--antt-project", self.home.join("rattle/logic/antt-project.json").display().to_string());
+        add("--logic-built", self.home.join("logic_built").display().to_string());
+        add("--links", format!("{name}="));
         words
     }
 }

@@ -1,7 +1,8 @@
 //! Tries wrong programs. Each changes a crate's code or definitions, and the prover must refuse it at a fact.
 //!
 //! `wrong ROOT` tries ROOT/crates/NAME/wrong/*.edit, in the form of rt's must-fail edits. Each is checked with a copy of the crate's
-//! checked modules, so that only what it changes is checked again. The crates that it depends on must be proved first (`rt check`).
+//! checked modules, so that only what it changes is checked again. The crates that it depends on must be proved first (`rt check`). Where a proof
+//! cites a name that the edit changes, as a step named after a condition, the names follow the code and the copy is checked again.
 //!
 //!     --crates A,B     only these crates
 //!     --only A,B       only these edits
@@ -20,6 +21,7 @@
 
 mod edit;
 mod folder;
+mod follow;
 mod kit;
 mod mutants;
 mod repo;
@@ -66,7 +68,7 @@ fn run(words: &Words) -> Result<bool, String> {
     let kit = Kit::found()?;
     let room = Room::made(repo.room())?;
     let began = Instant::now();
-    let runner = Runner::new(&kit, &repo, &words.plan, room.path(), tries)?;
+    let runner = Runner::new(&kit, &repo, &words.plan, room.path(), tries);
     let outcomes = runner.run(&report::show);
     let seconds = began.elapsed().as_secs_f64();
     Ok(match words.made {

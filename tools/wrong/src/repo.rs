@@ -16,11 +16,6 @@ impl Repo {
         Ok(Repo { root, crates: listed(&text)? })
     }
 
-    /// A folder with one crate, which depends on no other.
-    pub fn alone(root: &Path, name: &str) -> Repo {
-        Repo { root: root.to_path_buf(), crates: vec![(name.to_string(), Vec::new())] }
-    }
-
     pub fn has(&self, name: &str) -> bool {
         self.crates.iter().any(|(listed, _)| listed == name)
     }
@@ -50,19 +45,33 @@ impl Repo {
         self.root.join("crates").join(name)
     }
 
-    /// Where rt writes the proved libraries.
-    pub fn rlibs(&self) -> PathBuf {
-        self.root.join("target/rlib")
+    /// The crates of the repository below a crate, each once.
+    pub fn below(&self, name: &str) -> Vec<&str> {
+        let mut found: Vec<&str> = Vec::new();
+        let mut left: Vec<&String> = self.dependencies(name).iter().collect();
+        while let Some(on) = left.pop() {
+            if self.has(on) && !found.contains(&on.as_str()) {
+                found.push(on);
+                left.extend(self.dependencies(on));
+            }
+        }
+        found.sort();
+        found
     }
 
-    /// The checked modules of a proved library, as rt leaves them.
+    /// Where rt writes a crate's proved library.
+    pub fn rlibs(&self, name: &str) -> PathBuf {
+        self.folder(name).join("out/rlib")
+    }
+
+    /// The checked modules of a crate, as `rt check` keeps them.
     pub fn checked(&self, name: &str) -> PathBuf {
-        self.rlibs().join(format!("{name}.rlib/toolchain/checked"))
+        self.folder(name).join("out/incremental")
     }
 
-    /// The file that rt writes once a crate is proved.
+    /// The file that rt writes once a crate's library is proved and built.
     pub fn stamp(&self, name: &str) -> PathBuf {
-        self.root.join("target/stamp").join(name)
+        self.rlibs(name).join("stamp")
     }
 
     /// Where the output of the checks is kept.
@@ -70,9 +79,9 @@ impl Repo {
         self.root.join("target/wrong-logs")
     }
 
-    /// Where wrong programs are tried.
+    /// Where wrong programs are tried: outside the repository, since rt ci refuses sources in other places than the crates.
     pub fn room(&self) -> PathBuf {
-        self.root.join("target/wrong")
+        std::env::temp_dir().join(format!("wrong{}", self.root.display().to_string().replace('/', "-")))
     }
 }
 
@@ -85,7 +94,9 @@ fn listed(text: &str) -> Result<Vec<(String, Vec<String>)>, String> {
             continue;
         }
         let (name, on) = line.split_once(':').ok_or(format!("crates.txt: no colon in `{line}`"))?;
-        crates.push((name.trim().to_string(), on.split_whitespace().map(String::from).collect()));
+        // words may stand after the name, as `staticlib`
+        let name = name.split_whitespace().next().unwrap_or("").to_string();
+        crates.push((name, on.split_whitespace().map(String::from).collect()));
     }
     Ok(crates)
 }
@@ -100,9 +111,10 @@ mod tests {
 
     #[test]
     fn crates_come_after_what_they_stand_on() {
-        let repo = repo("# all\nc: b io\nb: a # on a\n\na:\nd: a\n");
+        let repo = repo("# all\nc staticlib: b io\nb: a # on a\n\na:\nd: a\n");
         assert_eq!(repo.in_order(), ["a", "b", "d", "c"]);
         assert_eq!(repo.dependencies("c"), ["b", "io"]);
+        assert_eq!(repo.below("c"), ["a", "b"]);
         assert!(repo.has("d") && !repo.has("io"));
     }
 

@@ -2,11 +2,13 @@
 
 use crate::edit;
 use crate::folder;
+use crate::follow;
 use crate::kit::{Checked, Kit};
 use crate::mutants::Mutant;
 use crate::repo::Repo;
-use crate::verdict::{self, Judged};
+use crate::verdict::{self, Judged, Verdict};
 use crate::warm::{self, Source};
+use std::collections::HashMap;
 use std::fs;
 use std::path::{Path, PathBuf};
 use std::sync::Mutex;
@@ -85,19 +87,13 @@ pub struct Runner<'a> {
     repo: &'a Repo,
     plan: &'a Plan,
     room: &'a Path,
-    own: String,
     batches: Mutex<Vec<Batch>>,
+    /// The names of the unedited crates' proofs, once they are asked for.
+    names: Mutex<HashMap<String, String>>,
 }
 
 impl<'a> Runner<'a> {
-    pub fn new(
-        kit: &'a Kit,
-        repo: &'a Repo,
-        plan: &'a Plan,
-        room: &'a Path,
-        tries: Vec<Try>,
-    ) -> Result<Runner<'a>, String> {
-        let own = if plan.way == Way::Full { String::new() } else { warm::folder_name(kit, room, plan.limit)? };
+    pub fn new(kit: &'a Kit, repo: &'a Repo, plan: &'a Plan, room: &'a Path, tries: Vec<Try>) -> Runner<'a> {
         let mut batches: Vec<Batch> = Vec::new();
         for one in tries.into_iter().rev() {
             match batches.iter_mut().find(|batch| batch.krate == one.krate) {
@@ -107,7 +103,7 @@ impl<'a> Runner<'a> {
         }
         // the tries were added from the last to the first, because a batch is taken from its end
         batches.reverse();
-        Ok(Runner { kit, repo, plan, room, own, batches: Mutex::new(batches) })
+        Runner { kit, repo, plan, room, batches: Mutex::new(batches), names: Mutex::new(HashMap::new()) }
     }
 
     /// Tries all programs, and shows each outcome as soon as it is known.
@@ -191,13 +187,13 @@ impl<'a> Runner<'a> {
     fn warm(&self, krate: &str) {
         let made = match self.plan.way {
             Way::Full => Ok(None),
-            _ => warm::make(self.kit, self.repo, krate, &self.own, self.room, self.plan.limit).map(Some),
+            _ => warm::make(self.kit, self.repo, krate, self.room, self.plan.limit).map(Some),
         };
         let state = match made {
             Ok(None) => State::Ready(None),
             Ok(Some((over, source))) => {
                 if source == Source::OwnCheck {
-                    println!("wrong: {krate}: what rt left cannot be used, so the crate was checked here");
+                    println!("wrong: {krate}: nothing that rt kept can be used, so the crate was checked here");
                 }
                 State::Ready(Some(over))
             }
@@ -220,10 +216,9 @@ impl<'a> Runner<'a> {
     }
 
     fn judged(&self, tried: &Try, over: Option<&Path>) -> Result<(Judged, Checked), String> {
-        let first = self.checked(tried, over)?;
-        let judged = verdict::judge(&first, self.plan.limit);
+        let (judged, first) = self.checked(tried, over)?;
         if self.plan.way == Way::Twice {
-            let full = verdict::judge(&self.checked(tried, None)?, self.plan.limit);
+            let (full, _) = self.checked(tried, None)?;
             if full != judged {
                 return Err(format!("over the checked modules: {judged}; from nothing: {full}"));
             }
@@ -232,7 +227,7 @@ impl<'a> Runner<'a> {
     }
 
     /// Checks a copy of the crate with the program's changes, with links to the checked modules or from nothing.
-    fn checked(&self, tried: &Try, over: Option<&Path>) -> Result<Checked, String> {
+    fn checked(&self, tried: &Try, over: Option<&Path>) -> Result<(Judged, Checked), String> {
         let folder = self.room.join("tried").join(&tried.krate).join(&tried.label);
         folder::copy_crate(&self.repo.folder(&tried.krate), &folder)?;
         match &tried.program {
@@ -246,13 +241,38 @@ impl<'a> Runner<'a> {
         if let Some(over) = over {
             folder::link(over, &links)?;
         }
-        let checked =
-            self.kit.check(self.repo, &tried.krate, &folder, over.map(|_| links.as_path()), self.plan.limit)?;
+        let check = || self.kit.check(self.repo, &tried.krate, &folder, over.map(|_| links.as_path()), self.plan.limit);
+        let mut checked = check()?;
+        let mut judged = verdict::judge(&checked, self.plan.limit);
+        if matches!(judged.verdict, Verdict::Mixed | Verdict::Unfit) && self.is_followed(tried, &folder)? {
+            checked = check()?;
+            judged = verdict::judge(&checked, self.plan.limit);
+        }
         if self.plan.keep {
             self.keep(tried, &checked)?;
         }
         fs::remove_dir_all(&folder).map_err(|e| format!("{}: {e}", folder.display()))?;
-        Ok(checked)
+        Ok((judged, checked))
+    }
+
+    /// Has the names in the copy's proofs follow its code. Returns whether a name was changed.
+    fn is_followed(&self, tried: &Try, copy: &Path) -> Result<bool, String> {
+        // where rattle lists no names, the verdict stays as it is
+        let Ok(now) = self.kit.names(self.repo, &tried.krate, copy, self.plan.limit) else { return Ok(false) };
+        follow::apply(copy, &follow::renamed(&self.names(&tried.krate)?, &now))
+    }
+
+    /// The names of the unedited crate's proofs.
+    fn names(&self, krate: &str) -> Result<String, String> {
+        let mut names = self.names.lock().expect("no worker panics");
+        if let Some(found) = names.get(krate) {
+            return Ok(found.clone());
+        }
+        let plain = self.room.join("named").join(krate);
+        folder::copy_crate(&self.repo.folder(krate), &plain)?;
+        let found = self.kit.names(self.repo, krate, &plain, self.plan.limit)?;
+        names.insert(krate.to_string(), found.clone());
+        Ok(found)
     }
 
     fn keep(&self, tried: &Try, checked: &Checked) -> Result<(), String> {

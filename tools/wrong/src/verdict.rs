@@ -1,7 +1,7 @@
 //! The verdict of a check on a wrong program.
 //!
 //! It is not enough that the crate is not proved. The wrong program should be refused because a stated fact is not proved.
-//! If a proof refers to a need or a name that no longer exists, this shows only that the code has another shape.
+//! If a proof refers to a goal or a name that no longer exists, this shows only that the code has another shape.
 
 use crate::kit::Checked;
 use std::fmt;
@@ -17,7 +17,7 @@ pub enum Verdict {
     Unfit,
     /// Refused with a message that is not known here.
     Unknown,
-    /// The compiler refuses it before anything is proved.
+    /// The compiler refuses it before anything is proved, or the prover cannot read its definitions.
     NotCompiled,
     /// The prover could not decide, failed, or took too long.
     NoVerdict,
@@ -68,13 +68,20 @@ impl fmt::Display for Judged {
 }
 
 /// Words of an error that only follows from another one.
-const FOLLOWS: [&str; 4] = ["was not admitted", "were not admitted", "not admitted yet", "cannot be checked"];
+const FOLLOWS: [&str; 6] = [
+    "was not admitted",
+    "were not admitted",
+    "not admitted yet",
+    "cannot be checked",
+    "was not checked",
+    "were not checked",
+];
 
-/// Words in an error's first line which say that a need, a name or a pattern of the proof no longer exists.
+/// Words in an error's first line which say that a goal, a name or a pattern of the proof no longer exists.
 const UNFIT: [&str; 9] = [
     "that can be named from here",
     "this pattern needs",
-    "expected type `tie.Need",
+    "expected type `goal.",
     "is not in scope",
     "has no field",
     "is not a field",
@@ -82,6 +89,10 @@ const UNFIT: [&str; 9] = [
     "unknown name",
     "too many arguments",
 ];
+
+/// Words in the first line of an error of src/ or specs/ which say that the text there cannot be read.
+const UNREAD: [&str; 6] =
+    ["is not in scope", "has no field", "is no name", "operand is missing", "expected the end", "cannot continue"];
 
 /// Words of an error which says that a stated fact is not proved.
 const FACT: [&str; 17] = [
@@ -118,6 +129,10 @@ pub fn judge(checked: &Checked, limit: Duration) -> Judged {
 
 fn refused(text: &str) -> Judged {
     let errors = errors(text);
+    if let Some(error) = errors.iter().find(|error| is_unread(error)) {
+        let place = format!("{}: {}", error.place.trim_start_matches("./"), error.text.lines().next().unwrap_or(""));
+        return Judged { verdict: Verdict::NotCompiled, place };
+    }
     let first = |wanted| errors.iter().find(|error| sort(error) == Some(wanted)).map(|error| error.place.clone());
     let (verdict, place) = match (first(Sort::Fact), first(Sort::Unfit)) {
         (Some(place), None) => (Verdict::Fact, place),
@@ -138,6 +153,16 @@ enum Sort {
     Fact,
     Unfit,
     Other,
+}
+
+/// Is it a text of src/ or specs/ that the prover cannot read? An error that names a declaration speaks of what was read.
+fn is_unread(error: &Error) -> bool {
+    let place = error.place.trim_start_matches("./");
+    let head = error.text.lines().next().unwrap_or("");
+    let is_left = error.text.starts_with("no proof of");
+    (place.starts_with("src/") || place.starts_with("specs/"))
+        && !is_left
+        && (!head.starts_with('`') || UNREAD.iter().any(|word| head.contains(word)))
 }
 
 /// The sort of an error; none if it follows from another one.
@@ -196,18 +221,19 @@ mod tests {
     fn refused_by(errors: &[&str]) -> (Verdict, String) {
         let mut text = String::new();
         for (i, error) in errors.iter().enumerate() {
-            text.push_str(&format!("./proofs/f/Proof.antt:{}:2: error: `a`: {error}\n", i + 1));
+            text.push_str(&format!("./proofs/f/Answers.antt:{}:2: error: `a`: {error}\n", i + 1));
         }
         let judged = of(Some(1), &(text + "fn f: not proved\nlogic=not-proved\n"));
         (judged.verdict, judged.place)
     }
 
     fn at(line: usize) -> String {
-        format!("proofs/f/Proof.antt:{line}:2")
+        format!("proofs/f/Answers.antt:{line}:2")
     }
 
     const FAILS: &str = "`omega`: the goal is false";
-    const MISFIT: &str = "`tie.Need-x`: module `M` has no `Need-x` that can be named from here";
+    const MISFIT: &str =
+        "`goal.x`: module `M` has no `x` that can be named from here (names in it that begin alike: `y`)";
     const WAITS: &str = "`b` was not admitted (it has holes), so this cannot be checked";
 
     #[test]
@@ -230,6 +256,20 @@ mod tests {
     fn words_that_are_not_known() {
         assert_eq!(refused_by(&["something else"]), (Verdict::Unknown, at(1)));
         assert_eq!(refused_by(&[WAITS]), (Verdict::Unknown, String::new()));
+        let rests = "2 declarations that depend on `b`, which was rejected, were not checked: c, d";
+        assert_eq!(refused_by(&[rests]), (Verdict::Unknown, String::new()));
+    }
+
+    #[test]
+    fn definitions_that_cannot_be_read() {
+        for (error, verdict) in [
+            ("expected the end of the line", Verdict::NotCompiled),
+            ("`f`: `leb` is not in scope", Verdict::NotCompiled),
+            ("`f`: the two types differ", Verdict::Fact),
+        ] {
+            let text = format!("./specs/A.antt:3:1: error: {error}\nlogic=not-proved\n");
+            assert_eq!(of(Some(1), &text).verdict, verdict, "{error}");
+        }
     }
 
     #[test]

@@ -11,7 +11,7 @@ struct Place(PathBuf);
 impl Place {
     fn new(name: &str) -> Place {
         let place = Place(std::env::temp_dir().join(format!("wrong-{name}-{}", std::process::id())));
-        let bin = place.0.join("kit/on").join(std::env::consts::ARCH).join("bin");
+        let bin = place.0.join("kit/bin");
         fs::create_dir_all(&bin).expect("a folder");
         fs::copy(Path::new(env!("CARGO_MANIFEST_DIR")).join("tests/rattle"), bin.join("rattle")).expect("a copy");
         place.put("crates.txt", "a: io\n");
@@ -29,8 +29,13 @@ impl Place {
     /// Writes the files that rt leaves for a proved library.
     fn prove(&self, name: &str) {
         let code = fs::read_to_string(self.0.join(format!("crates/{name}/src/lib.rt"))).expect("a file");
-        self.put(&format!("target/rlib/{name}.rlib/toolchain/checked/module"), &code);
-        self.put(&format!("target/stamp/{name}"), "stamp");
+        self.put(&format!("crates/{name}/out/incremental/build-7/module"), &code);
+        self.put(&format!("crates/{name}/out/rlib/stamp"), "stamp");
+    }
+
+    /// Removes what rt left.
+    fn forget(&self) {
+        fs::remove_dir_all(self.0.join("crates/a/out")).expect("removed");
     }
 
     fn edit(&self, label: &str, new: &str) {
@@ -70,7 +75,7 @@ fn of(name: &str, new: &str, words: &[&str]) -> (i32, String) {
 fn an_edit_refused_at_a_fact_is_good() {
     let (status, text) = of("fact", "FACT", &[]);
     assert_eq!(status, 0, "{text}");
-    assert!(text.contains("wrong a/one: refused at a fact, first at proofs/f/Proof.antt:3:5"), "{text}");
+    assert!(text.contains("wrong a/one: refused at a fact, first at proofs/f/Answers.antt:3:5"), "{text}");
     assert!(text.contains("wrong: 1 wrong programs tried, 1 refused at a fact"), "{text}");
 }
 
@@ -127,19 +132,32 @@ fn what_rt_left_is_used_and_not_changed() {
     place.edit("one", "FACT");
     let (_, text) = place.run(&[]);
     assert!(!text.contains("checked here"), "{text}");
-    let module = place.0.join("target/rlib/a.rlib/toolchain/checked/module");
+    let module = place.0.join("crates/a/out/incremental/build-7/module");
     assert_eq!(fs::read_to_string(module).expect("a file"), "good\n");
-    assert!(!place.0.join("target/wrong").exists());
+    assert!(!place.0.join("target").exists());
 }
 
 #[test]
-fn a_crate_that_changed_since_is_checked_here() {
-    let place = Place::new("changed");
+fn a_crate_of_which_nothing_is_kept_is_checked_here() {
+    let place = Place::new("anew");
     place.edit("one", "FACT");
-    place.put("target/rlib/a.rlib/toolchain/checked/module", "older\n");
+    place.forget();
     let (status, text) = place.run(&[]);
     assert_eq!(status, 0, "{text}");
-    assert!(text.contains("wrong: a: what rt left cannot be used, so the crate was checked here"), "{text}");
+    assert!(text.contains("wrong: a: nothing that rt kept can be used, so the crate was checked here"), "{text}");
+}
+
+#[test]
+fn a_name_that_the_edit_changes_is_followed() {
+    let place = Place::new("follow");
+    place.put("crates/a/proofs/f/Answers.antt", "cites good\n");
+    place.prove("a");
+    place.edit("one", "NAMED FACT");
+    place.edit("two", "NAMED fine");
+    let (status, text) = place.run(&["--keep"]);
+    assert_eq!(status, 1, "{text}");
+    assert!(text.contains("wrong a/one: refused at a fact, first at"), "{text}");
+    assert!(text.contains("wrong a/two: STILL PROVED"), "{text}");
 }
 
 #[test]
@@ -173,7 +191,7 @@ fn a_check_ends_at_the_limit() {
 fn crates_are_waited_for() {
     let place = Place::new("wait");
     place.edit("one", "FACT");
-    fs::remove_dir_all(place.0.join("target")).expect("removed");
+    place.forget();
     let child = place.command(&["--wait", "never"]).stdout(std::process::Stdio::piped()).spawn().expect("it runs");
     std::thread::sleep(Duration::from_millis(600));
     place.prove("a");
@@ -187,7 +205,7 @@ fn waiting_ends_with_the_file() {
     let place = Place::new("ends");
     place.edit("one", "FACT");
     place.edit("two", "FACT");
-    fs::remove_dir_all(place.0.join("target")).expect("removed");
+    place.forget();
     place.put("ended", "");
     let ended = place.0.join("ended");
     let (status, text) = place.run(&["--wait", ended.to_str().expect("text")]);

@@ -134,7 +134,7 @@ impl Page<'_> {
         let line = self.tokens[at].line;
         let change = edit.changes(self.name, self.lines).into_iter().next()?;
         let base = self.name.rsplit('/').next().unwrap_or("").split('.').next().unwrap_or("");
-        let of_line = self.tokens.iter().filter(|token| token.line == line).filter_map(word_of);
+        let of_line = self.tokens.iter().filter(|token| token.line == line).flat_map(words_of);
         let words = of_line.chain(telling(owner)).collect();
         let (sides, text) = (self.beside(at), in_text(&self.tokens[at], edit));
         let before = sides.first().filter(|(side, _)| *side == Side::Before).map(|(_, word)| word.clone());
@@ -145,8 +145,9 @@ impl Page<'_> {
     /// The two words before a token, the nearer one first, and the one after it, on its line.
     fn beside(&self, at: usize) -> Vec<(Side, String)> {
         let same = |token: &&Token| token.line == self.tokens[at].line;
-        let before = self.tokens[..at].iter().rev().take_while(same).filter_map(word_of).take(2);
-        let after = self.tokens[at + 1..].iter().take_while(same).filter_map(word_of).take(1);
+        let before =
+            self.tokens[..at].iter().rev().take_while(same).flat_map(|token| words_of(token).into_iter().rev()).take(2);
+        let after = self.tokens[at + 1..].iter().take_while(same).flat_map(words_of).take(1);
         before.map(|word| (Side::Before, word)).chain(after.map(|word| (Side::After, word))).collect()
     }
 }
@@ -158,7 +159,7 @@ fn in_text(token: &Token, edit: &Edit) -> Option<(String, usize)> {
     Some((token.text.get(open..token.text.len() - 1)?.to_string(), at))
 }
 
-/// A name in the same form in code and definitions: `stop_bib` and `stopBib` are the same.
+/// A name in the same form in code and definitions: `StopBib` and `stop_bib` are the same.
 fn plain(name: &str) -> String {
     name.chars().filter(|c| c.is_alphanumeric()).flat_map(char::to_lowercase).collect()
 }
@@ -172,8 +173,9 @@ fn telling(name: &str) -> Option<String> {
     Some(plain(name)).filter(|word| word.chars().count() > 1 && !COMMON.contains(&word.as_str()))
 }
 
-fn word_of(token: &Token) -> Option<String> {
-    telling(&token.text).filter(|_| token.is_word())
+/// The words of a token: `head.run` has two.
+fn words_of(token: &Token) -> Vec<String> {
+    token.text.split('.').filter(|_| token.is_word()).filter_map(telling).collect()
 }
 
 fn spots_of_code(world: &World, file: &File) -> Vec<Spot> {

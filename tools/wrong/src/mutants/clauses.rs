@@ -177,13 +177,15 @@ pub fn applications(tokens: &[Token], range: Range<usize>) -> Vec<Application> {
     found
 }
 
-/// The atom that begins at a token: a bracket with its contents, a `.field`, a `λ` with its names, or one token. For a
-/// bracket the contents are returned too, unless it is a group of names such as `(a b : T)`.
+/// The atom that begins at a token: a bracket with its contents and with fields, as in `(f x).a.b`, a `.field`, a `λ` with
+/// its names, or one token. For a bracket the contents are returned too, unless it is a group of names such as `(a b : T)`.
 fn atom_at(tokens: &[Token], at: usize, end: usize) -> (Range<usize>, Option<Range<usize>>) {
     if depth_of(&tokens[at]) > 0 {
         let close = closing(tokens, at).min(end - 1);
         let names = tokens[at].is("(") && find(tokens, at + 1..close, &[":"]).is_some();
-        return (at..close + 1, (!names).then_some(at + 1..close));
+        let fields =
+            usize::from(close + 2 < end && tokens[close + 1].is(".") && tokens[close + 1].touches(&tokens[close]));
+        return (at..close + 1 + 2 * fields, (!names).then_some(at + 1..close));
     }
     if tokens[at].is("λ") {
         let dot = (at..end).find(|i| tokens[*i].is(".")).unwrap_or(end - 1);
@@ -272,7 +274,7 @@ j = 6
 
     #[test]
     fn applications_and_their_arguments() {
-        let tokens = lexer::definitions("f a (g b c) + h (p q : ℕ) x .y z ∷ λ r. i r 1");
+        let tokens = lexer::definitions("f a (g b c).d e.d + h (p q : ℕ) x ∷ λ r. i r 1");
         let found = applications(&tokens, 0..tokens.len());
         let shown: Vec<String> = found
             .iter()
@@ -284,6 +286,6 @@ j = 6
                 )
             })
             .collect();
-        assert_eq!(shown, ["g b|c", "f a|( g b c )", "h ( p q : ℕ )|x", "i r|1"]);
+        assert_eq!(shown, ["g b|c", "f a|( g b c ) . d|e.d", "h ( p q : ℕ )|x", "i r|1"]);
     }
 }

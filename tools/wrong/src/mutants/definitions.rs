@@ -71,9 +71,9 @@ impl File {
         name.strip_suffix(".antt").unwrap_or(name)
     }
 
-    /// Can this name be used in this file? An operator is given without its `_`.
+    /// Can this name be used in this file? An operator is given without its `◌`.
     fn names(&self, name: &str) -> bool {
-        let operator = format!("_{name}_");
+        let operator = format!("◌{name}◌");
         let imported = self.imports.iter().any(|import| import.here == name || import.here == operator);
         imported || self.statements.iter().any(|s| s.form == Form::Signature && (s.name == name || s.name == operator))
     }
@@ -96,7 +96,8 @@ fn imports(tokens: &[Token]) -> Vec<Import> {
             continue;
         }
         let path: Vec<&str> = tokens[at + 1].text.split('.').collect();
-        let krate = path[0].strip_prefix("Rattle·").map(|rest| rest.split('·').next().unwrap_or(rest).to_string());
+        // a library of the kit has such a path too, and counts as the base library
+        let krate = path.get(1).filter(|_| path[0] == "Rattle").map(|krate| krate.to_string());
         let file = path[path.len() - 1].to_string();
         for part in split(tokens, open + 1..closing(tokens, open), ",") {
             let (name, here) = (tokens[part.start].text.clone(), tokens[part.end - 1].text.clone());
@@ -114,7 +115,7 @@ impl Library {
             files.iter().flat_map(|file| &file.imports).filter_map(|import| import.krate.clone()).collect();
         others.remove(krate);
         for other in others {
-            if let Some(crates) = folder.parent() {
+            if let Some(crates) = folder.parent().filter(|crates| crates.join(&other).is_dir()) {
                 files.extend(File::read_all(&crates.join(&other), &other)?);
             }
         }
@@ -130,7 +131,7 @@ impl Library {
         let import = || file.imports.iter().find(|import| import.here == name);
         file.signature(name, Some(from)).or_else(|| {
             let import = import()?;
-            let krate = import.krate.as_ref();
+            let krate = import.krate.as_ref().filter(|krate| self.files.iter().any(|f| f.krate == **krate));
             match krate {
                 None => of_base(&import.name),
                 Some(krate) => {
@@ -146,7 +147,7 @@ impl Library {
 /// arguments does not matter are left out.
 fn of_base(name: &str) -> Option<Vec<String>> {
     let types: &[&str] = match name {
-        "leb" | "ltb" => &["ℕ", "ℕ"],
+        "leb" | "ltb" | "nat_le" | "nat_lt" => &["ℕ", "ℕ"],
         "slice" => &["ℕ", "ℕ", "List"],
         "cond" => &["Bool", "A", "A"],
         _ => return None,
@@ -188,10 +189,10 @@ fn is_value(tokens: &[Token], at: usize) -> bool {
     tokens[at].sort == Sort::Text || (tokens[at].sort == Sort::Number && !level)
 }
 
-/// The third arguments of `getD`: the values for an element past the end. They are almost never used.
+/// The third arguments of `get_or`: the values for an element past the end. They are almost never used.
 fn past_the_end(file: &File, statement: &Statement) -> Vec<usize> {
     let found = applications(&file.tokens, statement.body.clone()).into_iter();
-    let last = found.filter(|a| file.tokens[a.head].is("getD")).filter_map(|a| a.arguments.get(2).cloned());
+    let last = found.filter(|a| file.tokens[a.head].is("get_or")).filter_map(|a| a.arguments.get(2).cloned());
     last.filter(|range| range.len() == 1).map(|range| range.start).collect()
 }
 
@@ -232,9 +233,11 @@ fn letters(token: &Token) -> Vec<Edit> {
 }
 
 /// The kind of the edit, a name or an operator, and what replaces it if the file can name that.
-const OTHER: [(&str, &str, &str); 13] = [
+const OTHER: [(&str, &str, &str); 15] = [
     ("operator", "leb", "ltb"),
     ("operator", "ltb", "leb"),
+    ("operator", "nat_le", "nat_lt"),
+    ("operator", "nat_lt", "nat_le"),
     ("operator", "&&", "||"),
     ("operator", "||", "&&"),
     ("operator", "≤", "<"),

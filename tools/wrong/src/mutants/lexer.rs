@@ -200,8 +200,14 @@ impl<'a> Scanner<'a> {
         if !clause {
             return self.take(Sort::Word, length);
         }
+        let named = &self.rest()[..length] != "ghost";
         self.step(length);
         self.skip_space();
+        if named && !self.sees("{") {
+            // the name of a clause
+            self.step(self.run(|c| in_word(c) || c == '*'));
+            self.skip_space();
+        }
         if self.sees("{") {
             self.clause();
         } else {
@@ -284,7 +290,7 @@ fn name_sort(name: &str) -> Sort {
     let first = name.chars().next().unwrap_or(' ');
     if name.chars().all(|c| c.is_ascii_digit()) {
         Sort::Number
-    } else if first.is_alphanumeric() || "_[⊥".contains(first) {
+    } else if first.is_alphanumeric() || "◌_[⊥".contains(first) {
         Sort::Word
     } else {
         Sort::Mark
@@ -354,7 +360,8 @@ mod tests {
 
     #[test]
     fn contracts_leave_no_token() {
-        let text = "fn f() -> u8\n    requires { ⌜ {A = ℕ} \"}\" ≡ b' -- }\n ⌝ }\n    ensures { x }\n{ 1 }\nghost use a.{b};\nc";
+        let text =
+            "fn f() -> u8\n    requires { ({A = ℕ} \"}\" ≡ b' -- }\n) }\n    ensures low { x }\n{ 1 }\nghost use a.{b};\nc";
         assert_eq!(texts(&code(text)), ["fn", "f", "(", ")", "->", "u8", "{", "1", "}", "c"]);
     }
 

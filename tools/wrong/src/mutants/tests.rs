@@ -260,7 +260,7 @@ fn nothing_else_of_the_code_is_touched() {
     let text = "\
 // 1 + 2 == true
 use a::b1;
-ghost use c.{d, _+_};
+ghost use c.{d, ◌+◌};
 #[repr(align(8))]
 pub struct S {
     pub x: [u8; 3], // 4
@@ -287,7 +287,7 @@ pub fn f(s: &[u8; 7], n: [u8; 8]) -> [u8; 9]
 // ---- definitions
 
 const USES: &str =
-    "use N.{ℕ, _+_, _-_, _<_, _≤_}\nuse B.{true, false, cond, _&&_, _||_}\nuse D.{leb, ltb, eqb, getD}\n";
+    "use N.{ℕ, ◌+◌, ◌-◌, ◌<◌, ◌≤◌}\nuse B.{true, false, cond, ◌&&◌, ◌||◌}\nuse Rattle.std.specs.D.{leb, ltb, eqb, get_or}\n";
 
 fn with_uses(text: &str) -> String {
     format!("{USES}{text}")
@@ -312,7 +312,7 @@ fn operators_only_where_both_can_be_named() {
     let text = "f a b = leb a b && g (a + b)\n";
     let all = ["f a b = ltb a b && g (a + b)", "f a b = leb a b || g (a + b)", "f a b = leb a b && g (a - b)"];
     assert_eq!(definitions("operator", &with_uses(text)), all);
-    assert!(definitions("operator", &format!("use D.{{leb}}\nuse B.{{_&&_}}\nuse N.{{_+_}}\n{text}")).is_empty());
+    assert!(definitions("operator", &format!("use D.{{leb}}\nuse B.{{◌&&◌}}\nuse N.{{◌+◌}}\n{text}")).is_empty());
 }
 
 #[test]
@@ -336,7 +336,7 @@ fn arguments_of_another_file() {
         ("a/src/lib.rt", ""),
         (
             "a/specs/A.antt",
-            "use Rattle·b.specs.M.{g as h, k}\nuse Rattle·a·specs.specs.C.{i}\nf a b = h a b ∷ k a b ∷ i a b\n",
+            "use Rattle.b.specs.M.{g as h, k}\nuse Rattle.a.specs.C.{i}\nf a b = h a b ∷ k a b ∷ i a b\n",
         ),
         ("a/specs/C.antt", "i : ℕ → ℕ → ℕ\n"),
         ("b/specs/M.antt", "g : ℕ → ℕ → ℕ\nk : ℕ → Bool → ℕ\n"),
@@ -371,7 +371,7 @@ pub record R (k : Kind 5) : Type 0 where
 pub data D : Type 0 where
   c : D → Unit {0}
 module _ (n : 6) where
-  g l = getD l n 0
+  g l = get_or l n 0
 ";
     assert_eq!(definitions("constant", &with_uses(text)), [""; 0]);
     let tree = Tree::new(&[("a/src/lib.rt", ""), ("a/specs/A.antt", &with_uses(text))]);
@@ -412,9 +412,9 @@ fn the_same_number_in_both() {
 #[test]
 fn a_small_number_only_beside_the_same_word() {
     let code = "fn f() {\n    g(is_raw(h.mode), 4, wrong)\n}\n";
-    assert_eq!(both(code, "f h = unless (h .mode) 4 x\n").len(), 1);
-    assert!(both(code, "f h = unless (h .run) 4 x\n").is_empty());
-    assert!(both(code, "f h = 4 (h .mode) x\n").is_empty());
+    assert_eq!(both(code, "f h = unless h.mode 4 x\n").len(), 1);
+    assert!(both(code, "f h = unless h.run 4 x\n").is_empty());
+    assert!(both(code, "f h = 4 h.mode x\n").is_empty());
 }
 
 #[test]
@@ -462,7 +462,7 @@ pub enum E {
 }
 const N: usize = 12;
 fn g(a: u8, b: u8, y: bool) -> bool
-    ensures { λ r. ⌜ r ≡ 12 ⌝ }
+    ensures { result ≡ 12 }
 {
     let mut c = true;
     if a < b {
