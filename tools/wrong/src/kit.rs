@@ -44,16 +44,17 @@ impl Kit {
         Ok(Kit { home })
     }
 
-    /// Checks the copy in `folder` of the crate `name` of `repo`, with the incremental folder `over` if there is one.
+    /// Checks the copy in `folder` of the crate `name` of `repo`, with the incremental folder `over` if there is one, and so many jobs.
     pub fn check(
         &self,
         repo: &Repo,
         name: &str,
         folder: &Path,
         over: Option<&Path>,
+        jobs: usize,
         limit: Duration,
     ) -> Result<Checked, String> {
-        let mut words = vec!["--jobs".to_string(), "1".to_string()];
+        let mut words = vec!["--jobs".to_string(), jobs.to_string()];
         if let Some(over) = over {
             words.extend(["--incremental".to_string(), over.display().to_string()]);
         }

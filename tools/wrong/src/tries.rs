@@ -241,7 +241,8 @@ impl<'a> Runner<'a> {
         if let Some(over) = over {
             folder::link(over, &links)?;
         }
-        let check = || self.kit.check(self.repo, &tried.krate, &folder, over.map(|_| links.as_path()), self.plan.limit);
+        let check =
+            || self.kit.check(self.repo, &tried.krate, &folder, over.map(|_| links.as_path()), 1, self.plan.limit);
         let mut checked = check()?;
         let mut judged = verdict::judge(&checked, self.plan.limit);
         if matches!(judged.verdict, Verdict::Mixed | Verdict::Unfit) && self.is_followed(tried, &folder)? {

@@ -10,6 +10,9 @@ use std::fs;
 use std::path::{Path, PathBuf};
 use std::time::Duration;
 
+/// How many jobs the check of an unedited crate has, which may begin from nothing.
+const JOBS: usize = 4;
+
 /// Where a folder comes from.
 #[derive(Clone, Copy, PartialEq, Eq, Debug)]
 pub enum Source {
@@ -24,13 +27,13 @@ pub fn make(kit: &Kit, repo: &Repo, name: &str, room: &Path, limit: Duration) ->
     let over = room.join("over").join(name);
     if repo.checked(name).is_dir() {
         folder::copy(&repo.checked(name), &over)?;
-        if kit.check(repo, name, &plain, Some(&over), limit)?.is_proved() {
+        if kit.check(repo, name, &plain, Some(&over), JOBS, limit)?.is_proved() {
             return Ok((over, Source::Kept));
         }
         fs::remove_dir_all(&over).map_err(|e| format!("{}: {e}", over.display()))?;
     }
     fs::create_dir_all(&over).map_err(|e| format!("{}: {e}", over.display()))?;
-    let checked = kit.check(repo, name, &plain, Some(&over), limit)?;
+    let checked = kit.check(repo, name, &plain, Some(&over), JOBS, limit)?;
     if !checked.is_proved() {
         return Err(format!("the unedited crate is not proved:\n{}", last_lines(&checked.text, 5)));
     }
