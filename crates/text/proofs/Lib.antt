@@ -3,3 +3,4 @@ pub mod DecimalLaws
 pub mod LineLaws
 pub mod Unique
 pub mod Cases
+pub mod AddressCases

@@ -4,3 +4,4 @@ pub mod Lines
 pub mod Address
 pub mod Unique
 pub mod Cases
+pub mod AddressCases
