@@ -38,7 +38,8 @@ pub fn text_of(path: &str) -> String {
 
 /// A new folder for the files of a test.
 pub fn room(name: &str) -> PathBuf {
-    let room = root().join("target/rei2list-tests").join(name);
+    // Not below the repository: some tests make links, and rt refuses a repository with links.
+    let room = std::env::temp_dir().join(format!("rei2list-tests-{}", std::process::id())).join(name);
     let _ = fs::remove_dir_all(&room);
     fs::create_dir_all(&room).expect("a folder");
     room.canonicalize().expect("a folder")
