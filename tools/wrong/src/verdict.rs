@@ -49,11 +49,13 @@ impl Verdict {
     }
 }
 
-/// A verdict with the place of the first error of its kind, or with the message if there is no place.
+/// A verdict with the place of the first error of its kind, or with the message if there is no place, and with the goal or the law that
+/// is not proved there, if the error names one.
 #[derive(Clone, PartialEq, Eq, Debug)]
 pub struct Judged {
     pub verdict: Verdict,
     pub place: String,
+    pub goal: Option<String>,
 }
 
 impl fmt::Display for Judged {
@@ -62,7 +64,10 @@ impl fmt::Display for Judged {
         match self.verdict {
             _ if self.place.is_empty() => Ok(()),
             Verdict::NotCompiled | Verdict::NoVerdict => write!(f, ": {}", self.place),
-            _ => write!(f, ", first at {}", self.place),
+            _ => match &self.goal {
+                Some(goal) => write!(f, ", first at {}, {goal}", self.place),
+                None => write!(f, ", first at {}", self.place),
+            },
         }
     }
 }
@@ -117,7 +122,7 @@ const FACT: [&str; 17] = [
 
 pub fn judge(checked: &Checked, limit: Duration) -> Judged {
     let text = &checked.text;
-    let said = |verdict, place: &str| Judged { verdict, place: place.to_string() };
+    let said = |verdict, place: &str| Judged { verdict, place: place.to_string(), goal: None };
     match checked.status {
         Some(0) if checked.is_proved() => said(Verdict::Proved, ""),
         Some(1) if text.lines().any(|line| line.starts_with("logic=not-proved")) => refused(text),
@@ -131,16 +136,27 @@ fn refused(text: &str) -> Judged {
     let errors = errors(text);
     if let Some(error) = errors.iter().find(|error| is_unread(error)) {
         let place = format!("{}: {}", error.place.trim_start_matches("./"), error.text.lines().next().unwrap_or(""));
-        return Judged { verdict: Verdict::NotCompiled, place };
+        return Judged { verdict: Verdict::NotCompiled, place, goal: None };
     }
-    let first = |wanted| errors.iter().find(|error| sort(error) == Some(wanted)).map(|error| error.place.clone());
-    let (verdict, place) = match (first(Sort::Fact), first(Sort::Unfit)) {
-        (Some(place), None) => (Verdict::Fact, place),
-        (Some(place), Some(_)) => (Verdict::Mixed, place),
-        (None, Some(place)) => (Verdict::Unfit, place),
-        (None, None) => (Verdict::Unknown, first(Sort::Other).unwrap_or_default()),
+    let first = |wanted| errors.iter().find(|error| sort(error) == Some(wanted));
+    let (verdict, error) = match (first(Sort::Fact), first(Sort::Unfit)) {
+        (Some(error), None) => (Verdict::Fact, Some(error)),
+        (Some(error), Some(_)) => (Verdict::Mixed, Some(error)),
+        (None, Some(error)) => (Verdict::Unfit, Some(error)),
+        (None, None) => (Verdict::Unknown, first(Sort::Other)),
     };
-    Judged { verdict, place: place.trim_start_matches("./").to_string() }
+    let place = error.map_or("", |error| error.place.trim_start_matches("./")).to_string();
+    Judged { verdict, place, goal: error.and_then(goal) }
+}
+
+/// The goal or the law that an error is about: its first word in backquotes, or in what the search leaves the one in brackets.
+fn goal(error: &Error) -> Option<String> {
+    let head = error.text.lines().next().unwrap_or("");
+    let quoted = match head.strip_prefix("no proof of") {
+        Some(fact) => fact.split_once("(`")?.1.split_once("`)")?.0,
+        None => head.strip_prefix('`')?.split_once("`:")?.0,
+    };
+    Some(quoted.to_string())
 }
 
 struct Error {
@@ -239,6 +255,8 @@ mod tests {
     #[test]
     fn a_fact_that_fails() {
         assert_eq!(refused_by(&[FAILS]), (Verdict::Fact, at(1)));
+        let said = of(Some(1), &format!("./a.antt:1:2: error: `law`: {FAILS}\nlogic=not-proved\n")).to_string();
+        assert_eq!(said, "refused at a fact, first at a.antt:1:2, law");
         assert_eq!(refused_by(&[WAITS, FAILS, WAITS]), (Verdict::Fact, at(2)));
         assert_eq!(
             refused_by(&["odd words\n  expected type `n ≡ 3`\n  but this has type `n ≡ 4`"]),
@@ -274,8 +292,8 @@ mod tests {
 
     #[test]
     fn what_the_search_leaves_is_a_fact() {
-        let text = "fn f: not proved\nnote: src/lib.rt:3:5: it is not proved that `a < 3`\nlogic=not-proved\n";
-        assert_eq!(of(Some(1), text), Judged { verdict: Verdict::Fact, place: "src/lib.rt:3:5".to_string() });
+        let text = "fn f: not proved\nnote: src/lib.rt:3:5: it is not proved that it holds (`returns`); more\nlogic=not-proved\n";
+        assert_eq!(of(Some(1), text).to_string(), "refused at a fact, first at src/lib.rt:3:5, returns");
     }
 
     #[test]
@@ -285,6 +303,6 @@ mod tests {
         assert_eq!(verdict(Some(1), "error[mismatched-types]: no\n"), Verdict::NotCompiled);
         assert_eq!(verdict(Some(3), "rattle: no verdict\n"), Verdict::NoVerdict);
         assert_eq!(verdict(Some(0), "holes=1\n"), Verdict::NoVerdict);
-        assert_eq!(of(None, ""), Judged { verdict: Verdict::NoVerdict, place: "ended after 7 s".to_string() });
+        assert_eq!(of(None, "").to_string(), "no verdict: ended after 7 s");
     }
 }
