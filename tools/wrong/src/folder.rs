@@ -41,11 +41,25 @@ pub fn copy_crate(from: &Path, to: &Path) -> Result<(), String> {
     Ok(())
 }
 
+/// Removes the rooms of the same name whose processes were killed. A room's ending is the number of its process.
+fn sweep(room: &Path) {
+    let (Some(above), Some(name)) = (room.parent(), room.file_stem()) else { return };
+    for path in fs::read_dir(above).into_iter().flatten().flatten().map(|entry| entry.path()) {
+        let process = path.extension().filter(|end| end.to_string_lossy().chars().all(|c| c.is_ascii_digit()));
+        let ended = process.is_some_and(|process| !Path::new("/proc").join(process).exists());
+        if path.file_stem() == Some(name) && ended {
+            // a check that outlives its run may still write there; then the next run removes it
+            let _ = fs::remove_dir_all(&path);
+        }
+    }
+}
+
 /// A folder that is empty when it is made, and is removed when this value is dropped.
 pub struct Room(PathBuf);
 
 impl Room {
     pub fn made(path: PathBuf) -> Result<Room, String> {
+        sweep(&path);
         let fails = |e: std::io::Error| format!("{}: {e}", path.display());
         if path.exists() {
             fs::remove_dir_all(&path).map_err(fails)?;
@@ -84,5 +98,17 @@ mod tests {
         let held = room.path().to_path_buf();
         drop(room);
         assert!(!held.exists());
+    }
+
+    #[test]
+    fn rooms_of_ended_processes_are_removed() {
+        let above = std::env::temp_dir().join(format!("wrong-sweep-{}", std::process::id()));
+        let [own, lost, other] = ["r.1", "r.999999999", "s.999999999"].map(|name| above.join(name));
+        for path in [&own, &lost, &other] {
+            fs::create_dir_all(path).expect("a folder");
+        }
+        sweep(&above.join("r.7"));
+        assert_eq!([&own, &lost, &other].map(|path| path.exists()), [true, false, true]);
+        fs::remove_dir_all(above).expect("removed");
     }
 }

@@ -81,7 +81,8 @@ impl Repo {
 
     /// Where wrong programs are tried: outside the repository, since rt ci refuses sources in other places than the crates.
     pub fn room(&self) -> PathBuf {
-        std::env::temp_dir().join(format!("wrong{}", self.root.display().to_string().replace('/', "-")))
+        let name = format!("wrong{}", self.root.display().to_string().replace('/', "-"));
+        std::env::temp_dir().join(format!("{name}.{}", std::process::id()))
     }
 }
 
