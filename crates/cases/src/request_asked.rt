@@ -1,56 +1,46 @@
 // Cases on the static request.
-use crate::words::{also_code, code};
-use crate::written::print_written;
-use frames::refusals::of_reading;
-use frames::request::{RequestRead, StaticRequest, read_request, write_request};
-use spelling::told::print_told;
-use spelling::{line, print};
+use crate::frame::Record;
+use frames::refusals::{ReadRefusal, WriteRefusal};
+use frames::request::{StaticRequest, read_request, write_request};
+use spelling::line::Words;
 use std::io::{self, Write};
 
-pub fn reading<W: Write>(to: &mut W, s: &[u8]) -> io::Result<()> {
-    let mut b = [0u8; 100];
-    let n = line::bytes(s, 1, &mut b);
-    match read_request(&b[0..n]) {
-        RequestRead::Request(r) => print_request(to, r)?,
-        RequestRead::Refused(f) => print_told(to, of_reading(f))?,
+impl Record for StaticRequest {
+    fn read(frame: &[u8]) -> Result<Self, ReadRefusal> {
+        read_request(frame)
     }
-    print::end_line(to)
-}
 
-fn print_request<W: Write>(to: &mut W, r: StaticRequest) -> io::Result<()> {
-    print::text(to, b"0 0 0")?;
-    also_code(to, r.address)?;
-    also_code(to, r.requester)?;
-    print::also(to, r.number)?;
-    print::also(to, r.bib)?;
-    also_code(to, r.information)?;
-    print::also(to, r.channel)?;
-    print::also(to, r.run)?;
-    print::also(to, r.group)?;
-    also_code(to, r.output)
-}
+    fn write(self, out: &mut [u8]) -> Result<(), WriteRefusal> {
+        write_request(self, out)
+    }
 
-pub fn writing<W: Write>(to: &mut W, s: &[u8]) -> io::Result<()> {
-    let mut out = [238u8; 100];
-    let room = (line::small(s, 1) % 101) as usize;
-    writing_to(to, request_asked(s), &mut out[0..room])
-}
+    fn asked(s: &mut Words<'_>) -> Self {
+        StaticRequest {
+            address: s.code(),
+            requester: s.code(),
+            number: s.small(),
+            bib: s.small(),
+            information: s.code(),
+            channel: s.small(),
+            run: s.small(),
+            group: s.small(),
+            output: s.code(),
+        }
+    }
 
-fn writing_to<W: Write>(to: &mut W, r: StaticRequest, out: &mut [u8]) -> io::Result<()> {
-    let a = write_request(r, out);
-    print_written(to, a, out)
-}
-
-fn request_asked(s: &[u8]) -> StaticRequest {
-    StaticRequest {
-        address: code(s, 2),
-        requester: code(s, 3),
-        number: line::small(s, 4),
-        bib: line::small(s, 5),
-        information: code(s, 6),
-        channel: line::small(s, 7),
-        run: line::small(s, 8),
-        group: line::small(s, 9),
-        output: code(s, 10),
+    fn print<W: Write>(self, to: &mut W) -> io::Result<()> {
+        write!(
+            to,
+            " {} {} {} {} {} {} {} {} {}",
+            self.address,
+            self.requester,
+            self.number,
+            self.bib,
+            self.information,
+            self.channel,
+            self.run,
+            self.group,
+            self.output
+        )
     }
 }

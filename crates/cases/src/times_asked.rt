@@ -1,112 +1,84 @@
 // Cases on digits and times.
-use crate::words::{print_signed, signed};
-use digits::{Number, number_at, put_number};
-use spelling::{line, print};
+use digits::{number_at, put_number};
+use spelling::line::Words;
+use spelling::print::{Bytes, Told};
+use std::fmt::Display;
 use std::io::{self, Write};
 use times::clock::{clock_at, put_clock};
 use times::day::is_day;
-use times::net::{NetParts, NetValue, is_net, net_parts, net_value};
-use times::running::{Running, RunningOf, running_time};
+use times::net::{NetParts, is_net, net_parts, net_value};
+use times::running::{RunningOf, running_time};
 
-fn number_answer<W: Write>(to: &mut W, n: Number) -> io::Result<()> {
-    match n {
-        Number::Is(v) => print::decimal(to, v)?,
-        Number::Wrong => print::text(to, b"wrong")?,
+fn print_or_wrong<W: Write, T: Display + Drop>(to: &mut W, found: Option<T>) -> io::Result<()> {
+    match found {
+        Some(v) => writeln!(to, "{v}"),
+        None => writeln!(to, "wrong"),
     }
-    print::end_line(to)
 }
 
-pub fn number<W: Write>(to: &mut W, s: &[u8]) -> io::Result<()> {
+pub fn number<W: Write>(to: &mut W, s: &mut Words<'_>) -> io::Result<()> {
+    let at = s.small() as usize;
+    let width = s.small() as usize;
     let mut b = [0u8; 100];
-    let n = line::bytes(s, 3, &mut b);
-    let at = line::small(s, 1) as usize;
-    let width = line::small(s, 2) as usize;
-    number_answer(to, number_at(&b[0..n], at, width))
+    print_or_wrong(to, number_at(s.bytes(&mut b), at, width))
 }
 
-pub fn digits_of<W: Write>(to: &mut W, s: &[u8]) -> io::Result<()> {
-    let width = line::small(s, 1) as usize;
+pub fn digits_of<W: Write>(to: &mut W, s: &mut Words<'_>) -> io::Result<()> {
+    let width = s.small() as usize;
     let mut b = [0u8; 10];
-    put_number(&mut b, 0, width, line::number(s, 2));
-    if width <= 10 {
-        print::bytes(to, &b[0..width])?;
+    put_number(&mut b, 0, width, s.number());
+    match b.get(..width) {
+        Some(digits) => writeln!(to, "{}", Bytes(digits)),
+        None => writeln!(to),
     }
-    print::end_line(to)
 }
 
-pub fn clock<W: Write>(to: &mut W, s: &[u8]) -> io::Result<()> {
+pub fn clock<W: Write>(to: &mut W, s: &mut Words<'_>) -> io::Result<()> {
+    let at = s.small() as usize;
     let mut b = [0u8; 100];
-    let n = line::bytes(s, 2, &mut b);
-    let at = line::small(s, 1) as usize;
-    number_answer(to, clock_at(&b[0..n], at))
+    print_or_wrong(to, clock_at(s.bytes(&mut b), at))
 }
 
-pub fn clock_text<W: Write>(to: &mut W, s: &[u8]) -> io::Result<()> {
+pub fn clock_text<W: Write>(to: &mut W, s: &mut Words<'_>) -> io::Result<()> {
     let mut b = [0u8; 10];
-    put_clock(&mut b, 0, line::small(s, 1));
-    print::bytes(to, &b)?;
-    print::end_line(to)
+    put_clock(&mut b, 0, s.small());
+    writeln!(to, "{}", Bytes(&b))
 }
 
-pub fn day<W: Write>(to: &mut W, s: &[u8]) -> io::Result<()> {
-    if is_day(line::small(s, 1), line::small(s, 2), line::small(s, 3)) {
-        print::text(to, b"1\n")
-    } else {
-        print::text(to, b"0\n")
-    }
+pub fn day<W: Write>(to: &mut W, s: &mut Words<'_>) -> io::Result<()> {
+    let day = is_day(s.small(), s.small(), s.small());
+    writeln!(to, "{}", u8::from(day))
 }
 
-pub fn net<W: Write>(to: &mut W, s: &[u8]) -> io::Result<()> {
+pub fn net<W: Write>(to: &mut W, s: &mut Words<'_>) -> io::Result<()> {
     let parts = NetParts {
-        minus: line::small(s, 1) == 1,
-        days: line::small(s, 2) as u64,
-        time: line::small(s, 3),
+        minus: s.small() == 1,
+        days: s.small() as u64,
+        time: s.small(),
     };
-    match net_value(parts) {
-        NetValue::Is(v) => print_signed(to, v)?,
-        NetValue::Wrong => print::text(to, b"wrong")?,
-    }
-    print::end_line(to)
+    print_or_wrong(to, net_value(parts))
 }
 
-pub fn net_parts_of<W: Write>(to: &mut W, s: &[u8]) -> io::Result<()> {
-    shown(to, signed(s, 1))?;
-    print::end_line(to)
-}
-
-fn shown<W: Write>(to: &mut W, v: i64) -> io::Result<()> {
-    let p = net_parts(v);
+pub fn net_parts_of<W: Write>(to: &mut W, s: &mut Words<'_>) -> io::Result<()> {
+    let p = net_parts(s.signed());
     if is_net(p) {
-        parts(to, p)
+        writeln!(to, "{} {} {}", u8::from(p.minus), p.days, p.time)
     } else {
-        print::text(to, b"wrong")
+        writeln!(to, "wrong")
     }
 }
 
-fn parts<W: Write>(to: &mut W, p: NetParts) -> io::Result<()> {
-    if p.minus {
-        print::text(to, b"1 ")?;
-    } else {
-        print::text(to, b"0 ")?;
-    }
-    print::pair(to, p.days, p.time as u64)
-}
-
-pub fn running<W: Write>(to: &mut W, s: &[u8]) -> io::Result<()> {
+pub fn running<W: Write>(to: &mut W, s: &mut Words<'_>) -> io::Result<()> {
     let of = RunningOf {
-        bib: line::small(s, 1),
-        tnow: line::small(s, 2),
-        tev: line::small(s, 3),
-        sign: line::small(s, 4),
-        days: line::small(s, 5),
-        time: line::small(s, 6),
+        bib: s.small(),
+        tnow: s.small(),
+        tev: s.small(),
+        sign: s.small(),
+        days: s.small(),
+        time: s.small(),
     };
     match running_time(of) {
-        Running::Ticks(v) => {
-            print::text(to, b"0 0 0 ")?;
-            print_signed(to, v)?;
-        }
-        Running::Time => print::text(to, b"8 0 0 0")?,
+        Ok(v) => writeln!(to, "0 0 0 {v}"),
+        Err(f) => writeln!(to, "{} 0", Told(f.into())),
     }
-    print::end_line(to)
 }

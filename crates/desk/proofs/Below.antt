@@ -1,11 +1,15 @@
 -- Laws of tests, and of tests over the numbers below a bound. Assumes nothing.
 use Prim.Native.Nat.{ℕ, zero, suc, ◌+◌, ◌≤◌, ◌<◌}
-use mathlib.Core.Bool.{Bool, true, false, cond, ◌&&◌}
+use mathlib.Core.Bool.{Bool, true, false, cond, not, ◌&&◌}
 use mathlib.Core.Path.{◌≡◌, refl, sym, ap, ap₂, ◌∙◌}
 use native.Mathlib.Omega.{arith}
 use native.Mathlib.Numerals.{add-one}
+use mathlib.Core.List.{List, [], ◌∷◌}
+use lib.ListN.{length, get_or}
+use lib.Pointwise.{pointwise}
+use Rattle.std.specs.List.{position_or_len}
 use native.Mathlib.Decide.{dec_lt, ℕ_discrete}
-use lib.Dec.{ltb}
+use lib.Dec.{eqb, ltb}
 use borrow.Author.Tests.{lt-ltb, le-ltb, ltb-true, ltb-false}
 use Rattle.digits.proofs.Tests.{by-test, and_true, and_l, and_r}
 use Rattle.desk.specs.Below.{all_below, count_below, first}
@@ -249,3 +253,55 @@ first_hit n k p l h q = first_at n k p l (λ j i. first_before k p j (omega arit
 
 pub first_past : (n k : ℕ) (p : ℕ → Bool) → n ≤ k → first k p ≡ k → first n p ≡ n
 first_past n k p l h = first_none n p (λ j i. first_before k p j (omega arith))
+
+-- ---- the places of a list, from the front
+
+all_front : (n : ℕ) (p : ℕ → Bool) → all_below (suc n) p ≡ p 0 && all_below n (λ i. p (suc i))
+unfolding all_below
+all_front zero p = go (p 0)
+  where
+    go : (a : Bool) → a ≡ a && true
+    go true = refl
+    go false = refl
+all_front (suc n) p = ap (λ (x : Bool). x && p (suc n)) (all_front n p) ∙ go (p 0) (all_below n (λ i. p (suc i))) (p (suc n))
+  where
+    go : (a b c : Bool) → (a && b) && c ≡ a && (b && c)
+    go true b c = refl
+    go false b c = refl
+
+-- two lists, place by place
+pub pointwise_all : (n : ℕ) (a b : List ℕ) → length a ≡ n → length b ≡ n → pointwise eqb a b ≡ all_below n (λ i. eqb (get_or a i 0) (get_or b i 0))
+unfolding all_below
+pointwise_all zero [] [] h k = refl
+pointwise_all zero [] (y ∷ b) h k = absurd (omega arith)
+pointwise_all zero (x ∷ a) b h k = absurd (omega arith)
+pointwise_all (suc n) [] b h k = absurd (omega arith)
+pointwise_all (suc n) (x ∷ a) [] h k = absurd (omega arith)
+pointwise_all (suc n) (x ∷ a) (y ∷ b) h k =
+    ap (λ (r : Bool). eqb x y && r) (pointwise_all n a b (omega arith) (omega arith))
+    ∙ sym (all_front n (λ i. eqb (get_or (x ∷ a) i 0) (get_or (y ∷ b) i 0)))
+
+first_front : (n : ℕ) (p : ℕ → Bool) → first (suc n) p ≡ cond (p 0) 0 (suc (first n (λ i. p (suc i))))
+first_front n p =
+    let m = first_most n (λ i. p (suc i)) in
+    by-test (p 0)
+    (λ t. rw t (first_at (suc n) 0 p (omega arith) (λ j l. absurd (omega arith)) t))
+    (λ f.
+    rw f
+    (below-case (first n (λ i. p (suc i))) n (omega arith)
+    (λ l. first_at (suc n) (suc (first n (λ i. p (suc i)))) p (omega arith) (λ j i. before f j i) (first_sound n (λ i. p (suc i)) l))
+    (λ e. rw e (first_none (suc n) p (λ j i. before f j (omega (arith, e)))))))
+  where
+    before : p 0 ≡ false → (j : ℕ) → j < suc (first n (λ i. p (suc i))) → p j ≡ false
+    before f zero l = f
+    before f (suc j) l = first_before n (λ i. p (suc i)) j (omega arith)
+
+-- the place that a search in a list finds
+pub first_place : (p : ℕ → Bool) (xs : List ℕ) → position_or_len p xs ≡ first (length xs) (λ i. p (get_or xs i 0))
+unfolding first
+first_place p [] = refl
+first_place p (x ∷ xs) = go (p x) _ _ (first_place p xs) ∙ sym (first_front (length xs) (λ i. p (get_or (x ∷ xs) i 0)))
+  where
+    go : (b : Bool) (m k : ℕ) → m ≡ k → cond (not b) (1 + m) 0 ≡ cond b 0 (suc k)
+    go true m k e = refl
+    go false m k e = omega (arith, e)

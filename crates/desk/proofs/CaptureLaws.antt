@@ -17,8 +17,8 @@ use Rattle.finder.proofs.Step.{part_is}
 use Rattle.desk.specs.declared.capture.Fate.{Fate}
 use Rattle.desk.specs.declared.capture.Fate.TheVariants.{Opened, Collected, Dynamic, Refused}
 use Rattle.desk.specs.declared.capture.Counts.{Counts}
-use Rattle.desk.specs.declared.capture.CaptureAnswer.TheVariants.{Taken, NoDesk}
-use Rattle.desk.specs.declared.capture.Met.{Met}
+use Rattle.std.specs.Prelude.{Ok, Err}
+use Rattle.desk.specs.declared.capture.CaptureRefusal.TheVariants.{Desk}
 use Rattle.desk.specs.Memory.{Memory}
 use Rattle.desk.specs.Desk.{is_desk}
 use Rattle.desk.specs.Calls.{Outcome, opens, replies, Did}
@@ -29,7 +29,7 @@ use Rattle.desk.proofs.DeskLaws.{stays_desk}
 
 -- ---- one frame, by its lead byte
 
-module _ (m : Memory) (f : List ℕ) (r : Met) (m' : Memory) where
+module _ (m : Memory) (f : List ℕ) (r : Fate) (m' : Memory) where
   pub meets_request : get_or f 0 0 ≡ open_lead → MeetsBy Opened (opens m f) r m' → Meets (meets m f) r m'
   unfolding meets
   meets_request l w = rw (eq-eqb (get_or f 0 0) open_lead l) w
@@ -38,12 +38,12 @@ module _ (m : Memory) (f : List ℕ) (r : Met) (m' : Memory) where
   unfolding meets
   meets_reply n l w = rw (ne_eqb (get_or f 0 0) open_lead n, eq-eqb (get_or f 0 0) reply_lead l) w
 
-  pub meets_other : (get_or f 0 0 ≡ open_lead → ⊥) → (get_or f 0 0 ≡ reply_lead → ⊥) → r.fate ≡ dynamic_fate (read dynamic f) → m' ≡ m → Meets (meets m f) r m'
+  pub meets_other : (get_or f 0 0 ≡ open_lead → ⊥) → (get_or f 0 0 ≡ reply_lead → ⊥) → r ≡ dynamic_fate (read dynamic f) → m' ≡ m → Meets (meets m f) r m'
   unfolding meets
   meets_other n k e d = rw (ne_eqb (get_or f 0 0) open_lead n, ne_eqb (get_or f 0 0) reply_lead k) (record { fate = e; after = d })
 
   -- by what the call would have answered
-  pub met_by : (o : Outcome) (good : Fate) (told : Told ℕ) → r.fate ≡ fate_by good told → Did told m' o → MeetsBy good o r m'
+  pub met_by : (o : Outcome) (good : Fate) (told : Told ℕ) → r ≡ fate_by good told → Did told m' o → MeetsBy good o r m'
   met_by o good told e d = record { fate = e ∙ ap (fate_by good) d.answer; after = d.memory }
 
 -- what holds of each of the three steps holds of the one that the lead byte chooses
@@ -74,8 +74,13 @@ pub record Going (m₀ : Memory) (s : List ℕ) (at : ℕ) (m : Memory) (c : Cou
   pub refused : c.refused + how_many is_refused (fates m (pieces_from s at)) ≡ how_many is_refused (fates m₀ (pieces s))
   pub few : c.opened + c.collected + c.dynamic + c.refused ≤ at
 
-pub begins : (m : Memory) (s : List ℕ) → is_desk m ≡ true → Going m s 0 m (record { opened = 0; collected = 0; dynamic = 0; refused = 0 })
-begins m s d = record { desk = d; rest = refl; opened = omega arith; collected = omega arith; dynamic = omega arith; refused = omega arith; few = omega arith }
+pub begins : (m : Memory) (s : List ℕ) (c : Counts) → is_desk m ≡ true → c.opened ≡ 0 × (c.collected ≡ 0 × (c.dynamic ≡ 0 × c.refused ≡ 0)) → Going m s 0 m c
+begins m s c d z =
+    let o = z.0 in
+    let k = z.1.0 in
+    let y = z.1.1.0 in
+    let r = z.1.1.1 in
+    record { desk = d; rest = refl; opened = omega (arith, o); collected = omega (arith, k); dynamic = omega (arith, y); refused = omega (arith, r); few = omega (arith, o, k, y, r) }
 
 counts_four : (a b : Counts) → a.opened ≡ b.opened → a.collected ≡ b.collected → a.dynamic ≡ b.dynamic → a.refused ≡ b.refused → a ≡ b
 counts_four a b p q r s = λ i. record { opened = p i; collected = q i; dynamic = r i; refused = s i }
@@ -162,10 +167,10 @@ counts_add_up m s = four (fates m (pieces s)) ∙ fates_length m (pieces s) ∙ 
 
 -- ---- the call
 
-pub took_none : (m : Memory) (s : List ℕ) → is_desk m ≡ false → TookCapture m s NoDesk m
+pub took_none : (m : Memory) (s : List ℕ) → is_desk m ≡ false → TookCapture m s (Err Desk) m
 took_none m s d = record { told = rw d; memory = rw d }
 
-pub took_all : (m₀ : Memory) (s : List ℕ) (at : ℕ) (m : Memory) (c : Counts) → is_desk m₀ ≡ true → Going m₀ s at m c → pieces_from s at ≡ [] → TookCapture m₀ s (Taken c) m
+pub took_all : (m₀ : Memory) (s : List ℕ) (at : ℕ) (m : Memory) (c : Counts) → is_desk m₀ ≡ true → Going m₀ s at m c → pieces_from s at ≡ [] → TookCapture m₀ s (Ok c) m
 took_all m₀ s at m c d g none =
     record { told = rw d (ap gives (ends_counts m₀ s at m c g none)); memory = rw d (ends_memory m₀ s at m c g none) }
 
@@ -174,7 +179,7 @@ module _ (m₀ : Memory) (s : List ℕ) (at : ℕ) (m : Memory) (c : Counts) (g 
   pub goes_cut : pieces_from s at ≡ cut a (slice a e s) ∷ pieces_from s e → c' ≡ one_more c Refused → Going m₀ s e m c'
   goes_cut is q = rw q (goes m₀ s at m c g (cut a (slice a e s)) e is less)
 
-  pub goes_whole : pieces_from s at ≡ whole a (slice a e s) ∷ pieces_from s e → a < e → (r : Met) (m' : Memory) → Meets (meets m (take (e - a) (drop a s))) r m'
-      → c' ≡ one_more c r.fate → (next : ℕ) → next ≡ e → Going m₀ s next m' c'
+  pub goes_whole : pieces_from s at ≡ whole a (slice a e s) ∷ pieces_from s e → a < e → (r : Fate) (m' : Memory) → Meets (meets m (take (e - a) (drop a s))) r m'
+      → c' ≡ one_more c r → (next : ℕ) → next ≡ e → Going m₀ s next m' c'
   goes_whole is l r m' w q next k =
       rw (k, q, w.fate, w.after, ← part_is s a e l) (goes m₀ s at m c g (whole a (slice a e s)) e is less)

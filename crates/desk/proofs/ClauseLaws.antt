@@ -17,23 +17,25 @@ use Rattle.frames.specs.Reply.{reply, is_good, labelled, label_at}
 use Rattle.desk.specs.declared.state.Seat.{Seat}
 use Rattle.desk.specs.declared.key.Key.{Key}
 use Rattle.desk.specs.declared.step.Progress.{Progress}
-use Rattle.desk.specs.declared.step.Stepped.{Stepped}
-use Rattle.desk.specs.declared.step.Stepped.TheVariants.{Ended, OutOfPlace, Full, Taken}
-use Rattle.desk.specs.declared.clauses.Turn.{Turn}
+use Rattle.std.proofs.Common.{Option, Some, None, Result, Ok, Err, is_ok, is_some, IfSome}
+use Rattle.std.specs.Bool.{then_some}
+use Rattle.std.proofs.lemmas.Option.{cond_some, none-some}
+use Rattle.desk.specs.declared.step.StepRefusal.{StepRefusal}
+use Rattle.desk.specs.declared.step.StepRefusal.TheVariants.{Ended, OutOfPlace, Full}
 use Rattle.desk.specs.Limits.{seat_count, most_cells, cell_size}
 use Rattle.desk.specs.Below.{all_below}
 use Rattle.desk.specs.Key.{key_in, seat_key, is_key}
-use Rattle.desk.specs.Hearing.{heard, has_key}
+use Rattle.desk.specs.Hearing.{heard, has_key, status_in}
 use Rattle.desk.specs.Step.{advanced, step, none, replay, goes}
 use Rattle.desk.specs.Seats.{seat_at, used_bit, keyed}
 use Rattle.desk.specs.Tally.{Table, tally_right}
 use Rattle.desk.specs.Memory.{Memory, capacity_of, cell_at, mark_at, records_of}
 use Rattle.desk.specs.Desk.{is_zero, key_legal, unused_zero, mark_names, mark_good, all_seats, no_bit_above, keys_legal, no_key_shared, unused_all_zero, count_fits, tally_is_count, is_desk}
 use Rattle.desk.specs.Replay.{replayed, taken_at, row_good, agrees, replays}
-use Rattle.desk.specs.inside.Columns.{Sized, row_of, same_at}
+use Rattle.desk.specs.inside.Columns.{Sized, row_of, progress_at, same_at}
 use Rattle.desk.specs.inside.Clauses.{seat_good, seat_good_at, has_number, turn_of, row_taken, Tracks}
 use Rattle.desk.specs.inside.Counted.{is_clear, row_counted, row_passes, Whole, Leaves}
-use Rattle.desk.specs.inside.Judging.{step_told, is_taken}
+use Rattle.desk.specs.inside.Judging.{step_told}
 use Rattle.desk.proofs.Below.{never, false_or, past, out, and_false_r, eq-case, all_at, all_of, all_and, all_ext}
 use Rattle.desk.proofs.HearingLaws.{heard_reply, good_heard}
 use Rattle.desk.proofs.TallyLaws.{Listed, reply_listed, clear_is_right, right_counted}
@@ -95,25 +97,37 @@ if_no {a = a} {x = x} {r = r} {d = d} b e t q = q ∙ sym (ap (λ (z : Bool). co
 
 -- ---- a cell, read
 
-pub taken_goes : (p : Progress) (free : Bool) (status : ℕ) (r : Stepped) → step_told p status r ≡ step p free status → is_taken r ≡ goes (step p free status)
+pub taken_goes : (p : Progress) (free : Bool) (status : ℕ) (r : Result (Unit {0}) StepRefusal) → step_told p status r ≡ step p free status → is_ok r ≡ goes (step p free status)
 taken_goes p free status r e = by r ∙ ap goes e
   where
-    by : (r : Stepped) → is_taken r ≡ goes (step_told p status r)
-    by Ended = refl
-    by OutOfPlace = refl
-    by Full = refl
-    by Taken = refl
+    by : (r : Result (Unit {0}) StepRefusal) → is_ok r ≡ goes (step_told p status r)
+    by (Ok taken) = refl
+    by (Err Ended) = refl
+    by (Err OutOfPlace) = refl
+    by (Err Full) = refl
+
+pub some_if : {A : Type 0} (b : Bool) (x : A) → then_some b x ≡ cond b (Some x) None
+some_if true x = refl
+some_if false x = refl
+
+-- what was found is kept if a test passes
+pub kept_if : {A : Type 0} (P : A → Type 0) (b : Bool) (x : A) {o : Option A} → o ≡ then_some b x → P x → (is_some o ≡ b) × IfSome o P
+kept_if P b x e p = subst (λ o. (is_some o ≡ b) × IfSome o P) (sym e) (go b)
+  where
+    go : (b : Bool) → (is_some (then_some b x) ≡ b) × IfSome (then_some b x) P
+    go true = (refl, p)
+    go false = (refl, tt)
 
 -- a cell that is no reply is not good
-pub turn_refused : (p after : Progress) (key : ℕ) (f : List ℕ) → after ≡ advanced p 0 → is_good (read reply f) ≡ false → ◌≡◌ {A = Turn} (record { good = false; progress = after }) (turn_of p key (heard f))
+pub turn_refused : (p : Progress) (key : ℕ) (f : List ℕ) → is_good (read reply f) ≡ false → None ≡ turn_of p key (heard f)
 unfolding turn_of heard
-turn_refused p after key f a e = rw a (go (read reply f) e)
+turn_refused p key f e = go (read reply f) e
   where
-    go : (t : Told StaticReply) → is_good t ≡ false → ◌≡◌ {A = Turn} (record { good = false; progress = advanced p 0 }) (turn_of p key (labelled t))
+    go : (t : Told StaticReply) → is_good t ≡ false → None ≡ turn_of p key (labelled t)
     go (gives r) h = absurd (true≢false h)
     go (refuses why) h = refl
 
-pub turn_taken : (p : Progress) (key : ℕ) (f : List ℕ) {t : Turn} → is_good (read reply f) ≡ true → t ≡ turn_of p key (gives (label_at f)) → t ≡ turn_of p key (heard f)
+pub turn_taken : (p : Progress) (key : ℕ) (f : List ℕ) {t : Option Progress} → is_good (read reply f) ≡ true → t ≡ turn_of p key (gives (label_at f)) → t ≡ turn_of p key (heard f)
 turn_taken p key f g e = e ∙ ap (turn_of p key) (sym (good_heard f g))
 
 -- ---- the loop over the rows
@@ -127,6 +141,11 @@ pub part_cell : (cells : List ℕ) (i : ℕ) → take (i * cell_size + cell_size
 part_cell cells i =
     let e : i * cell_size + cell_size - i * cell_size ≡ cell_size = omega arith in
     ap (λ (n : ℕ). take n (drop (i * cell_size) cells)) e
+
+-- the turn of row i, by what the code passes on: the progress at its seat, the key at its seat, and its cell
+pub row_turn : (keys cells marks held ended : List ℕ) (i : ℕ) {t : Option Progress} {p : Progress} {own f : List ℕ} → t ≡ turn_of p (get_or own (mark_at marks i) 0) (heard f)
+    → p ≡ progress_at held ended (mark_at marks i) → own ≡ keys → f ≡ cell_at cells i → t ≡ turn_of (progress_at held ended (mark_at marks i)) (get_or keys (mark_at marks i) 0) (heard (cell_at cells i))
+row_turn keys cells marks held ended i t p k f = t ∙ (λ j. turn_of (p j) (get_or (k j) (mark_at marks i) 0) (heard (f j)))
 
 -- byte k of cell i, by the bytes of all cells
 pub cell_byte : (cells : List ℕ) (i k : ℕ) → k < cell_size → get_or cells (i * cell_size + k) 0 ≡ get_or (cell_at cells i) k 0
@@ -146,34 +165,50 @@ pub tracks_start : (cells marks held ended : List ℕ) → held ≡ replicate se
 tracks_start cells marks held ended h e = subst (λ (x : List ℕ). Tracks cells marks 0 x ended) (sym h) (subst (λ (x : List ℕ). Tracks cells marks 0 (replicate seat_count 0) x) (sym e) (tracks_none cells marks))
 
 module _ (keys cells marks : List ℕ) (i : ℕ) (held ended : List ℕ) (k : Tracks cells marks i held ended) (l : mark_at marks i < seat_count)
-    (t : Turn) (e : t ≡ turn_of (record { held = get_or held (mark_at marks i) 0; ended = get_or ended (mark_at marks i) 0 }) (get_or keys (mark_at marks i) 0) (heard (cell_at cells i))) where
-  turn_is : t ≡ turn_of (replayed cells marks (mark_at marks i) i) (get_or keys (mark_at marks i) 0) (heard (cell_at cells i))
-  turn_is = e ∙ ap (λ (p : Progress). turn_of p (get_or keys (mark_at marks i) 0) (heard (cell_at cells i))) (k.each (mark_at marks i) l)
+    (t : Option Progress) (e : t ≡ turn_of (record { held = get_or held (mark_at marks i) 0; ended = get_or ended (mark_at marks i) 0 }) (get_or keys (mark_at marks i) 0) (heard (cell_at cells i))) where
+  abbrev so_far : Progress
+  so_far = replayed cells marks (mark_at marks i) i
 
-  pub turn_good : t.good ≡ has_number (get_or keys (mark_at marks i) 0) (heard (cell_at cells i)) && taken_at cells marks i
+  abbrev got : Told ReplyLabel
+  got = heard (cell_at cells i)
+
+  turn_is : t ≡ cond (has_number (get_or keys (mark_at marks i) 0) got && taken_at cells marks i) (Some (advanced so_far (status_in got))) None
   unfolding turn_of
-  turn_good = ap (λ (x : Turn). x.good) turn_is
+  turn_is = e ∙ ap (λ (p : Progress). turn_of p (get_or keys (mark_at marks i) 0) got) (k.each (mark_at marks i) l)
 
-  next : (s : ℕ) → s < seat_count → ◌≡◌ {A = Progress} (record { held = get_or (set held (mark_at marks i) t.progress.held) s 0; ended = get_or (set ended (mark_at marks i) t.progress.ended) s 0 }) (replayed cells marks s (i + 1))
-  unfolding turn_of
-  next s h =
-      let y = k.held_size in
-      let z = k.ended_size in
-      eq-case s (mark_at marks i)
-      (λ q.
-      rw (replayed_next cells marks s i, eq-eqb (mark_at marks i) s (sym q), q, get_or-set_same held (mark_at marks i) t.progress.held 0 (omega arith), get_or-set_same ended (mark_at marks i) t.progress.ended 0 (omega arith))
-      (ap (λ (x : Turn). x.progress) turn_is))
-      (λ n.
-      rw (replayed_next cells marks s i, ne_eqb (mark_at marks i) s (λ q. n (sym q)), get_or-set_other held (mark_at marks i) s t.progress.held 0 n, get_or-set_other ended (mark_at marks i) s t.progress.ended 0 n)
-      (k.each s h))
+  pub turn_bad : t ≡ None → has_number (get_or keys (mark_at marks i) 0) got && taken_at cells marks i ≡ false
+  turn_bad n = go (has_number (get_or keys (mark_at marks i) 0) got && taken_at cells marks i) (advanced so_far (status_in got)) (sym n ∙ turn_is)
+    where
+      go : (b : Bool) (p : Progress) → None ≡ cond b (Some p) None → b ≡ false
+      go true p h = absurd (none-some p h)
+      go false p h = refl
 
-  pub tracks_next : Tracks cells marks (i + 1) (set held (mark_at marks i) t.progress.held) (set ended (mark_at marks i) t.progress.ended)
-  tracks_next =
-      record {
-        held_size = length-set held (mark_at marks i) t.progress.held ∙ k.held_size;
-        ended_size = length-set ended (mark_at marks i) t.progress.ended ∙ k.ended_size;
-        each = next;
-      }
+  module _ (q : Progress) (s : t ≡ Some q) where
+    pub turn_good : has_number (get_or keys (mark_at marks i) 0) got && taken_at cells marks i ≡ true
+    turn_good = (cond_some _ _ _ (sym turn_is ∙ s)).0
+
+    goes_on : advanced so_far (status_in got) ≡ q
+    goes_on = (cond_some _ _ _ (sym turn_is ∙ s)).1
+
+    next : (s : ℕ) → s < seat_count → ◌≡◌ {A = Progress} (record { held = get_or (set held (mark_at marks i) q.held) s 0; ended = get_or (set ended (mark_at marks i) q.ended) s 0 }) (replayed cells marks s (i + 1))
+    next s h =
+        let y = k.held_size in
+        let z = k.ended_size in
+        eq-case s (mark_at marks i)
+        (λ q'.
+        rw (replayed_next cells marks s i, eq-eqb (mark_at marks i) s (sym q'), q', get_or-set_same held (mark_at marks i) q.held 0 (omega arith), get_or-set_same ended (mark_at marks i) q.ended 0 (omega arith))
+        (sym goes_on))
+        (λ n.
+        rw (replayed_next cells marks s i, ne_eqb (mark_at marks i) s (λ q'. n (sym q')), get_or-set_other held (mark_at marks i) s q.held 0 n, get_or-set_other ended (mark_at marks i) s q.ended 0 n)
+        (k.each s h))
+
+    pub tracks_next : Tracks cells marks (i + 1) (set held (mark_at marks i) q.held) (set ended (mark_at marks i) q.ended)
+    tracks_next =
+        record {
+          held_size = length-set held (mark_at marks i) q.held ∙ k.held_size;
+          ended_size = length-set ended (mark_at marks i) q.ended ∙ k.ended_size;
+          each = next;
+        }
 
 -- letter and status of a row that is taken are two of the lists
 number_heard : (key : ℕ) (t : Told ReplyLabel) → has_number key t ≡ true → (l : ReplyLabel) × (t ≡ gives l)
@@ -247,10 +282,10 @@ module _ (keys held ended : List ℕ) (f : Sized keys held ended) (bits : ℕ) (
     columns_agree = sym (all_and seat_count (same_at held reached) (same_at ended over)) ∙ all_ext seat_count _ _ agree_at
 
     -- the columns are what the rows bring the seats to, and nothing is left of the tally: then clauses 7 to 12 hold
-    pub rows_pass : (t left : Table) → Whole t → Leaves t cells n left → {a b z : Bool} → a ≡ all_below seat_count (same_at held reached) → b ≡ all_below seat_count (same_at ended over) → z ≡ is_clear left
-        → a && b && z ≡ replays (row_of keys held ended) bits n cells marks && tally_right cells n t
+    pub rows_pass : (t left : Table) → Whole t → Leaves t cells n left → {a z : Bool} → a ≡ all_below seat_count (same_at held reached) && all_below seat_count (same_at ended over) → z ≡ is_clear left
+        → a && z ≡ replays (row_of keys held ended) bits n cells marks && tally_right cells n t
     unfolding replays
-    rows_pass t left w v {a} {b} {z} p q r = rw all (ap₂ (λ (x y : Bool). x && y) (ap₂ (λ (x y : Bool). x && y) p q ∙ columns_agree) (r ∙ clear_is_right t cells n left w v))
+    rows_pass t left w v {a} {z} p r = rw all (ap₂ (λ (x y : Bool). x && y) (p ∙ columns_agree) (r ∙ clear_is_right t cells n left w v))
 
   -- a row that fails: then clauses 7 to 12 do not all hold
   pub rows_fail : (n : ℕ) (t : Table) → all_below n (row_passes keys t cells marks) ≡ false → replays (row_of keys held ended) bits n cells marks && tally_right cells n t ≡ false

@@ -1,14 +1,16 @@
 -- The columns show a row: its seats, its keys, and which seat has a key. Assumes nothing.
 use Prim.Native.Nat.{ℕ, zero, suc, ◌+◌, ◌*◌, ◌/◌, ◌%◌, ◌≤◌, ◌<◌}
 use mathlib.Core.List.{List, [], ◌∷◌}
-use mathlib.Core.Bool.{true, false, not, ◌&&◌, ◌||◌}
+use mathlib.Core.Bool.{Bool, true, false, cond, not, ◌&&◌, ◌||◌}
 use mathlib.Core.Path.{◌≡◌, refl, sym, ap, ap₂, ◌∙◌}
 use native.Mathlib.Omega.{arith}
-use lib.Dec.{eqb, leb}
+use lib.Dec.{eqb, leb, ltb}
 use lib.ListN.{length, get_or, set, length-set}
 use lib.Seq.{set-get_or, get_or-set_same, get_or-set_other, ext_get_or}
 use borrow.Author.Tests.{eqb-true, eq-eqb, ne_eqb, leb-true}
 use Rattle.digits.proofs.Tests.{by-test, by_less, and_true, and_l, and_r}
+use Rattle.std.proofs.Common.{Option, Some, None, is_some}
+use Rattle.std.proofs.lemmas.Option.{cond_some, none-some}
 use Rattle.digits.specs.Told.{gives}
 use Rattle.frames.specs.declared.reply.ReplyLabel.{ReplyLabel}
 use Rattle.frames.specs.Rules.{between, is_address, is_requester}
@@ -21,7 +23,7 @@ use Rattle.desk.specs.Key.{key_in, seat_key, same_key, is_key}
 use Rattle.desk.specs.Hearing.{heard}
 use Rattle.desk.specs.Seats.{zero_seat, seat_at, used_bit, keyed, keyed_at, seat_with}
 use Rattle.desk.specs.Desk.{is_zero, apart_at, apart_below}
-use Rattle.desk.specs.inside.Columns.{Short, key_number, seat_of, row_of, Sized, key_is, alone}
+use Rattle.desk.specs.inside.Columns.{Short, key_number, seat_of, row_of, Sized, found_seat, key_is, alone}
 use Rattle.desk.specs.inside.Clauses.{seat_good, seat_good_at}
 use Rattle.desk.proofs.Below.{never, false_or, eq-case, all_at, all_of, all_fails, count_one, count_pair, first_ext}
 use Rattle.desk.proofs.KeyLaws.{same_key_case, own_key}
@@ -283,8 +285,29 @@ module _ (keys held ended : List ℕ) (f : Sized keys held ended) (bits : ℕ) (
 
 -- ---- the first seat with a key, as it is looked for
 
-pub found_by : {r n : ℕ} (keys : List ℕ) (k : Key) → r ≡ first seat_count (key_is keys n) → n ≡ key_number k → r ≡ first seat_count (key_is keys (key_number k))
-found_by keys k e q = e ∙ ap (λ (n : ℕ). first seat_count (key_is keys n)) q
+module _ (keys : List ℕ) (k : Key) {r : Option ℕ} {n : ℕ} (e : r ≡ found_seat (first seat_count (key_is keys n))) (q : n ≡ key_number k) where
+  abbrev place : ℕ
+  place = first seat_count (key_is keys (key_number k))
+
+  looked_for : r ≡ found_seat place
+  looked_for = e ∙ ap (λ (n : ℕ). found_seat (first seat_count (key_is keys n))) q
+
+  pub found_some : (s : ℕ) → r ≡ Some s → (place ≡ s) × (ltb place seat_count ≡ true)
+  found_some s h = let f = cond_some _ _ _ (sym looked_for ∙ h) in (f.1, f.0)
+
+  pub found_none : r ≡ None → ltb place seat_count ≡ false
+  found_none h = go (ltb place seat_count) (sym looked_for ∙ h)
+    where
+      go : (b : Bool) → cond b (Some place) None ≡ None → b ≡ false
+      go true h = absurd (none-some place (sym h))
+      go false h = refl
+
+  pub found_tested : is_some r ≡ ltb place seat_count
+  found_tested = ap is_some looked_for ∙ go (ltb place seat_count)
+    where
+      go : (b : Bool) → is_some (cond b (Some place) None) ≡ b
+      go true = refl
+      go false = refl
 
 -- ---- the key of a reply
 

@@ -6,7 +6,7 @@ use mathlib.Core.Path.{◌≡◌, refl}
 use native.Mathlib.Omega.{arith}
 use lib.Dec.{eqb, leb}
 use borrow.Author.Tests.{le-leb, lt-leb, lt-ltb, le-ltb, eq-eqb, ne_eqb}
-use Rattle.desk.specs.declared.held.Held.TheVariants.{Cell, Nothing}
+use Rattle.std.proofs.Common.{Some, None}
 use Rattle.desk.specs.Below.{first}
 use Rattle.desk.specs.Memory.{mark_at}
 use Rattle.desk.specs.Calls.{held_from, held_answer}
@@ -26,12 +26,12 @@ module _ (marks : List ℕ) (seat from : ℕ) where
       other false = refl
 
   module _ (most limit : ℕ) (e : limit ≡ most) (i : ℕ) where
-    pub found_cell : i < limit → from ≤ i → first i (held_from marks seat from) ≡ i → mark_at marks i ≡ seat → Cell i ≡ held_answer most (first most (held_from marks seat from))
+    pub found_cell : i < limit → from ≤ i → first i (held_from marks seat from) ≡ i → mark_at marks i ≡ seat → Some i ≡ held_answer most (first most (held_from marks seat from))
     found_cell l g h q =
         let k : i < most = rw e at l in
         rw (first_hit most i (held_from marks seat from) k h (and_true (le-leb from i g) (eq-eqb _ _ q)), lt-ltb i most k)
 
-    pub none_found : limit ≤ i → first i (held_from marks seat from) ≡ i → Nothing ≡ held_answer most (first most (held_from marks seat from))
+    pub none_found : limit ≤ i → first i (held_from marks seat from) ≡ i → None ≡ held_answer most (first most (held_from marks seat from))
     none_found l h =
         let k : most ≤ i = rw e at l in
         rw (first_past most i (held_from marks seat from) k h, le-ltb most most (omega arith))

@@ -26,7 +26,9 @@ use Rattle.desk.specs.Seats.{seat_at, used_bit, seat_with}
 use Rattle.desk.specs.Memory.{Memory, memory, capacity}
 use Rattle.desk.specs.Desk.{is_desk}
 use Rattle.desk.specs.Calls.{what_is_given, new_seat, grown, key_tried, request_tried, open_tried, seat_tried, label_tried, reply_tried}
+use Rattle.desk.specs.declared.columns.Columns.{Columns}
 use Rattle.desk.specs.inside.Columns.{Sized, key_number, row_of}
+use Rattle.desk.specs.inside.Shown.{shown}
 use Rattle.desk.specs.inside.Clauses.{seat_good, seat_good_at}
 use Rattle.desk.specs.inside.Judging.{number_tried, column_asked, step_tried, column_tried}
 use Rattle.desk.proofs.Below.{all_of}
@@ -93,16 +95,16 @@ module _ (d : Desk) (keys held ended cells marks : List ℕ) (tally : List (List
 
 -- ---- the same for a row that the columns show
 
-pub open_row : (d : Desk) (row : List Seat) (keys held ended cells marks : List ℕ) (tally : List (List ℕ)) → Sized keys held ended → row_of keys held ended ≡ row → is_desk (memory d row cells marks tally) ≡ true
-    → (f : List ℕ) → what_is_given (read request f) (column_asked keys d.bits) ≡ open_tried (memory d row cells marks tally) f
-open_row d row keys held ended cells marks tally z e is f =
-    open_by_columns d keys held ended cells marks tally z (ap (λ (r : List Seat). is_desk (memory d r cells marks tally)) e ∙ is) f
+pub open_row : (d : Desk) (row : List Seat) (c : Columns) (cells marks : List ℕ) (tally : List (List ℕ)) → shown c ≡ row → is_desk (memory d row cells marks tally) ≡ true
+    → (f : List ℕ) → what_is_given (read request f) (column_asked c.keys d.bits) ≡ open_tried (memory d row cells marks tally) f
+open_row d row c cells marks tally e is f =
+    open_by_columns d c.keys c.held c.ended cells marks tally c.sized (ap (λ (r : List Seat). is_desk (memory d r cells marks tally)) e ∙ is) f
     ∙ ap (λ (r : List Seat). open_tried (memory d r cells marks tally) f) e
 
-pub reply_row : (d : Desk) (row : List Seat) (keys held ended cells marks : List ℕ) (tally : List (List ℕ)) → Sized keys held ended → row_of keys held ended ≡ row → is_desk (memory d row cells marks tally) ≡ true
-    → (f : List ℕ) → what_is_given (heard f) (column_tried keys held ended (ltb d.count (capacity (memory d row cells marks tally)))) ≡ reply_tried (memory d row cells marks tally) f
-reply_row d row keys held ended cells marks tally z e is f =
-    reply_by_columns d keys held ended cells marks tally z (ap (λ (r : List Seat). is_desk (memory d r cells marks tally)) e ∙ is) f
+pub reply_row : (d : Desk) (row : List Seat) (c : Columns) (cells marks : List ℕ) (tally : List (List ℕ)) → shown c ≡ row → is_desk (memory d row cells marks tally) ≡ true
+    → (f : List ℕ) → what_is_given (heard f) (column_tried c.keys c.held c.ended (ltb d.count (capacity (memory d row cells marks tally)))) ≡ reply_tried (memory d row cells marks tally) f
+reply_row d row c cells marks tally e is f =
+    reply_by_columns d c.keys c.held c.ended cells marks tally c.sized (ap (λ (r : List Seat). is_desk (memory d r cells marks tally)) e ∙ is) f
     ∙ ap (λ (r : List Seat). reply_tried (memory d r cells marks tally) f) e
 
 -- ---- a frame whose pointer and length were taken apart is the same frame

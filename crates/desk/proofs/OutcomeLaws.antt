@@ -1,11 +1,11 @@
 -- How the steps of a call make up its outcome. Assumes nothing.
-use Prim.Native.Nat.{ℕ, ◌<◌, ◌≤◌}
+use Prim.Native.Nat.{ℕ, ◌<◌}
 use mathlib.Core.List.{List}
-use mathlib.Core.Bool.{Bool, true, false}
+use mathlib.Core.Bool.{true, false}
 use mathlib.Core.Path.{◌≡◌, refl, sym, ap, subst, ◌∙◌}
-use native.Mathlib.Omega.{arith}
-use lib.ListN.{length, set, get_or-eq_default}
-use lib.Seq.{set_out, get_or-set_same}
+use Rattle.std.specs.Prelude.{Some, None, Result, Ok, Err, IsErrAnd}
+use lib.ListN.{length, set}
+use lib.Seq.{get_or-set_same}
 use lib.Dec.{ltb}
 use Rattle.digits.specs.declared.refusal.Refusal.{Refusal}
 use Rattle.digits.specs.Refusals.{DESK}
@@ -13,23 +13,14 @@ use Rattle.digits.specs.Told.{Told, gives, refuses}
 use Rattle.frames.specs.Kind.{read}
 use Rattle.frames.specs.Request.{request}
 use Rattle.desk.specs.declared.state.Seat.{Seat}
-use Rattle.desk.specs.declared.state.Desk.{Desk}
-use Rattle.desk.specs.declared.step.Progress.{Progress}
-use Rattle.desk.specs.declared.step.Stepped.{Stepped}
 use Rattle.desk.specs.declared.opening.Opening.{Opening}
-use Rattle.desk.specs.declared.opening.OpenRefusal.{OpenRefusal}
-use Rattle.desk.specs.declared.opening.OpenStep.{OpenStep}
 use Rattle.desk.specs.declared.reply.Taking.{Taking}
-use Rattle.desk.specs.declared.reply.ReplyRefusal.{ReplyRefusal}
-use Rattle.desk.specs.declared.reply.ReplyStep.{ReplyStep}
 use Rattle.desk.specs.Hearing.{heard}
-use Rattle.desk.specs.Step.{step}
 use Rattle.desk.specs.Limits.{seat_count}
 use Rattle.desk.specs.Seats.{zero_seat, seat_at}
 use Rattle.desk.specs.Memory.{Memory, capacity}
 use Rattle.desk.specs.Desk.{is_desk}
-use Rattle.desk.specs.Calls.{Outcome, what_is_given, request_tried, open_tried, label_tried, reply_tried, opens, opened, replies, taken, place_in, open_refused, reply_refused, Did, Changed, OpenStepDid, ReplyStepDid}
-use Rattle.desk.specs.inside.Judging.{not_opened, not_taken, step_told, step_tried}
+use Rattle.desk.specs.Calls.{Outcome, what_is_given, request_tried, open_tried, label_tried, reply_tried, opens, opened, replies, taken, result_told, change_in, Did, Changed}
 
 -- ---- further tests of an answer that is known
 
@@ -37,13 +28,12 @@ module _ {A B : Type 0} where
   pub given_on : (further : A → Told B) {t u : Told A} → t ≡ u → what_is_given t further ≡ what_is_given u further
   given_on further e = ap (λ (y : Told A). what_is_given y further) e
 
--- ---- the step of the code is the step of the request
+-- ---- a refusal that `?` hands on
 
-pub step_judged : (p : Progress) (free : Bool) (t : Taking) {r is : Stepped} → step_told p t.status r ≡ step p free t.status → r ≡ is → what_is_given (step_told p t.status is) (λ p. gives t) ≡ step_tried p free t
-unfolding step_tried
-step_judged p free t {r} {is} h q =
-    ap (λ (x : Stepped). what_is_given (step_told p t.status x) (λ p. gives t)) (sym q)
-    ∙ ap (λ (x : Told Progress). what_is_given x (λ p. gives t)) h
+module _ {A R : Type 0} where
+  pub handed_on : (refused : R → Refusal) (P : R → Type 0) (why : Refusal) → ((g : R) → P g → refused g ≡ why) → (r : Result A R) → IsErrAnd r P → result_told refused r ≡ refuses why
+  handed_on refused P why e (Ok a) is = absurd is
+  handed_on refused P why e (Err g) is = ap (λ (f : Refusal). refuses f) (e g is)
 
 -- ---- DESK is tested first
 
@@ -88,33 +78,14 @@ module _ (m : Memory) (f : List ℕ) where
 
 -- ---- the seat that a step returns, and its place
 
--- m with one seat set
-abbrev put : Memory → ℕ → Seat → Memory
-put m i s = record { row = set m.row i s; bits = m.bits; count = m.count; cells = m.cells; marks = m.marks; tally = m.tally }
-
 module _ (m after : Memory) (o : Outcome) (full : length m.row ≡ seat_count) where
   -- a step that changed a seat
-  pub one_changed : (i : ℕ) (s : Seat) → i < seat_count → after.row ≡ set m.row i s → Did (gives i) after o → Changed o i s
+  pub one_changed : (i : ℕ) (s : Seat) → i < seat_count → after.row ≡ set m.row i s → Did (gives i) after o → Changed o (Some (record { at = i; seat = s }))
   one_changed i s l e d =
       let r : set m.row i s ≡ o.after.row = sym e ∙ (λ j. (d.memory j).row) in
-      record { place = ap place_in d.answer; is = sym (get_or-set_same m.row i s zero_seat (subst (λ (n : ℕ). i < n) (sym full) l)) ∙ ap (λ (x : List Seat). seat_at x i) r }
+      let q : s ≡ seat_at o.after.row i = sym (get_or-set_same m.row i s zero_seat (subst (λ (n : ℕ). i < n) (sym full) l)) ∙ ap (λ (x : List Seat). seat_at x i) r in
+      record { is = (λ j. Some (record { at = i; seat = q j })) ∙ ap (λ (t : Told ℕ). change_in t o.after.row) d.answer }
 
-module _ (m : Memory) (o : Outcome) (why : Refusal) (full : length m.row ≡ seat_count) (d : Did (refuses why) m o) where
-  -- a step that changed none
-  pub none_changed : Changed o seat_count zero_seat × Did (refuses why) (put m seat_count zero_seat) o
-  none_changed =
-      let past : length m.row ≤ seat_count = omega (arith, full) in (
-        record { place = ap place_in d.answer; is = sym (get_or-eq_default m.row zero_seat past) ∙ ap (λ (x : List Seat). seat_at x seat_count) (λ j. (d.memory j).row) },
-        record { answer = d.answer; memory = (λ j. record { row = set_out m.row seat_count zero_seat past j; bits = m.bits; count = m.count; cells = m.cells; marks = m.marks; tally = m.tally }) ∙ d.memory },
-      )
-
--- ---- a step that is refused
-
-module _ (m : Memory) (f : List ℕ) (full : length m.row ≡ seat_count) (d : Desk) (q : d ≡ record { bits = m.bits; count = m.count }) where
-  pub step_not_opened : (r : OpenStep) (why : OpenRefusal) → r ≡ not_opened d why → refuses (open_refused why) ≡ open_tried m f → OpenStepDid m f r
-  step_not_opened r why is e =
-      subst (λ (x : OpenStep). OpenStepDid m f x) (sym (is ∙ ap (λ (y : Desk). not_opened y why) q)) (none_changed m (opens m f) (open_refused why) full (not_opened_law m f (open_refused why) e))
-
-  pub step_not_taken : (r : ReplyStep) (why : ReplyRefusal) → r ≡ not_taken d why → refuses (reply_refused why) ≡ reply_tried m f → ReplyStepDid m f r m.cells m.marks m.tally
-  step_not_taken r why is e =
-      subst (λ (x : ReplyStep). ReplyStepDid m f x m.cells m.marks m.tally) (sym (is ∙ ap (λ (y : Desk). not_taken y why) q)) (none_changed m (replies m f) (reply_refused why) full (not_taken_law m f (reply_refused why) e))
+-- a step that changed none
+pub none_changed : (m : Memory) (o : Outcome) (why : Refusal) → Did (refuses why) m o → Changed o None
+none_changed m o why d = record { is = ap (λ (t : Told ℕ). change_in t o.after.row) d.answer }

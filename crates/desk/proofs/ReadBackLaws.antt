@@ -7,8 +7,7 @@ use native.Mathlib.Omega.{arith}
 use lib.Dec.{eqb, leb}
 use borrow.Author.Tests.{eqb-true, eqb-false, ne_eqb, leb-true, leb-false, le-leb, lt-leb}
 use Rattle.digits.proofs.Tests.{by-test}
-use Rattle.desk.specs.declared.held.Held.{Held}
-use Rattle.desk.specs.declared.held.Held.TheVariants.{Cell, Nothing}
+use Rattle.std.proofs.Common.{Option, Some, None}
 use Rattle.desk.specs.Memory.{Memory, cell_at, mark_at, records_of}
 use Rattle.desk.specs.Calls.{held_cells, held_from, held_answer, next_held}
 use Rattle.desk.specs.ReadBack.{ReadBack, over, tells, ReadsBack}
@@ -40,17 +39,17 @@ module _ (m : Memory) (s : ℕ) where
   abbrev limit : ℕ
   limit = held_cells m.count m.cells m.marks
 
-  abbrev next : ℕ → Held
+  abbrev next : ℕ → Option ℕ
   next from = next_held m.count m.cells m.marks s from
 
   abbrev search : ℕ → ℕ → Bool
   search from = held_from m.marks s from
 
-  none_left : (i : ℕ) → i ≡ limit → next i ≡ Nothing
+  none_left : (i : ℕ) → i ≡ limit → next i ≡ None
   unfolding next_held
   none_left i e = sym (none_found m.marks s i limit limit refl i (omega (arith, e)) (from_none m.marks s i))
 
-  here : (i g : ℕ) → i + suc g ≡ limit → mark_at m.marks i ≡ s → next i ≡ Cell i
+  here : (i g : ℕ) → i + suc g ≡ limit → mark_at m.marks i ≡ s → next i ≡ Some i
   unfolding next_held
   here i g e h = sym (found_cell m.marks s i limit limit refl i (omega (arith, e)) (omega arith) (from_none m.marks s i) h)
 

@@ -9,10 +9,11 @@ use lib.ListN.{length, get_or, set, replicate, length-set, length-replicate, get
 use lib.Seq.{get_or-set_same, get_or-set_other, ext_get_or}
 use lib.Bits.{bit_or, or_zero_l, or_add_and, and_le_r}
 use borrow.Author.Tests.{eqb-true, eq-eqb, ne_eqb, lt-ltb, le-ltb}
+use Rattle.std.proofs.Common.{Some, None}
+use Rattle.std.proofs.lemmas.Option.{cond_some, none-some}
 use Rattle.digits.specs.Told.{gives, refuses}
 use Rattle.digits.specs.Refusals.{NO_SUCH}
 use Rattle.digits.proofs.Tests.{by-test, by_less, and_true, and_l, and_r}
-use Rattle.digits.proofs.Tables.{place_listed}
 use Rattle.frames.specs.Kind.{read}
 use Rattle.frames.specs.Reply.{reply, letters, is_letter, letter_place}
 use Rattle.frames.specs.Status.{statuses, is_status, status_place}
@@ -22,8 +23,12 @@ use Rattle.frames.proofs.LetterLaws.{letter_below, letter_is, letter_at_law, sta
 use Rattle.desk.specs.Below.{all_below, count_below}
 use Rattle.desk.specs.Memory.{cell_at}
 use Rattle.desk.specs.Tally.{letter_count, status_count, Table, entry_at, entry_of, empty_tally, counted, letter_at, status_at, is_of, held_of, entry_right, row_right, tally_right, counted_in, looks}
-use Rattle.desk.specs.inside.Counted.{uncounted, zero_at, row_clear, is_clear, row_counted, Whole, Leaves}
-use Rattle.desk.proofs.Below.{and_false_r, below-case, eq-case, all_at, all_of, all_next, count_ext, count_most}
+use Rattle.desk.specs.inside.Counted.{entry_found, uncounted, zero_at, row_clear, is_clear, row_counted, Whole, Leaves}
+use Rattle.desk.proofs.Below.{below-case, eq-case, all_at, all_of, all_next, count_ext, count_most}
+
+pub none_if : {A : Type 0} (b : Bool) (x : A) → cond b (Some x) None ≡ None → b ≡ false
+none_if true x h = absurd (none-some x (sym h))
+none_if false x h = refl
 
 -- ---- entries
 
@@ -66,16 +71,11 @@ or_none_law a b =
     (λ p. rw (p, or_zero_l b))
     (λ p. ne_eqb (bit_or a b) 0 (λ q. let s = or_add_and a b in let l = and_le_r a b in p (omega (arith, q, s, l))) ∙ sym (ap (λ (x : Bool). x && eqb b 0) (ne_eqb a 0 p)))
 
-pub row_or : (t : Table) (i any : ℕ) → eqb any 0 ≡ all_below i (row_clear t) → eqb (bit_or (bit_or (bit_or any (entry_at t i 0)) (entry_at t i 1)) (entry_at t i 2)) 0 ≡ all_below (i + 1) (row_clear t)
+pub row_or : (t : Table) (i any : ℕ) → eqb any 0 ≡ all_below i (row_clear t) → eqb (bit_or any (bit_or (bit_or (entry_at t i 0) (entry_at t i 1)) (entry_at t i 2))) 0 ≡ all_below (i + 1) (row_clear t)
 row_or t i any e =
-    or_none_law (bit_or (bit_or any (entry_at t i 0)) (entry_at t i 1)) (entry_at t i 2)
-    ∙ ap (λ (x : Bool). x && zero_at t i 2) (or_none_law (bit_or any (entry_at t i 0)) (entry_at t i 1) ∙ ap (λ (x : Bool). x && zero_at t i 1) (or_none_law any (entry_at t i 0) ∙ ap (λ (x : Bool). x && zero_at t i 0) e))
-    ∙ joined (all_below i (row_clear t)) (zero_at t i 0) (zero_at t i 1) (zero_at t i 2)
+    or_none_law any (bit_or (bit_or (entry_at t i 0) (entry_at t i 1)) (entry_at t i 2))
+    ∙ ap₂ (λ (x y : Bool). x && y) e (or_none_law (bit_or (entry_at t i 0) (entry_at t i 1)) (entry_at t i 2) ∙ ap (λ (x : Bool). x && zero_at t i 2) (or_none_law (entry_at t i 0) (entry_at t i 1)))
     ∙ sym (all_next i (row_clear t))
-  where
-    joined : (x a b c : Bool) → x && a && b && c ≡ x && (a && b && c)
-    joined true a b c = refl
-    joined false a b c = refl
 
 -- ---- a reply and its entry
 
@@ -280,28 +280,40 @@ right_counted t cells n i h l g =
 
 -- ---- a look
 
-module _ (t : Table) (letter status i j : ℕ) (p : i ≡ letter_place letter) (q : j ≡ status_place status) where
-  tests : ltb i letter_count && ltb j status_count ≡ is_letter letter && is_status status
-  unfolding is_letter letter_place is_status status_place
-  tests = rw (p, q) (ap₂ (λ (x y : Bool). x && y) (place_listed letters letter) (place_listed statuses status))
-
-  -- one more is counted, if there is a place for it and the number is not the largest
-  pub counts : ltb i letter_count && ltb j status_count ≡ true → entry_at t i j < 4294967295 → set t i (set (get_or t i []) j (entry_at t i j + 1)) ≡ counted_in t letter status
-  unfolding counted_in
-  counts h l = let r = lt-ltb (entry_at t i j) 4294967295 l in rw (p, q) (rw (sym (tests) ∙ h, rw (p, q) at r))
-
-  pub counts_no_more : 4294967295 ≤ entry_at t i j → t ≡ counted_in t letter status
-  unfolding counted_in
-  counts_no_more l = let r = le-ltb (entry_at t i j) 4294967295 l in rw (rw (p, q) at r, and_false_r (is_letter letter && is_status status) refl)
-
-  pub counts_nothing : ltb i letter_count && ltb j status_count ≡ false → t ≡ counted_in t letter status
-  unfolding counted_in
-  counts_nothing h = rw (sym tests ∙ h)
-
-  pub looked : ltb i letter_count && ltb j status_count ≡ true → gives (entry_at t i j) ≡ looks t letter status
+module _ (t : Table) (letter status : ℕ) where
+  pub not_looked : entry_found letter status ≡ None → refuses NO_SUCH ≡ looks t letter status
   unfolding looks
-  looked h = rw (sym tests ∙ h, p, q)
+  not_looked e = rw (none_if _ _ e)
 
-  pub not_looked : ltb i letter_count && ltb j status_count ≡ false → refuses NO_SUCH ≡ looks t letter status
-  unfolding looks
-  not_looked h = rw (sym tests ∙ h)
+  pub counts_nothing : entry_found letter status ≡ None → t ≡ counted_in t letter status
+  unfolding counted_in
+  counts_nothing e = rw (none_if _ _ e)
+
+  module _ (i j : ℕ) (e : entry_found letter status ≡ Some (i, j)) where
+    known : is_letter letter && is_status status ≡ true
+    known = (cond_some _ _ _ e).0
+
+    row_is : letter_place letter ≡ i
+    row_is = ap (λ (x : ℕ × ℕ). x.0) (cond_some _ _ _ e).1
+
+    column_is : status_place status ≡ j
+    column_is = ap (λ (x : ℕ × ℕ). x.1) (cond_some _ _ _ e).1
+
+    pub row_below : i < letter_count
+    row_below = let h = letter_below letter (and_l (is_letter letter) (is_status status) known) in let r = row_is in omega (arith, h, r)
+
+    pub column_below : j < status_count
+    column_below = let h = status_below status (and_r (is_letter letter) (is_status status) known) in let r = column_is in omega (arith, h, r)
+
+    -- one more is counted, if there is a place for it and the number is not the largest
+    pub counts : entry_at t i j < 4294967295 → set t i (set (get_or t i []) j (entry_at t i j + 1)) ≡ counted_in t letter status
+    unfolding counted_in
+    counts l = let r = lt-ltb (entry_at t i j) 4294967295 l in rw (known, row_is, column_is, r)
+
+    pub counts_no_more : 4294967295 ≤ entry_at t i j → t ≡ counted_in t letter status
+    unfolding counted_in
+    counts_no_more l = let r = le-ltb (entry_at t i j) 4294967295 l in rw (known, row_is, column_is, r)
+
+    pub looked : gives (entry_at t i j) ≡ looks t letter status
+    unfolding looks
+    looked = rw (known, row_is, column_is)

@@ -1,5 +1,5 @@
 -- The calls of the desk: what each one answers, and the state and memory that it leaves.
-use Rattle.std.specs.Prelude.{ℕ, ◌+◌, ◌*◌, ◌^◌, min, List, ◌++◌, Bool, cond, not, ◌&&◌, ◌≡◌, length, take, drop, set, replicate, eqb, leb, ltb}
+use Rattle.std.specs.Prelude.{ℕ, ◌+◌, ◌*◌, ◌^◌, min, List, ◌++◌, Bool, cond, not, ◌&&◌, ◌≡◌, length, take, drop, set, replicate, eqb, leb, ltb, Option, Some, None, Result, Ok, Err}
 use Rattle.digits.specs.declared.refusal.Refusal.{Refusal}
 use Rattle.digits.specs.Refusals.{DESK, NO_ANSWER_DUE, IN_USE, NO_SEAT, STRAY, ENDED, OUT_OF_PLACE, FULL}
 use Rattle.digits.specs.Told.{Told, gives, refuses, tried}
@@ -12,22 +12,15 @@ use Rattle.desk.specs.declared.state.Seat.{Seat}
 use Rattle.desk.specs.declared.state.Desk.{Desk}
 use Rattle.desk.specs.declared.state.Emptied.{Emptied}
 use Rattle.desk.specs.declared.key.Key.{Key}
-use Rattle.desk.specs.declared.held.Held.{Held}
-use Rattle.desk.specs.declared.held.Held.TheVariants.{Cell, Nothing}
 use Rattle.desk.specs.declared.opening.Opening.{Opening}
 use Rattle.desk.specs.declared.opening.OpenRefusal.{OpenRefusal}
 use Rattle.desk.specs.declared.opening.OpenRefusal.TheVariants.{Desk as open-no-desk, Frame as open-frame, NoAnswerDue, InUse, NoSeat}
-use Rattle.desk.specs.declared.opening.OpenAnswer.{OpenAnswer}
-use Rattle.desk.specs.declared.opening.OpenDone.{OpenDone}
-use Rattle.desk.specs.declared.opening.OpenStep.{OpenStep}
-use Rattle.desk.specs.declared.opening.OpenAnswer.TheVariants.{Opened, Refused as not_opened_law}
+use Rattle.desk.specs.declared.done.Done.{Done}
+use Rattle.desk.specs.declared.done.Change.{Change}
+use Rattle.desk.specs.declared.done.Step.{Step}
 use Rattle.desk.specs.declared.reply.Taking.{Taking}
 use Rattle.desk.specs.declared.reply.ReplyRefusal.{ReplyRefusal}
 use Rattle.desk.specs.declared.reply.ReplyRefusal.TheVariants.{Desk as no_desk_case, Frame, Stray, Ended, OutOfPlace, Full}
-use Rattle.desk.specs.declared.reply.ReplyAnswer.{ReplyAnswer}
-use Rattle.desk.specs.declared.reply.ReplyDone.{ReplyDone}
-use Rattle.desk.specs.declared.reply.ReplyStep.{ReplyStep}
-use Rattle.desk.specs.declared.reply.ReplyAnswer.TheVariants.{Taken, Refused}
 use Rattle.desk.specs.Limits.{seat_count, cell_size}
 use Rattle.desk.specs.Below.{first, count_below}
 use Rattle.desk.specs.Key.{request_key, key_in}
@@ -166,11 +159,11 @@ held_cells count cells marks = min count (capacity_of (length cells) (length mar
 abbrev pub held_from : List ℕ → ℕ → ℕ → ℕ → Bool
 held_from marks seat from i = leb from i && eqb (mark_at marks i) seat
 
-abbrev pub held_answer : ℕ → ℕ → Held
-held_answer limit i = cond (ltb i limit) (Cell i) Nothing
+abbrev pub held_answer : ℕ → ℕ → Option ℕ
+held_answer limit i = cond (ltb i limit) (Some i) None
 
 -- the first of these cells from a place on whose mark names the seat
-unfoldable pub next_held : ℕ → List ℕ → List ℕ → ℕ → ℕ → Held
+unfoldable pub next_held : ℕ → List ℕ → List ℕ → ℕ → ℕ → Option ℕ
 next_held count cells marks seat from =
     held_answer (held_cells count cells marks) (first (held_cells count cells marks) (held_from marks seat from))
 
@@ -191,13 +184,17 @@ reply_refused Ended = ENDED
 reply_refused OutOfPlace = OUT_OF_PLACE
 reply_refused Full = FULL
 
-abbrev pub open_told : OpenAnswer → Told ℕ
-open_told (Opened s) = gives s
-open_told (not_opened_law f) = refuses (open_refused f)
+module _ {A R : Type 0} where
+  -- a result, with its refusals in the table
+  abbrev pub result_told : (R → Refusal) → Result A R → Told A
+  result_told refused (Ok a) = gives a
+  result_told refused (Err f) = refuses (refused f)
 
-abbrev pub reply_told : ReplyAnswer → Told ℕ
-reply_told (Taken s) = gives s
-reply_told (Refused f) = refuses (reply_refused f)
+abbrev pub open_told : Result ℕ OpenRefusal → Told ℕ
+open_told = result_told open_refused
+
+abbrev pub reply_told : Result ℕ ReplyRefusal → Told ℕ
+reply_told = result_told reply_refused
 
 -- what is promised of a call: its answer and the whole memory after it are those of the outcome
 pub record Did (told : Told ℕ) (after : Memory) (o : Outcome) : Type 0 where
@@ -210,28 +207,36 @@ pub record ResetDid (r : Emptied) (tally' : List (List ℕ)) : Type 0 where
   pub zero : tally' ≡ empty_tally
 
 -- of an opening: cells, marks and tally are lent only to be read
-abbrev pub OpenDid : Memory → List ℕ → OpenDone → Type 0
+abbrev pub OpenDid : Memory → List ℕ → Done (Result ℕ OpenRefusal) → Type 0
 OpenDid m f r = Did (open_told r.answer) (memory r.desk r.row m.cells m.marks m.tally) (opens m f)
 
 -- of a reply: with the cells, the marks and the tally after it
-abbrev pub ReplyDid : Memory → List ℕ → ReplyDone → List ℕ → List ℕ → List (List ℕ) → Type 0
+abbrev pub ReplyDid : Memory → List ℕ → Done (Result ℕ ReplyRefusal) → List ℕ → List ℕ → List (List ℕ) → Type 0
 ReplyDid m f r cells' marks' tally' = Did (reply_told r.answer) (memory r.desk r.row cells' marks' tally') (replies m f)
 
--- the place of the seat that a call changed; if it changed none, 16, which is no place
-abbrev pub place_in : Told ℕ → ℕ
-place_in (gives s) = s
-place_in (refuses f) = seat_count
+-- the seat that a call changed, with its place: none if it was refused
+abbrev pub change_in : Told ℕ → List Seat → Option Change
+change_in (gives s) row = Some (record { at = s; seat = seat_at row s })
+change_in (refuses f) row = None
 
--- a step returns that seat and its place instead of the row: the seat is the one at that place after the call, and all zero if it is no place
-pub record Changed (o : Outcome) (at : ℕ) (seat : Seat) : Type 0 where
-  pub place : at ≡ place_in o.answer
-  pub is : seat ≡ seat_at o.after.row at
+-- a step returns this seat, as it is after the call, instead of the row
+pub record Changed (o : Outcome) (changed : Option Change) : Type 0 where
+  pub is : changed ≡ change_in o.answer o.after.row
 
--- of a step: the row with the seat set is the row after the call
-abbrev pub OpenStepDid : Memory → List ℕ → OpenStep → Type 0
+-- a row with a seat changed
+abbrev pub row_with : List Seat → Option Change → List Seat
+row_with row (Some c) = set row c.at c.seat
+row_with row None = row
+
+module _ {A : Type 0} where
+  abbrev pub done_on : List Seat → Step A → Done A
+  done_on row r = record { answer = r.answer; desk = r.desk; row = row_with row r.changed }
+
+-- of a step: the row with the seat changed is the row after the call
+abbrev pub OpenStepDid : Memory → List ℕ → Step (Result ℕ OpenRefusal) → Type 0
 OpenStepDid m f r =
-    Changed (opens m f) r.at r.seat × Did (open_told r.answer) (memory r.desk (set m.row r.at r.seat) m.cells m.marks m.tally) (opens m f)
+    Changed (opens m f) r.changed × Did (open_told r.answer) (memory r.desk (row_with m.row r.changed) m.cells m.marks m.tally) (opens m f)
 
-abbrev pub ReplyStepDid : Memory → List ℕ → ReplyStep → List ℕ → List ℕ → List (List ℕ) → Type 0
+abbrev pub ReplyStepDid : Memory → List ℕ → Step (Result ℕ ReplyRefusal) → List ℕ → List ℕ → List (List ℕ) → Type 0
 ReplyStepDid m f r cells' marks' tally' =
-    Changed (replies m f) r.at r.seat × Did (reply_told r.answer) (memory r.desk (set m.row r.at r.seat) cells' marks' tally') (replies m f)
+    Changed (replies m f) r.changed × Did (reply_told r.answer) (memory r.desk (row_with m.row r.changed) cells' marks' tally') (replies m f)

@@ -1,5 +1,6 @@
 -- A capture on a desk: what becomes of each of its frames, and what the desk holds afterwards.
-use Rattle.std.specs.Prelude.{ℕ, zero, suc, ◌+◌, List, [], ◌∷◌, Bool, true, false, cond, ◌≡◌, get_or, eqb}
+use Rattle.std.specs.Prelude.{Result, ℕ, zero, suc, ◌+◌, List, [], ◌∷◌, Bool, true, false, cond, ◌≡◌, get_or, eqb}
+use Rattle.digits.specs.declared.refusal.Refusal.{Refusal}
 use Rattle.digits.specs.Refusals.{DESK}
 use Rattle.digits.specs.Told.{Told, gives, refuses, tried}
 use Rattle.frames.specs.Kind.{read}
@@ -13,11 +14,11 @@ use Rattle.finder.specs.Demands.{count}
 use Rattle.desk.specs.declared.capture.Fate.{Fate}
 use Rattle.desk.specs.declared.capture.Fate.TheVariants.{Opened, Collected, Dynamic, Refused}
 use Rattle.desk.specs.declared.capture.Counts.{Counts}
-use Rattle.desk.specs.declared.capture.CaptureAnswer.{CaptureAnswer}
-use Rattle.desk.specs.declared.capture.CaptureAnswer.TheVariants.{Taken, NoDesk}
+use Rattle.desk.specs.declared.capture.CaptureRefusal.{CaptureRefusal}
+use Rattle.desk.specs.declared.capture.CaptureRefusal.TheVariants.{Desk}
 use Rattle.desk.specs.Memory.{Memory}
 use Rattle.desk.specs.Desk.{is_desk}
-use Rattle.desk.specs.Calls.{opens, replies}
+use Rattle.desk.specs.Calls.{opens, replies, result_told}
 
 -- ---- one frame
 
@@ -98,9 +99,11 @@ counts_of l = record { opened = how_many is_opened l; collected = how_many is_co
 
 -- ---- the call
 
-abbrev pub capture_told : CaptureAnswer → Told Counts
-capture_told (Taken c) = gives c
-capture_told NoDesk = refuses DESK
+abbrev pub capture_refused : CaptureRefusal → Refusal
+capture_refused Desk = DESK
+
+abbrev pub capture_told : Result Counts CaptureRefusal → Told Counts
+capture_told = result_told capture_refused
 
 -- the counts or the refusal, and the memory after the call
 pub record Captured : Type 0 where
@@ -112,7 +115,7 @@ captures m s =
     record { answer = tried (is_desk m) DESK (gives (counts_of (fates m (pieces s)))); after = cond (is_desk m) (after_all m (pieces s)) m }
 
 -- what is promised of taking a capture s: the answer, and the whole memory
-pub record TookCapture (m : Memory) (s : List ℕ) (answer : CaptureAnswer) (after : Memory) : Type 0 where
+pub record TookCapture (m : Memory) (s : List ℕ) (answer : Result Counts CaptureRefusal) (after : Memory) : Type 0 where
   pub told : capture_told answer ≡ (captures m s).answer
   pub memory : after ≡ (captures m s).after
 

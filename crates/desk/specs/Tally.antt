@@ -1,11 +1,12 @@
 -- The tally: how many records are held, for each letter of a reply and each status; and a look at it.
-use Rattle.std.specs.Prelude.{ℕ, ◌+◌, List, [], Bool, cond, ◌&&◌, ◌≡◌, length, get_or, set, replicate, eqb, ltb}
+use Rattle.std.specs.Prelude.{ℕ, ◌+◌, List, [], Bool, cond, ◌&&◌, ◌≡◌, length, get_or, set, replicate, eqb, ltb, Result, Ok, Err}
+use Rattle.digits.specs.declared.refusal.Refusal.{Refusal}
 use Rattle.digits.specs.Refusals.{NO_SUCH}
 use Rattle.digits.specs.Told.{Told, gives, refuses, tried}
 use Rattle.frames.specs.Reply.{letters, is_letter, letter_place}
 use Rattle.frames.specs.Status.{statuses, is_status, status_place}
-use Rattle.desk.specs.declared.tally.LookAnswer.{LookAnswer}
-use Rattle.desk.specs.declared.tally.LookAnswer.TheVariants.{Held, NoSuch}
+use Rattle.desk.specs.declared.tally.LookRefusal.{LookRefusal}
+use Rattle.desk.specs.declared.tally.LookRefusal.TheVariants.{NoSuch}
 use Rattle.desk.specs.Below.{all_below, count_below}
 use Rattle.desk.specs.Memory.{cell_at}
 
@@ -70,10 +71,13 @@ tally_right cells n t = eqb (length t) letter_count && all_below letter_count (r
 unfoldable pub looks : Table → ℕ → ℕ → Told ℕ
 looks t letter status = tried (is_letter letter && is_status status) NO_SUCH (gives (entry_of t letter status))
 
-abbrev pub look_told : LookAnswer → Told ℕ
-look_told (Held n) = gives n
-look_told NoSuch = refuses NO_SUCH
+abbrev pub look_refused : LookRefusal → Refusal
+look_refused NoSuch = NO_SUCH
+
+abbrev pub look_told : Result ℕ LookRefusal → Told ℕ
+look_told (Ok n) = gives n
+look_told (Err f) = refuses (look_refused f)
 
 -- what is promised of a look
-abbrev pub LookAs : Table → ℕ → ℕ → LookAnswer → Type 0
+abbrev pub LookAs : Table → ℕ → ℕ → Result ℕ LookRefusal → Type 0
 LookAs t letter status r = look_told r ≡ looks t letter status

@@ -21,5 +21,5 @@ pub fn in_place(held: u32, status: u8) -> bool
 pub fn ended_by(status: u8) -> u32
     ensures { result ≡ ended_by status }
 {
-    if ends_with(status) { 1 } else { 0 }
+    u32::from(ends_with(status))
 }

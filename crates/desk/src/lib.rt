@@ -4,6 +4,7 @@
 pub mod capture;
 pub mod clauses;
 mod columns;
+pub mod done;
 pub mod hearing;
 pub mod held;
 pub mod key;

@@ -1,29 +1,30 @@
 // An opening: a static request takes a seat.
-ghost use Rattle.std.specs.Prelude.{◌≡◌, ◌+◌, ◌^◌, ◌<◌, length, false};
+ghost use Rattle.std.specs.Prelude.{◌≡◌, ◌+◌, ◌^◌, ◌<◌, false, length};
 ghost use Rattle.desk.specs.Limits.{seat_count};
 ghost use Rattle.desk.specs.Memory.{memory};
 ghost use Rattle.desk.specs.Key.{request_key};
 ghost use Rattle.desk.specs.Seats.{used_bit, lowest_clear};
-ghost use Rattle.desk.specs.Calls.{what_is_given, new_seat, open_refused, OpenDid, OpenStepDid};
-ghost use Rattle.desk.specs.Below.{first};
+ghost use Rattle.desk.specs.Calls.{what_is_given, new_seat, open_tried, open_refused, OpenDid, OpenStepDid};
 ghost use Rattle.frames.specs.Kind.{read};
 ghost use Rattle.frames.specs.Request.{request};
-ghost use Rattle.desk.specs.inside.Columns.{Short, key_number, key_is};
-ghost use Rattle.desk.specs.inside.Judging.{not_opened, open_judged, number_tried, column_asked};
+ghost use Rattle.desk.specs.declared.opening.OpenRefusal.TheVariants.{Frame};
+ghost use Rattle.desk.specs.inside.Columns.{Short, found_seat};
+ghost use Rattle.desk.specs.inside.Judging.{open_judged, column_asked};
 
-use crate::clauses::is_desk;
-use crate::columns::{columns, find, key_number};
+use crate::clauses::shows_desk;
+use crate::columns::{Columns, key_number};
+use crate::done::{Change, Done, Step};
 use crate::key::Key;
 use crate::limits::SEATS;
-use crate::state::{Desk, Seat, no_seat, with_seat};
+use crate::state::{Desk, Seat};
 use digits::refusal as table;
 use digits::refusal::{Refusal, plain};
-use frames::refusals::{ReadRefusal, of_reading};
+use frames::refusals::ReadRefusal;
 use frames::reply::{LETTERS, STATUSES};
-use frames::request::{RequestRead, StaticRequest, read_request};
+use frames::request::{StaticRequest, read_request};
 
 // In the order in which they are tested.
-#[derive(Clone, Copy)]
+#[derive(Clone, Copy, Debug, PartialEq, Eq)]
 pub enum OpenRefusal {
     Desk,
     Frame(ReadRefusal),
@@ -32,39 +33,26 @@ pub enum OpenRefusal {
     NoSeat,
 }
 
-pub fn of_opening(refusal: OpenRefusal) -> Refusal
-    ensures { result ≡ open_refused refusal }
-{
-    match refusal {
-        OpenRefusal::Desk => plain(table::DESK),
-        OpenRefusal::Frame(of_frame) => of_reading(of_frame),
-        OpenRefusal::NoAnswerDue => plain(table::NO_ANSWER_DUE),
-        OpenRefusal::InUse => plain(table::IN_USE),
-        OpenRefusal::NoSeat => plain(table::NO_SEAT),
+impl From<ReadRefusal> for OpenRefusal {
+    ghost from_gives = { λ refusal r. r ≡ Frame refusal };
+
+    fn from(refusal: ReadRefusal) -> OpenRefusal {
+        OpenRefusal::Frame(refusal)
     }
 }
 
-// Opened, at this seat.
-#[derive(Clone, Copy)]
-pub enum OpenAnswer {
-    Opened(u32),
-    Refused(OpenRefusal),
-}
+impl From<OpenRefusal> for Refusal {
+    ghost from_gives = { λ refusal f. f ≡ open_refused refusal };
 
-#[derive(Clone, Copy)]
-pub struct OpenDone {
-    pub answer: OpenAnswer,
-    pub desk: Desk,
-    pub row: [Seat; SEATS],
-}
-
-// What an opening leaves, as in ReplyStep.
-#[derive(Clone, Copy)]
-pub struct OpenStep {
-    pub answer: OpenAnswer,
-    pub desk: Desk,
-    pub at: usize,
-    pub seat: Seat,
+    fn from(refusal: OpenRefusal) -> Refusal {
+        match refusal {
+            OpenRefusal::Desk => plain(table::DESK),
+            OpenRefusal::Frame(of_frame) => Refusal::from(of_frame),
+            OpenRefusal::NoAnswerDue => plain(table::NO_ANSWER_DUE),
+            OpenRefusal::InUse => plain(table::IN_USE),
+            OpenRefusal::NoSeat => plain(table::NO_SEAT),
+        }
+    }
 }
 
 // The seat that a request gets, and its key.
@@ -74,12 +62,7 @@ pub(crate) struct Opening {
     pub(crate) key: Key,
 }
 
-#[derive(Clone, Copy)]
-pub(crate) enum OpenJudged {
-    Opens(Opening),
-    Refuses(OpenRefusal),
-}
-
+// State, row, cells, marks and tally stay side by side, as the C interface lends them (rei2_open).
 pub fn open(
     desk: Desk,
     row: [Seat; SEATS],
@@ -87,18 +70,10 @@ pub fn open(
     marks: &[u32],
     tally: &[[u32; STATUSES]; LETTERS],
     frame: &[u8],
-) -> OpenDone
+) -> Done<Result<u32, OpenRefusal>>
     ensures { OpenDid (memory desk row cells.now marks.now tally.now) frame.now result }
 {
-    let step = open_step(desk, row, cells, marks, tally, frame);
-    let answer = step.answer;
-    let desk = step.desk;
-    let seat = step.seat;
-    OpenDone {
-        answer,
-        desk,
-        row: with_seat(row, step.at, seat),
-    }
+    open_step(desk, row, cells, marks, tally, frame).on(row)
 }
 
 // The same for a caller who stores only the seat that changed.
@@ -109,67 +84,74 @@ pub fn open_step(
     marks: &[u32],
     tally: &[[u32; STATUSES]; LETTERS],
     frame: &[u8],
-) -> OpenStep
+) -> Step<Result<u32, OpenRefusal>>
     ensures { OpenStepDid (memory desk row cells.now marks.now tally.now) frame.now result }
 {
-    let mut keys = [0u32; SEATS];
-    let mut held = [0u32; SEATS];
-    let mut ended = [0u32; SEATS];
-    if !columns(row, desk.bits, &mut keys, &mut held, &mut ended) {
-        return not_opened(desk, OpenRefusal::Desk);
-    }
-    if !is_desk(desk, &keys, &held, &ended, cells, marks, tally) {
-        return not_opened(desk, OpenRefusal::Desk);
-    }
-    match judged(&keys, desk.bits, frame) {
-        OpenJudged::Opens(opening) => {
+    match tried(desk, &row, cells, marks, tally, frame) {
+        Ok(opening) => {
             let at = opening.seat;
-            let key = opening.key;
-            let seat = at as u32;
-            OpenStep {
-                answer: OpenAnswer::Opened(seat),
+            Step {
+                answer: Ok(at as u32),
                 desk: opened_state(desk, at),
-                at,
-                seat: new_seat(key),
+                changed: Some(Change {
+                    at,
+                    seat: new_seat(opening.key),
+                }),
             }
         }
-        OpenJudged::Refuses(refusal) => not_opened(desk, refusal),
+        Err(refusal) => Step {
+            answer: Err(refusal),
+            desk,
+            changed: None,
+        },
     }
 }
 
-fn not_opened(desk: Desk, refusal: OpenRefusal) -> OpenStep
-    ensures { result ≡ not_opened desk refusal }
+fn tried(
+    desk: Desk,
+    row: &[Seat; SEATS],
+    cells: &[u8],
+    marks: &[u32],
+    tally: &[[u32; STATUSES]; LETTERS],
+    frame: &[u8],
+) -> Result<Opening, OpenRefusal>
+    requires { length row.now ≡ seat_count }
+    ensures { open_judged result ≡ open_tried (memory desk row.now cells.now marks.now tally.now) frame.now }
 {
-    OpenStep {
-        answer: OpenAnswer::Refused(refusal),
-        desk,
-        at: SEATS,
-        seat: no_seat(),
+    let mut columns = Columns::new();
+    if !shows_desk(&mut columns, desk, row, cells, marks, tally) {
+        return Err(OpenRefusal::Desk);
     }
+    judged(&columns, desk.bits, frame)
 }
 
-pub(crate) fn judged(keys: &[u32], bits: u64, frame: &[u8]) -> OpenJudged
-    requires { length keys.now ≡ seat_count }
-    ensures { open_judged result ≡ what_is_given (read request frame.now) (column_asked keys.now bits) }
+pub(crate) fn judged(columns: &Columns, bits: u64, frame: &[u8]) -> Result<Opening, OpenRefusal>
+    ensures { open_judged result ≡ what_is_given (read request frame.now) (column_asked columns.now.keys bits) }
 {
     // As in a reply.
     let whole = &frame[0..frame.len()];
-    match read_request(whole) {
-        RequestRead::Request(r) => request_judged(keys, bits, r),
-        RequestRead::Refused(refusal) => OpenJudged::Refuses(OpenRefusal::Frame(refusal)),
-    }
+    let r = read_request(whole)?;
+    request_judged(columns, bits, r)
 }
 
-fn request_judged(keys: &[u32], bits: u64, r: StaticRequest) -> OpenJudged
-    requires { (length keys.now ≡ seat_count) × Short (request_key r) }
-    ensures { open_judged result ≡ column_asked keys.now bits r }
+fn request_judged(columns: &Columns, bits: u64, r: StaticRequest) -> Result<Opening, OpenRefusal>
+    requires { Short (request_key r) }
+    ensures { open_judged result ≡ column_asked columns.now.keys bits r }
 {
     if r.information == b'q' {
-        return OpenJudged::Refuses(OpenRefusal::NoAnswerDue);
+        return Err(OpenRefusal::NoAnswerDue);
     }
-    key_judged(keys, bits, key_asked(r))
+    let key = key_asked(r);
+    if columns.find(key_number(key)).is_some() {
+        return Err(OpenRefusal::InUse);
+    }
+    let Some(seat) = free_seat(bits) else {
+        return Err(OpenRefusal::NoSeat);
+    };
+    Ok(Opening { seat, key })
 }
 
+// Named, as the key of a seat is.
 fn key_asked(r: StaticRequest) -> Key
     ensures { result ≡ request_key r }
 {
@@ -180,26 +162,12 @@ fn key_asked(r: StaticRequest) -> Key
     }
 }
 
-fn key_judged(keys: &[u32], bits: u64, key: Key) -> OpenJudged
-    requires { (length keys.now ≡ seat_count) × Short key }
-    ensures { open_judged result ≡ number_tried (first seat_count (key_is keys.now (key_number key))) bits key }
+// The lowest seat that is not in use.
+fn free_seat(bits: u64) -> Option<usize>
+    ensures { result ≡ found_seat (lowest_clear bits) }
 {
-    if find(keys, key_number(key)) < SEATS {
-        return OpenJudged::Refuses(OpenRefusal::InUse);
-    }
-    let seat = lowest_clear(bits);
-    if seat < SEATS {
-        OpenJudged::Opens(Opening { seat, key })
-    } else {
-        OpenJudged::Refuses(OpenRefusal::NoSeat)
-    }
-}
-
-// The lowest clear bit, or 64 if there is none.
-fn lowest_clear(bits: u64) -> usize
-    ensures { result ≡ lowest_clear bits }
-{
-    u64::trailing_zeros(!bits) as usize
+    let seat = u64::trailing_zeros(!bits) as usize;
+    (seat < SEATS).then_some(seat)
 }
 
 fn new_seat(key: Key) -> Seat

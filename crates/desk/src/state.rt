@@ -1,5 +1,5 @@
 // The state of a desk, which is passed by value, and the empty desk.
-ghost use Rattle.std.specs.Prelude.{◌≡◌, set};
+ghost use Rattle.std.specs.Prelude.{◌≡◌};
 ghost use Rattle.desk.specs.Seats.{zero_seat};
 ghost use Rattle.desk.specs.Memory.{capacity_of};
 ghost use Rattle.desk.specs.Calls.{seats_in_use, ResetDid};
@@ -9,9 +9,9 @@ use crate::tally::clear;
 use digits::least;
 use frames::reply::{LETTERS, STATUSES};
 
-// Five numbers without padding. Address and requester are held by their codes; `ended` is 0 or 1.
+// Five numbers without padding, all zero in a seat that is not in use. Address and requester are held by their codes; `ended` is 0 or 1.
 #[repr(C)]
-#[derive(Clone, Copy)]
+#[derive(Clone, Copy, Debug, PartialEq, Eq, Default)]
 pub struct Seat {
     pub address: u32,
     pub requester: u32,
@@ -22,40 +22,16 @@ pub struct Seat {
 
 // The seats in use, as bits, and how many cells are held.
 #[repr(C)]
-#[derive(Clone, Copy)]
+#[derive(Clone, Copy, Debug, PartialEq, Eq, Default)]
 pub struct Desk {
     pub bits: u64,
     pub count: u32,
 }
 
-#[derive(Clone, Copy)]
+#[derive(Clone, Copy, Debug, PartialEq, Eq)]
 pub struct Emptied {
     pub desk: Desk,
     pub row: [Seat; SEATS],
-}
-
-// A seat that is not in use.
-pub(crate) fn no_seat() -> Seat
-    ensures { result ≡ zero_seat }
-{
-    Seat {
-        address: 0,
-        requester: 0,
-        number: 0,
-        held: 0,
-        ended: 0,
-    }
-}
-
-// The row with another seat at a place. SEATS is no place; then the row is as it was.
-pub(crate) fn with_seat(row: [Seat; SEATS], at: usize, seat: Seat) -> [Seat; SEATS]
-    ensures { result ≡ set row at seat }
-{
-    let mut after = row;
-    if at < SEATS {
-        after[at] = seat;
-    }
-    after
 }
 
 // The empty desk; it replaces any state, and all numbers of the tally are 0, whatever they were. Cells and marks are not touched.
@@ -64,8 +40,8 @@ pub fn reset(tally: &mut [[u32; STATUSES]; LETTERS]) -> Emptied
 {
     clear(tally);
     Emptied {
-        desk: Desk { bits: 0, count: 0 },
-        row: [no_seat(); SEATS],
+        desk: Desk::default(),
+        row: [Seat::default(); SEATS],
     }
 }
 

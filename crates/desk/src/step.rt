@@ -8,21 +8,21 @@ use crate::hearing::{ended_by, in_place};
 use crate::state::Seat;
 
 // How far a request has come: how many records it holds, and whether it has had its E or Z (1) or not (0).
-#[derive(Clone, Copy)]
+#[derive(Clone, Copy, Debug, PartialEq, Eq)]
 pub struct Progress {
     pub held: u32,
     pub ended: u32,
 }
 
-// Refused, in the order in which it is tested, or taken.
-#[derive(Clone, Copy)]
-pub enum Stepped {
+// Why a reply is not taken, in the order in which it is tested.
+#[derive(Clone, Copy, Debug, PartialEq, Eq)]
+pub enum StepRefusal {
     Ended,
     OutOfPlace,
     Full,
-    Taken,
 }
 
+// Named, as the key of a seat is.
 pub fn progress_of(seat: Seat) -> Progress
     ensures { result ≡ progress_of seat }
 {
@@ -33,19 +33,19 @@ pub fn progress_of(seat: Seat) -> Progress
 }
 
 // The step of a request for a reply with this status, if a cell is free or not.
-pub fn step(p: Progress, free: bool, status: u8) -> Stepped
+pub fn step(p: Progress, free: bool, status: u8) -> Result<(), StepRefusal>
     ensures { step_told p status result ≡ step p free status }
 {
     if p.ended != 0 {
-        return Stepped::Ended;
+        return Err(StepRefusal::Ended);
     }
     if !in_place(p.held, status) {
-        return Stepped::OutOfPlace;
+        return Err(StepRefusal::OutOfPlace);
     }
-    if free { Stepped::Taken } else { Stepped::Full }
+    if free { Ok(()) } else { Err(StepRefusal::Full) }
 }
 
-// How far the request has come with that reply, if it is taken.
+// How far the request has come with that reply, if it is taken. The bound is asked here and not kept in Progress: a seat that the host lends may hold any number.
 pub fn advanced(p: Progress, status: u8) -> Progress
     requires { p.held < most_cells }
     ensures { result ≡ advanced p status }

@@ -1,30 +1,52 @@
 // The tally: how many records are held, for each letter of a reply and each status. The host lends it beside cells and marks.
 ghost use Rattle.std.specs.Prelude.{◌≡◌, true, ◌<◌, ltb};
-ghost use Rattle.frames.specs.Reply.{is_letter};
+ghost use Rattle.frames.specs.Reply.{is_letter, letter_place};
 ghost use Rattle.frames.specs.Status.{is_status, status_place};
-ghost use Rattle.desk.specs.Tally.{entry_of, counted, counted_in, empty_tally, LookAs};
-ghost use Rattle.desk.specs.inside.Counted.{uncounted, Whole, is_clear};
+ghost use Rattle.desk.specs.Tally.{entry_of, counted, counted_in, empty_tally, look_refused, LookAs};
+ghost use Rattle.desk.specs.inside.Counted.{uncounted, entry_found, Whole, is_clear};
 
+use digits::refusal as table;
+use digits::refusal::{Refusal, plain};
 use frames::reply::{LETTERS, STATUSES, letter_place, status_place};
 
-// How many records are held with a letter and a status; or there is no such letter or status.
-#[derive(Clone, Copy)]
-pub enum LookAnswer {
-    Held(u32),
+// There is no such letter or no such status.
+#[derive(Clone, Copy, Debug, PartialEq, Eq)]
+pub enum LookRefusal {
     NoSuch,
 }
 
-// One look at the table. Whether it is that of a desk is not tested.
-pub fn look(tally: &[[u32; STATUSES]; LETTERS], letter: u8, status: u8) -> LookAnswer
+impl From<LookRefusal> for Refusal {
+    ghost from_gives = { λ refusal f. f ≡ look_refused refusal };
+
+    fn from(refusal: LookRefusal) -> Refusal {
+        match refusal {
+            LookRefusal::NoSuch => plain(table::NO_SUCH),
+        }
+    }
+}
+
+// One look at the table: how many records are held with a letter and a status. Whether the table is that of a desk is not tested.
+pub fn look(tally: &[[u32; STATUSES]; LETTERS], letter: u8, status: u8) -> Result<u32, LookRefusal>
     ensures { LookAs tally.now letter status result }
 {
-    let i = letter_place(letter);
-    let j = status_place(status);
-    if (i < LETTERS) & (j < STATUSES) {
-        LookAnswer::Held(tally[i][j])
-    } else {
-        LookAnswer::NoSuch
+    match entry(letter, status) {
+        Some((i, j)) => Ok(tally[i][j]),
+        None => Err(LookRefusal::NoSuch),
     }
+}
+
+// Where a letter and a status are counted.
+fn entry(letter: u8, status: u8) -> Option<(usize, usize)>
+    ensures { result ≡ entry_found letter status }
+{
+    Some((letter_place(letter)?, status_place(status)?))
+}
+
+fn letter_index(letter: u8) -> usize
+    requires { is_letter letter ≡ true }
+    ensures { result ≡ letter_place letter }
+{
+    letter_place(letter).unwrap()
 }
 
 // R, E and Z differ in two bits of their codes, and these are their places.
@@ -40,7 +62,7 @@ pub(crate) fn count_one(tally: &mut [[u32; STATUSES]; LETTERS], letter: u8, stat
     requires { (is_letter letter ≡ true) × ((is_status status ≡ true) × (entry_of tally.old letter status < 4294967295)) }
     ensures { tally.new ≡ counted tally.old letter status }
 {
-    let i = letter_place(letter);
+    let i = letter_index(letter);
     let j = status_index(status);
     tally[i][j] = tally[i][j] + 1;
 }
@@ -49,9 +71,7 @@ pub(crate) fn count_one(tally: &mut [[u32; STATUSES]; LETTERS], letter: u8, stat
 pub fn count(tally: &mut [[u32; STATUSES]; LETTERS], letter: u8, status: u8)
     ensures { tally.new ≡ counted_in tally.old letter status }
 {
-    let row = letter_place(letter);
-    let column = status_place(status);
-    if (row < LETTERS) & (column < STATUSES) {
+    if let Some((row, column)) = entry(letter, status) {
         let n = tally[row][column];
         if n < u32::MAX {
             tally[row][column] = n + 1;
@@ -64,7 +84,7 @@ pub(crate) fn take_one(left: &mut [[u32; STATUSES]; LETTERS], letter: u8, status
     requires { (is_letter letter ≡ true) × (is_status status ≡ true) }
     ensures { (result ≡ ltb 0 (entry_of left.old letter status)) × (result ≡ true → left.new ≡ uncounted left.old letter status) }
 {
-    let i = letter_place(letter);
+    let i = letter_index(letter);
     let j = status_index(status);
     let n = left[i][j];
     if n == 0 {
@@ -92,10 +112,8 @@ pub(crate) fn is_clear(tally: &[[u32; STATUSES]; LETTERS]) -> bool
     ensures { result ≡ is_clear tally.now }
 {
     let mut any: u32 = 0;
-    let mut i = 0;
-    while i < LETTERS {
-        any = any | tally[i][0] | tally[i][1] | tally[i][2];
-        i += 1;
+    for row in tally {
+        any |= row[0] | row[1] | row[2];
     }
     any == 0
 }

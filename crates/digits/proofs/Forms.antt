@@ -7,8 +7,7 @@ use native.Mathlib.Nat.{add-zero, add-suc}
 use borrow.Author.Tests.{ltb-true}
 use lib.ListN.{length, get_or, take, drop, get_or-append}
 use lib.Seq.{get_or_at, get_or-append-add, drop-cons}
-use Rattle.digits.specs.declared.Number.{Number}
-use Rattle.digits.specs.declared.Number.TheVariants.{Is, Wrong}
+use Rattle.std.specs.Prelude.{Option, Some, None}
 use Rattle.digits.specs.Digits.{digits, number_from, number_at}
 use Rattle.digits.specs.Form.{Form, Lawful, NumberInverse, byte, number, named, renamed}
 use Rattle.digits.proofs.Reading.{some_width}
@@ -18,7 +17,7 @@ use Rattle.digits.proofs.Laws.{written_is_read, read_was_written}
 pub byte_lawful : Lawful byte
 byte_lawful = record {
   long = λ v. refl;
-  local = λ pre t post h. ap Is (byte_local pre t post h);
+  local = λ pre t post h. ap Some (byte_local pre t post h);
   again = λ s p v h e. rw (drop-cons s p 0 (omega arith)) (ap (λ (x : ℕ). x ∷ []) (let q : get_or s p 0 ≡ v = cc in q));
 }
   where
@@ -45,17 +44,17 @@ number_lawful w h k = record {
 }
 
 -- a number of at most w digits, written and read, is itself
-pub number_back : (w v : ℕ) → 1 ≤ w → w ≤ 10 → v < 10 ^ w → number_at (digits w v) 0 w ≡ Is v
+pub number_back : (w v : ℕ) → 1 ≤ w → w ≤ 10 → v < 10 ^ w → number_at (digits w v) 0 w ≡ Some v
 number_back w v h k f = ap (λ (s : List ℕ). number_at s 0 w) (sym (append-nil (digits w v))) ∙ written_is_read w v [] [] h k f
 
 pub number_inverse : NumberInverse
 number_inverse w h k = record { lawful = number_lawful w h k; back = λ v f. number_back w v h k (ltb-true v (10 ^ w) f) }
 
 -- a form under other names is lawful if each name leads back to its value
-module _ (k : Form) (other : ℕ → Number) (own : ℕ → ℕ) (back : (n v : ℕ) → other n ≡ Is v → own v ≡ n) where
-  renamed_again : (w : List ℕ) (x : Number) (v : ℕ) → ((n : ℕ) → x ≡ Is n → w ≡ k.put n) → named other x ≡ Is v → w ≡ k.put (own v)
-  renamed_again w (Is n) v f e = f n refl ∙ ap k.put (sym (back n v e))
-  renamed_again w Wrong v f e = absurd (let z : ◌≡◌ {A = ℕ} 0 1 = cc in omega arith)
+module _ (k : Form) (other : ℕ → Option ℕ) (own : ℕ → ℕ) (back : (n v : ℕ) → other n ≡ Some v → own v ≡ n) where
+  renamed_again : (w : List ℕ) (x : Option ℕ) (v : ℕ) → ((n : ℕ) → x ≡ Some n → w ≡ k.put n) → named other x ≡ Some v → w ≡ k.put (own v)
+  renamed_again w (Some n) v f e = f n refl ∙ ap k.put (sym (back n v e))
+  renamed_again w None v f e = absurd (let z : ◌≡◌ {A = ℕ} 0 1 = cc in omega arith)
 
   pub renamed_lawful : Lawful k → Lawful (renamed k other own)
   renamed_lawful l = record {

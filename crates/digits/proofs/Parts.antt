@@ -6,32 +6,31 @@ use mathlib.Core.Path.{◌≡◌, refl, sym, ap, ◌∙◌}
 use native.Mathlib.Omega.{arith}
 use native.Mathlib.Nat.{add-zero, add-suc, add_assoc, pow-suc, pow-succ', pow-zero, mul_assoc, div-one, div-div-eq-div-mul}
 use lib.ListN.{get_or}
-use Rattle.digits.specs.declared.Number.{Number}
-use Rattle.digits.specs.declared.Number.TheVariants.{Is, Wrong}
+use Rattle.std.specs.Prelude.{Option, Some, None}
 use Rattle.digits.specs.Digits.{digits, number_from, is_digit}
 use Rattle.digits.proofs.Laws.{and_then, last_apart}
 
 -- a first part, and a second one of b digits
-abbrev pub joined : ℕ → Number → Number → Number
-joined b (Is u) (Is v) = Is (u * 10 ^ b + v)
-joined b (Is u) Wrong = Wrong
-joined b Wrong y = Wrong
+abbrev pub joined : ℕ → Option ℕ → Option ℕ → Option ℕ
+joined b (Some u) (Some v) = Some (u * 10 ^ b + v)
+joined b (Some u) None = None
+joined b None y = None
 
-joined_none : (x : Number) → x ≡ joined 0 x (Is 0)
-joined_none (Is u) = ap Is (omega (arith, pow-zero 10))
-joined_none Wrong = refl
+joined_none : (x : Option ℕ) → x ≡ joined 0 x (Some 0)
+joined_none (Some u) = ap Some (omega (arith, pow-zero 10))
+joined_none None = refl
 
 one_more_case : (u v b d : ℕ) → (u * 10 ^ b + v) * 10 + d ≡ u * 10 ^ suc b + (v * 10 + d)
 one_more_case u v b d = rw (pow-suc 10 b, ← mul_assoc u (10 ^ b) 10) (omega arith)
 
-joined_more : (b d : ℕ) (x y : Number) → and_then (joined b x y) d ≡ joined (suc b) x (and_then y d)
-joined_more b d (Is u) (Is v) = go (is_digit d)
+joined_more : (b d : ℕ) (x y : Option ℕ) → and_then (joined b x y) d ≡ joined (suc b) x (and_then y d)
+joined_more b d (Some u) (Some v) = go (is_digit d)
   where
-    go : (t : Bool) → cond t (Is ((u * 10 ^ b + v) * 10 + (d - 48))) Wrong ≡ joined (suc b) (Is u) (cond t (Is (v * 10 + (d - 48))) Wrong)
-    go true = ap Is (one_more_case u v b (d - 48))
+    go : (t : Bool) → cond t (Some ((u * 10 ^ b + v) * 10 + (d - 48))) None ≡ joined (suc b) (Some u) (cond t (Some (v * 10 + (d - 48))) None)
+    go true = ap Some (one_more_case u v b (d - 48))
     go false = refl
-joined_more b d (Is u) Wrong = refl
-joined_more b d Wrong y = refl
+joined_more b d (Some u) None = refl
+joined_more b d None y = refl
 
 pub read_in_parts : (s : List ℕ) (p a b v : ℕ) → number_from s p (a + b) v ≡ joined b (number_from s p a v) (number_from s (p + a) b 0)
 unfolding number_from
@@ -39,7 +38,7 @@ read_in_parts s p a zero v = rw (add-zero a) (joined_none (number_from s p a v))
 read_in_parts s p a (suc b) v =
     ap (λ (w : ℕ). number_from s p w v) (add-suc a b)
     ∙ last_apart s p (a + b) v
-    ∙ ap (λ (x : Number). and_then x (get_or s (p + (a + b)) 0)) (read_in_parts s p a b v)
+    ∙ ap (λ (x : Option ℕ). and_then x (get_or s (p + (a + b)) 0)) (read_in_parts s p a b v)
     ∙ joined_more b (get_or s (p + (a + b)) 0) (number_from s p a v) (number_from s (p + a) b 0)
     ∙ rw (← add_assoc p a b) (ap (joined (suc b) (number_from s p a v)) (sym (last_apart s (p + a) b 0)))
 

@@ -1,15 +1,15 @@
 -- Runs of stores, and a number stored from its last digit on. Assumes nothing.
 use Prim.Native.Nat.{ℕ, zero, suc, ◌+◌, ◌-◌, ◌/◌, ◌%◌, ◌≤◌, ◌<◌, min}
-use mathlib.Core.List.{List, [], ◌∷◌, ◌++◌}
+use mathlib.Core.List.{List, [], ◌∷◌, ◌++◌, append_assoc}
 use mathlib.Core.Path.{◌≡◌, refl, sym, ap, ◌∙◌}
 use native.Mathlib.Omega.{arith}
 use native.Mathlib.Nat.{add-zero, add-suc, suc-add}
 use native.Mathlib.Numerals.{add-one, sub-one}
 use lib.ListN.{length, get_or, take, drop, set, length-append, take-append-drop}
-use lib.Seq.{sets, set_comm, set_out, take-suc, take_all, length-take-le, length-sets}
+use lib.Seq.{sets, sets-eq, set_comm, set_out, take_all, length-take-le, length-sets, drop-drop, take-suc}
 use Rattle.digits.specs.Digits.{digits, number_text}
 use Rattle.digits.proofs.Tests.{by_less}
-use Rattle.digits.proofs.Reading.{inside, under, over}
+use Rattle.digits.proofs.Reading.{inside}
 
 pub length_digits : (w n : ℕ) → length (digits w n) ≡ w
 unfolding digits
@@ -17,23 +17,23 @@ length_digits zero n = refl
 length_digits (suc w) n = length-append (digits w (n / 10)) _ ∙ rw (length_digits w (n / 10)) (add-one w)
 
 -- two runs, one after the other, are one
-pub sets_append : (l : List ℕ) (i : ℕ) (xs ys : List ℕ) → sets l i (xs ++ ys) ≡ sets (sets l i xs) (i + length xs) ys
+pub sets_append : {A : Type 0} (l : List A) (i : ℕ) (xs ys : List A) → sets l i (xs ++ ys) ≡ sets (sets l i xs) (i + length xs) ys
 sets_append l i [] ys = rw (add-zero i)
 sets_append l i (a ∷ xs) ys = sets_append (set l i a) (suc i) xs ys ∙ rw (add-suc i (length xs), suc-add i (length xs))
 
 -- a run that starts past the end stores nothing
-pub sets_beyond : (l : List ℕ) (i : ℕ) (vs : List ℕ) → length l ≤ i → sets l i vs ≡ l
+pub sets_beyond : {A : Type 0} (l : List A) (i : ℕ) (vs : List A) → length l ≤ i → sets l i vs ≡ l
 sets_beyond l i [] h = refl
 sets_beyond l i (b ∷ vs) h = rw (set_out l i b h) (sets_beyond l (suc i) vs (omega arith))
 
--- a run that is one byte longer
+-- a run that is one item longer
 pub run_more : (l : List ℕ) (at : ℕ) (vs : List ℕ) (i : ℕ) → i < length vs → set (sets l at (take i vs)) (at + i) (get_or vs i 0) ≡ sets l at (take (i + 1) vs)
 run_more l at vs i h =
     let n = length-take-le i vs (omega arith) in
     sym (rw (add-one i, take-suc vs i 0 h) (sets_append l at (take i vs) (get_or vs i 0 ∷ []) ∙ ap (λ (k : ℕ). set (sets l at (take i vs)) (at + k) (get_or vs i 0)) n))
 
--- a run stores just those of its bytes that fit
-pub run_whole : (l : List ℕ) (at : ℕ) (vs : List ℕ) (n : ℕ) → n ≡ min (length l - at) (length vs) → at < length l → sets l at (take n vs) ≡ sets l at vs
+-- a run stores just those of its items that fit
+pub run_whole : {A : Type 0} (l : List A) (at : ℕ) (vs : List A) (n : ℕ) → n ≡ min (length l - at) (length vs) → at < length l → sets l at (take n vs) ≡ sets l at vs
 run_whole l at vs n e h =
     by_less n (length vs)
     (λ k.
@@ -44,6 +44,13 @@ run_whole l at vs n e h =
     ∙ sets_append l at (take n vs) (drop n vs)
     ∙ sets_beyond (sets l at (take n vs)) (at + length (take n vs)) (drop n vs) (omega (arith, e, k, h, t, z))))
     (λ k. ap (sets l at) (take_all n vs k))
+
+-- a part of l replaced by as many items as fit in it
+pub part_run : {A : Type 0} (l : List A) (at : ℕ) (vs : List A) (n : ℕ) → n ≡ min (length l - at) (length vs) → at < length l → take at l ++ (take n vs ++ drop n (drop at l)) ≡ sets l at vs
+part_run l at vs n e h =
+    let t : length (take n vs) ≡ n = length-take-le n vs (omega arith) in
+    let i : at + length (take n vs) ≤ length l = omega (arith, t) in
+    rw drop-drop (sym (append_assoc (take at l) (take n vs) (drop (at + n) l))) ∙ sym (rw t at (sets-eq (take n vs) l at i)) ∙ run_whole l at vs n e h
 
 -- a store past a run may be made before it
 set_sets : (l : List ℕ) (i : ℕ) (vs : List ℕ) (j d : ℕ) → i + length vs ≤ j → sets (set l j d) i vs ≡ set (sets l i vs) j d
@@ -79,9 +86,3 @@ put_done l at (suc w) n h = absurd (omega arith)
 
 pub some_text : (l : List ℕ) (at w n : ℕ) → 1 ≤ w → w ≤ 20 → put_from l at w n ≡ sets l at (number_text w n)
 some_text l at w n h k = rw (inside 1 20 w h k) (put_from_sets l at w n)
-
-pub none_text : (l : List ℕ) (at w n : ℕ) → w < 1 → l ≡ sets l at (number_text w n)
-none_text l at w n h = rw (under 1 20 w h)
-
-pub over_text : (l : List ℕ) (at w n : ℕ) → 20 < w → l ≡ sets l at (number_text w n)
-over_text l at w n h = rw (over 1 20 w h)

@@ -1,7 +1,5 @@
 -- Numbers as ASCII digits with leading zeros.
-use Rattle.std.specs.Prelude.{ℕ, zero, suc, ◌+◌, ◌-◌, ◌*◌, ◌/◌, ◌%◌, List, [], ◌∷◌, ◌++◌, Bool, cond, ◌&&◌, get_or, leb}
-use Rattle.digits.specs.declared.Number.{Number}
-use Rattle.digits.specs.declared.Number.TheVariants.{Is, Wrong}
+use Rattle.std.specs.Prelude.{ℕ, zero, suc, ◌+◌, ◌-◌, ◌*◌, ◌/◌, ◌%◌, List, [], ◌∷◌, ◌++◌, Bool, cond, ◌&&◌, get_or, leb, Option, Some, None}
 
 -- the widths, in digits, of numbers that are read: the longest field has ten
 abbrev pub is_width : ℕ → Bool
@@ -25,10 +23,10 @@ abbrev pub number_text : ℕ → ℕ → List ℕ
 number_text w n = cond (is_put_width w) (digits w n) []
 
 -- reads w more digits from place p of s, after digits whose value is v; a place past the end has no digit
-unfoldable pub number_from : List ℕ → ℕ → ℕ → ℕ → Number
-number_from s p zero v = Is v
-number_from s p (suc w) v = cond (is_digit (get_or s p 0)) (number_from s (suc p) w (v * 10 + (get_or s p 0 - 48))) Wrong
+unfoldable pub number_from : List ℕ → ℕ → ℕ → ℕ → Option ℕ
+number_from s p zero v = Some v
+number_from s p (suc w) v = cond (is_digit (get_or s p 0)) (number_from s (suc p) w (v * 10 + (get_or s p 0 - 48))) None
 
 -- the number of w digits at place `at` of s
-unfoldable pub number_at : List ℕ → ℕ → ℕ → Number
-number_at s at w = cond (is_width w) (number_from s at w 0) Wrong
+unfoldable pub number_at : List ℕ → ℕ → ℕ → Option ℕ
+number_at s at w = cond (is_width w) (number_from s at w 0) None

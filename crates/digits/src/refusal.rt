@@ -1,4 +1,5 @@
 // The table of refusals: why a call is refused, by number. These numbers are at no other place in the code.
+// They are constants, and a refusal is three numbers, because the C interface reports them so.
 ghost use Rattle.std.specs.Prelude.{◌≡◌};
 ghost use Rattle.digits.specs.Refusals as R;
 
@@ -39,7 +40,7 @@ pub const NO_SUCH: u32 = 17;
 pub const PAGE: u32 = 18;
 
 // Only FIELD and RECORD have an offset, and only FIELD has the offset of a spoiled byte; for the others they are 0.
-#[derive(Clone, Copy)]
+#[derive(Clone, Copy, Debug, Default, PartialEq, Eq)]
 pub struct Refusal {
     pub number: u32,
     pub offset: u32,

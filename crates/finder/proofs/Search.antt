@@ -10,7 +10,8 @@ use lib.ListN.{length, get_or, take, drop, drop_of_length-le, length-append}
 use lib.Seq.{slice, drop-cons, take-suc, drop-append-le, length-take-le, length-slice, slice_empty}
 use Rattle.frames.specs.Kind.{CR}
 use Rattle.finder.specs.declared.Found.{Found}
-use Rattle.finder.specs.declared.Found.TheVariants.{Whole, Cut, Nothing}
+use Rattle.finder.specs.declared.Found.TheVariants.{Whole, Cut}
+use Rattle.std.specs.Prelude.{Option, Some, None}
 use Rattle.finder.specs.Leads.{is_lead}
 use Rattle.finder.specs.Pieces.{inside, walk, pieces_from, first_of, found_from}
 
@@ -21,7 +22,7 @@ module _ (s : List ℕ) (i : ℕ) where
   unfolding found_from pieces_from walk
   skipped h e = rw (drop-cons s i 0 h, e, add-one i)
 
-  pub none : length s ≤ i → found_from s i ≡ Nothing
+  pub none : length s ≤ i → found_from s i ≡ None
   unfolding found_from pieces_from walk
   none h = rw (drop_of_length-le s h)
 
@@ -34,7 +35,7 @@ longer s a i g h =
 
 module _ (s : List ℕ) (a : ℕ) where
   -- the answer for the frame, from place i on
-  unfoldable pub answer_at : ℕ → Found
+  unfoldable pub answer_at : ℕ → Option Found
   answer_at i = first_of (walk (inside a (slice a i s)) i (drop i s))
 
   pub begun : a < length s → is_lead (get_or s a 0) ≡ true → found_from s a ≡ answer_at (a + 1)
@@ -42,20 +43,20 @@ module _ (s : List ℕ) (a : ℕ) where
   begun h e = rw (add-one a, longer s a a (omega arith) h, slice_empty a s, drop-cons s a 0 h, e)
 
   module _ (i : ℕ) (g : a ≤ i) where
-    pub end_cuts : i ≡ length s → answer_at i ≡ Cut a (record { at = length s })
+    pub end_cuts : i ≡ length s → answer_at i ≡ Some (Cut a (record { at = length s }))
     unfolding answer_at walk
     end_cuts h =
         let l : a + length (slice a i s) ≡ length s = rw (length-slice a i s (omega arith)) (omega arith) in
         rw (drop_of_length-le s {i = i} (omega arith), l)
 
     module _ (h : i < length s) where
-      pub lead_cuts : is_lead (get_or s i 0) ≡ true → answer_at i ≡ Cut a (record { at = i })
+      pub lead_cuts : is_lead (get_or s i 0) ≡ true → answer_at i ≡ Some (Cut a (record { at = i }))
       unfolding answer_at walk
       lead_cuts e =
           let l : a + length (slice a i s) ≡ i = rw (length-slice a i s (omega arith)) (omega arith) in
           rw (drop-cons s i 0 h, e, l)
 
-      pub ends : is_lead (get_or s i 0) ≡ false → get_or s i 0 ≡ CR → answer_at i ≡ Whole a (i + 1) (record { at = i + 1 })
+      pub ends : is_lead (get_or s i 0) ≡ false → get_or s i 0 ≡ CR → answer_at i ≡ Some (Whole a (i + 1) (record { at = i + 1 }))
       unfolding answer_at walk
       ends e d =
           let l : a + length (slice a i s ++ (get_or s i 0 ∷ [])) ≡ i + 1 =

@@ -9,7 +9,8 @@ use lib.ListN.{length, take, drop, length-append, length-drop}
 use lib.Seq.{slice, take-nil}
 use Rattle.frames.specs.Kind.{CR}
 use Rattle.finder.specs.declared.Found.{Found}
-use Rattle.finder.specs.declared.Found.TheVariants.{Whole, Cut, Nothing}
+use Rattle.finder.specs.declared.Found.TheVariants.{Whole, Cut}
+use Rattle.std.specs.Prelude.{Option, Some, None}
 use Rattle.finder.specs.Pieces.{Piece, whole, cut, start_of, bytes_of, end_of, pieces_from, first_of, found_from}
 use Rattle.finder.specs.Demands.{is_open, Right, All, InOrder}
 use Rattle.finder.proofs.Walk.{pieces_right, GoesOn, goes_on, pieces_ordered, fits}
@@ -21,10 +22,10 @@ pub record Next (s : List ℕ) (at a e : ℕ) (p : Piece) : Type 0 where
   pub some : a < e
   pub within : e ≤ length s
 
-abbrev pub Told : List ℕ → ℕ → Found → Type 0
-Told s at (Whole a e c) = Next s at a e (whole a (slice a e s)) × (c.at ≡ e)
-Told s at (Cut a c) = Next s at a c.at (cut a (slice a c.at s))
-Told s at Nothing = pieces_from s at ≡ []
+abbrev pub Told : List ℕ → ℕ → Option Found → Type 0
+Told s at (Some (Whole a e c)) = Next s at a e (whole a (slice a e s)) × (c.at ≡ e)
+Told s at (Some (Cut a c)) = Next s at a c.at (cut a (slice a c.at s))
+Told s at None = pieces_from s at ≡ []
 
 -- ---- the bytes of a piece
 

@@ -1,12 +1,12 @@
 -- What is demanded of cutting a capture into frames.
-use Rattle.std.specs.Prelude.{ℕ, zero, suc, ◌+◌, ◌≤◌, List, [], ◌∷◌, ◌++◌, Bool, true, false, cond, not, ◌&&◌, ◌≡◌, eqb, length, take, drop}
+use Rattle.std.specs.Prelude.{ℕ, zero, suc, ◌+◌, ◌≤◌, List, [], ◌∷◌, ◌++◌, Bool, true, false, cond, not, ◌&&◌, ◌≡◌, eqb, length, take, drop, Some, None}
 use Rattle.std.proofs.Math.Seq.{slice}
 use Rattle.digits.specs.Told.{gives}
 use Rattle.frames.specs.Kind.{Kind, CR, read}
 use Rattle.frames.specs.Request.{request}
 use Rattle.frames.specs.Reply.{reply}
 use Rattle.frames.specs.Dynamic.{dynamic}
-use Rattle.finder.specs.declared.Found.TheVariants.{Whole, Cut, Nothing}
+use Rattle.finder.specs.declared.Found.TheVariants.{Whole, Cut}
 use Rattle.finder.specs.declared.Cursor.{Cursor}
 use Rattle.finder.specs.Leads.{is_lead}
 use Rattle.finder.specs.Pieces.{Piece, whole, cut, start_of, bytes_of, end_of, pieces_from, pieces, found_from}
@@ -81,13 +81,13 @@ pub record Disjoint : Type 0 where
 -- ---- calls, one after the other
 
 -- the pieces that calls on s return, one after the other: each call starts from the cursor that the last one returned,
--- and the last call returns Nothing
+-- and the last call returns None
 pub data Run (s : List ℕ) : ℕ → List Piece → Type 0 where
-  over : {at : ℕ} → found_from s at ≡ Nothing → Run s at []
+  over : {at : ℕ} → found_from s at ≡ None → Run s at []
   tells_whole : {at start end : ℕ} {next : Cursor} {ps : List Piece}
-      → found_from s at ≡ Whole start end next → Run s next.at ps → Run s at (whole start (slice start end s) ∷ ps)
+      → found_from s at ≡ Some (Whole start end next) → Run s next.at ps → Run s at (whole start (slice start end s) ∷ ps)
   tells_cut : {at start : ℕ} {next : Cursor} {ps : List Piece}
-      → found_from s at ≡ Cut start next → Run s next.at ps → Run s at (cut start (slice start next.at s) ∷ ps)
+      → found_from s at ≡ Some (Cut start next) → Run s next.at ps → Run s at (cut start (slice start next.at s) ∷ ps)
 
 -- from any place, the calls return just the pieces of the capture from there on
 abbrev pub CallsTellPieces : Type 0

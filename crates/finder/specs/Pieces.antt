@@ -1,8 +1,8 @@
 -- The frames of a capture, whole and cut, found by a walk over its bytes.
-use Rattle.std.specs.Prelude.{ℕ, suc, ◌+◌, List, [], ◌∷◌, ◌++◌, cond, eqb, length, drop}
+use Rattle.std.specs.Prelude.{ℕ, suc, ◌+◌, List, [], ◌∷◌, ◌++◌, cond, eqb, length, drop, Option, Some, None}
 use Rattle.frames.specs.Kind.{CR}
 use Rattle.finder.specs.declared.Found.{Found}
-use Rattle.finder.specs.declared.Found.TheVariants.{Whole, Cut, Nothing}
+use Rattle.finder.specs.declared.Found.TheVariants.{Whole, Cut}
 use Rattle.finder.specs.Leads.{is_lead}
 
 -- a frame that was found, whole or cut: its start, and its bytes
@@ -47,11 +47,11 @@ pieces_from s at = walk outside at (drop at s)
 abbrev pub pieces : List ℕ → List Piece
 pieces s = pieces_from s 0
 
--- the answer of a call: the first of the pieces that are left, or Nothing
-abbrev pub first_of : List Piece → Found
-first_of [] = Nothing
-first_of (whole start bytes ∷ ps) = Whole start (start + length bytes) (record { at = start + length bytes })
-first_of (cut start bytes ∷ ps) = Cut start (record { at = start + length bytes })
+-- the answer of a call: the first of the pieces that are left, or None
+abbrev pub first_of : List Piece → Option Found
+first_of [] = None
+first_of (whole start bytes ∷ ps) = Some (Whole start (start + length bytes) (record { at = start + length bytes }))
+first_of (cut start bytes ∷ ps) = Some (Cut start (record { at = start + length bytes }))
 
-unfoldable pub found_from : List ℕ → ℕ → Found
+unfoldable pub found_from : List ℕ → ℕ → Option Found
 found_from s at = first_of (pieces_from s at)

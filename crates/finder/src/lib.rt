@@ -1,7 +1,7 @@
 // Cuts a capture into frames. Each call returns the next frame from a cursor on.
 #![tactic(auto)]
 
-ghost use Rattle.std.specs.Prelude.{◌≡◌, true, false, ◌<◌, length, get_or};
+ghost use Rattle.std.specs.Prelude.{◌≡◌, true, false, ◌<◌, Some, length, get_or};
 ghost use Rattle.finder.specs.Leads.{is_lead};
 ghost use Rattle.finder.specs.Pieces.{found_from};
 ghost use Rattle.finder.specs.inside.Quiet.{block_size, is_stop, Quiet};
@@ -16,12 +16,12 @@ const CR: u8 = 13;
 const BLOCK: usize = 16;
 
 // A place in the capture. The first call starts at 0.
-#[derive(Clone, Copy)]
+#[derive(Clone, Copy, Debug, Default, PartialEq, Eq)]
 pub struct Cursor {
     pub at: usize,
 }
 
-#[derive(Clone, Copy)]
+#[derive(Clone, Copy, Debug, PartialEq, Eq)]
 pub enum Found {
     // The frame is the bytes from start up to end; the last of them is its CR.
     Whole {
@@ -34,32 +34,27 @@ pub enum Found {
         start: usize,
         next: Cursor,
     },
-    // No frame begins at the cursor or after it.
-    Nothing,
 }
 
-// The first frame that begins at the cursor or after it. A cursor past the end finds nothing.
-pub fn next(s: &[u8], from: Cursor) -> Found
+// The first frame that begins at the cursor or after it; None if no frame does. A cursor past the end finds none.
+pub fn next(s: &[u8], from: Cursor) -> Option<Found>
     ensures { result ≡ found_from s.now from.at }
 {
     // REQUEST_LEAD begins a frame itself, so only lead bytes are looked for.
-    let mut i = quiet_until(s, from.at, REQUEST_LEAD);
-    while i < s.len() {
+    for i in quiet_until(s, from.at, REQUEST_LEAD)..s.len() {
         if is_lead(s[i]) {
-            return frame_at(s, i);
+            return Some(frame_at(s, i));
         }
-        i += 1;
     }
-    Found::Nothing
+    None
 }
 
 // The frame whose lead byte is at start.
 fn frame_at(s: &[u8], start: usize) -> Found
     requires { (start < length s.now) × (is_lead (get_or s.now start 0) ≡ true) }
-    ensures { result ≡ found_from s.now start }
+    ensures { Some result ≡ found_from s.now start }
 {
-    let mut i = quiet_until(s, start + 1, CR);
-    while i < s.len() {
+    for i in quiet_until(s, start + 1, CR)..s.len() {
         let b = s[i];
         let after = i + 1;
         if is_lead(b) {
@@ -75,7 +70,6 @@ fn frame_at(s: &[u8], start: usize) -> Found
                 next: Cursor { at: after },
             };
         }
-        i = after;
     }
     Found::Cut {
         start,
@@ -84,6 +78,7 @@ fn frame_at(s: &[u8], start: usize) -> Found
 }
 
 // A place up to which no byte from `from` on begins a frame or is `also`. Blocks are passed as long as there is no such byte in them.
+// The loop stays a `while`, because its last place is the answer: a `for` over the blocks would need that place beside it.
 fn quiet_until(s: &[u8], from: usize, also: u8) -> usize
     ensures { Quiet s.now also from result }
 {
@@ -107,10 +102,8 @@ fn any_stop(block: &[u8], also: u8) -> bool
     ensures { result ≡ false → Quiet block.now also 0 block_size }
 {
     let mut any = false;
-    let mut i = 0;
-    while i < BLOCK {
-        any = any | is_stop(block[i], also);
-        i += 1;
+    for i in 0..BLOCK {
+        any |= is_stop(block[i], also);
     }
     any
 }

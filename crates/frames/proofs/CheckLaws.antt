@@ -1,4 +1,5 @@
 -- The quick check of a reply tests what the reader tests. Assumes nothing.
+use Rattle.std.specs.Prelude.{Option, Some, None}
 use Prim.Native.Nat.{ℕ, zero, suc, ◌+◌, ◌*◌, ◌<◌, ◌≤◌}
 use mathlib.Core.List.{List}
 use mathlib.Core.Bool.{Bool, true, false, true≢false, false≢true, cond, not, ◌&&◌, ◌||◌, and-eq-true_iff, and_comm}
@@ -7,8 +8,6 @@ use native.Mathlib.Omega.{arith}
 use lib.Dec.{eqb, leb}
 use lib.ListN.{length, get_or}
 use borrow.Author.Tests.{leb-true, le-leb, lt-leb, eqb-true, eq-eqb, ne_eqb}
-use Rattle.digits.specs.declared.Number.{Number}
-use Rattle.digits.specs.declared.Number.TheVariants.{Is, Wrong}
 use Rattle.digits.specs.Text.{one_of}
 use Rattle.digits.specs.Refusals.{FIELD}
 use Rattle.digits.specs.Told.{Told, gives, refuses, tried}
@@ -16,14 +15,13 @@ use Rattle.digits.specs.Digits.{is_digit, number_at}
 use Rattle.digits.specs.Form.{named}
 use Rattle.digits.proofs.Tests.{by-test}
 use Rattle.times.specs.Clock.{last_tick, is_hour, is_sixtieth, hours, minutes, seconds, fraction, ticks_of, clock, is_time}
-use Rattle.times.specs.inside.Clock.{part_of, ticks_from}
+use Rattle.times.specs.inside.Clock.{ticks_from}
 use Rattle.times.specs.Day.{real_day}
 use Rattle.times.specs.Net.{is_net}
 use Rattle.times.proofs.ClockLaws.{time_in_parts}
 use Rattle.times.proofs.DayLaws.{day_bounds}
 use Rattle.times.proofs.NetLaws.{net_is}
 use Rattle.frames.specs.declared.reply.StaticReply.{StaticReply}
-use Rattle.frames.specs.declared.refusals.ReadVerdict.TheVariants.{Read}
 use Rattle.frames.specs.Rules.{between, up_to, is_address, is_raw, is_requester}
 use Rattle.frames.specs.Status.{is_status}
 use Rattle.frames.specs.Shape.{all_from}
@@ -66,6 +64,18 @@ module _ {r t : Bool} (is : r ≡ t) where
   pub failed : r ≡ false → t ≡ false
   failed e = sym is ∙ e
 
+-- the value of two tests, of which the second is made only if the first holds
+pub made : {a b r : Bool} → a ≡ true → r ≡ b → r ≡ a && b
+made e f = rw (e, f)
+
+pub unmade : {a r : Bool} (b : Bool) → a ≡ false → r ≡ false → r ≡ a && b
+unmade b e f = rw (e, f)
+
+regrouped : (a b c d : Bool) → (a && b && c) && d ≡ a && (b && (c && d))
+regrouped true true c d = refl
+regrouped true false c d = refl
+regrouped false b c d = refl
+
 -- ---- a time of day from its digits
 
 -- the time HHMMSSdddd is 0 if this number is
@@ -77,7 +87,7 @@ ticks_zero (suc k) = go (is_hour (hours (suc k)) && is_sixtieth (minutes (suc k)
     some : (h m c f : ℕ) → ((h * 100 + m) * 100 + c) * 10000 + f ≡ suc k → ((h * 60 + m) * 60 + c) * 10000 + f ≡ 0 → ⊥
     some h m c f e z = omega arith
 
-    go : (t : Bool) → eqb (or_none (cond t (Is (((hours (suc k) * 60 + minutes (suc k)) * 60 + seconds (suc k)) * 10000 + fraction (suc k))) Wrong)) 0 ≡ false
+    go : (t : Bool) → eqb (or_none (cond t (Some (((hours (suc k) * 60 + minutes (suc k)) * 60 + seconds (suc k)) * 10000 + fraction (suc k))) None)) 0 ≡ false
     go true = ne_eqb _ 0 (some (hours (suc k)) (minutes (suc k)) (seconds (suc k)) (fraction (suc k)) (omega arith))
     go false = refl
 
@@ -87,7 +97,7 @@ ticks_time h m c f k =
     by-test (leb h 23)
     (λ a. by-test (leb m 59)
     (λ b. by-test (leb c 59)
-    (λ d. rw (a, b, d, le-leb f 9999 k) (le-leb (((h * 60 + m) * 60 + c) * 10000 + f) last_tick (omega (arith, leb-true h 23 a, leb-true m 59 b, leb-true c 59 d, k))))
+    (λ d. rw (a, b, d) (le-leb (((h * 60 + m) * 60 + c) * 10000 + f) last_tick (omega (arith, leb-true h 23 a, leb-true m 59 b, leb-true c 59 d, k))))
     (λ d. rw (a, b, d)))
     (λ b. rw (a, b)))
     (λ a. rw a)
@@ -131,10 +141,13 @@ module _ (s : List ℕ) where
   abbrev spare : Bool
   spare = all_from is_raw s 48 2
 
+  abbrev pub spare_and_time : Bool
+  spare_and_time = spare && time
+
   -- ---- the time
 
   time_zero : all_from is_digit s 30 10 ≡ true → eqb (or_none (clock.got s 30)) 0 ≡ all_from is_zero s 30 10
-  time_zero e = ap (λ (n : Number). eqb (or_none (named ticks_of n)) 0) (D.is_number s 30 10 refl e) ∙ ticks_zero (D.value_from s 30 10 0) ∙ D.value_zero s 30 10 0 e
+  time_zero e = ap (λ (n : Option ℕ). eqb (or_none (named ticks_of n)) 0) (D.is_number s 30 10 refl e) ∙ ticks_zero (D.value_from s 30 10 0) ∙ D.value_zero s 30 10 0 e
 
   time_tests : all_from is_digit s 30 10 ≡ true → leb (or_none (number_at s 30 2)) 23 && leb (get_or s 32 0) 53 && leb (get_or s 34 0) 53 ≡ time
   unfolding up_to
@@ -142,13 +155,13 @@ module _ (s : List ℕ) where
       let a = D.parted s is_digit 30 2 8 e in
       let b = D.parted s is_digit 32 2 6 a.1 in
       let c = D.parted s is_digit 34 2 4 b.1 in
-      let h : number_at s 30 2 ≡ Is (D.value_from s 30 2 0) = D.is_number s 30 2 refl a.0 in
-      let m : number_at s 32 2 ≡ Is (D.value_from s 32 2 0) = D.is_number s 32 2 refl b.0 in
-      let n : number_at s 34 2 ≡ Is (D.value_from s 34 2 0) = D.is_number s 34 2 refl c.0 in
-      let f : number_at s 36 4 ≡ Is (D.value_from s 36 4 0) = D.is_number s 36 4 refl c.1 in
+      let h : number_at s 30 2 ≡ Some (D.value_from s 30 2 0) = D.is_number s 30 2 refl a.0 in
+      let m : number_at s 32 2 ≡ Some (D.value_from s 32 2 0) = D.is_number s 32 2 refl b.0 in
+      let n : number_at s 34 2 ≡ Some (D.value_from s 34 2 0) = D.is_number s 34 2 refl c.0 in
+      let f : number_at s 36 4 ≡ Some (D.value_from s 36 4 0) = D.is_number s 36 4 refl c.1 in
       let small : D.value_from s 36 4 0 ≤ 9999 = omega (arith, (D.value_bounds s 36 4 0 c.1).1) in
-      let t : ticks_from (part_of (number_at s 30 2)) (part_of (number_at s 32 2)) (part_of (number_at s 34 2)) (part_of (number_at s 36 4)) ≡ clock.got s 30 = time_in_parts s 30 in
-      let u : ticks_from (D.value_from s 30 2 0) (D.value_from s 32 2 0) (D.value_from s 34 2 0) (D.value_from s 36 4 0) ≡ clock.got s 30 = rw (h, m, n, f) at t in
+      let u : ticks_from (D.value_from s 30 2 0) (D.value_from s 32 2 0) (D.value_from s 34 2 0) (D.value_from s 36 4 0) ≡ clock.got s 30 =
+      time_in_parts s 30 (Some _) (Some _) (Some _) (Some _) (sym h) (sym m) (sym n) (sym f) in
       let x : leb (or_none (number_at s 32 2)) 59 ≡ leb (get_or s 32 0) 53 = D.by_first s 32 1 5 59 refl refl b.0 in
       let y : leb (or_none (number_at s 34 2)) 59 ≡ leb (get_or s 34 0) 53 = D.by_first s 34 1 5 59 refl refl c.0 in
       rw (← x, ← y, ← u, h, m, n) (sym (ticks_time (D.value_from s 30 2 0) (D.value_from s 32 2 0) (D.value_from s 34 2 0) (D.value_from s 36 4 0) small))
@@ -292,7 +305,7 @@ module _ (s : List ℕ) where
   given r e =
       let head = then_gives (head_told 18 51 s) (fields_of reply_fields 2 s) r e in
       let p = passed 18 51 s head.0 in
-      let told : tried (eqb (wrong_at s) 0) (FIELD (wrong_at s) (spoiled_byte s)) (gives (reply_at s)) ≡ gives r = fields_told s Read refl (sym head.0) ∙ e in
+      let told : tried (eqb (wrong_at s) 0) (FIELD (wrong_at s) (spoiled_byte s)) (gives (reply_at s)) ≡ gives r = fields_told s (sym head.0) ∙ e in
       let fine = eqb-true (wrong_at s) 0 (tried_gives (eqb (wrong_at s) 0) _ _ r told).0 in
       let f = head_fine (head_at s) (seen_in s).wrong fine in
       let digits : Numbers = record {
@@ -365,7 +378,7 @@ module _ (s : List ℕ) where
         status.1,
       ) (eqb-true (seen_in s).wrong 0 values.1) in
       let head = head_good 18 51 s (omega arith) (eqb-true (get_or s 0 0) 18 lead.0) long (eqb-true (get_or s 50 0) CR last.1) (eqb-true (get_or s 1 0) letter_r lead.1) address.0 in
-      let told : tried (eqb (wrong_at s) 0) (FIELD (wrong_at s) (spoiled_byte s)) (gives (reply_at s)) ≡ read reply s = fields_told s Read refl head in
+      let told : tried (eqb (wrong_at s) 0) (FIELD (wrong_at s) (spoiled_byte s)) (gives (reply_at s)) ≡ read reply s = fields_told s head in
       rw (← told, eq-eqb (wrong_at s) 0 fine)
 
   -- `is_reply`, by the test at which it stops
@@ -382,20 +395,17 @@ module _ (s : List ℕ) where
     reply_is : quick ≡ is_good (read reply s)
     reply_is = same_test quick (is_good (read reply s)) (quick_good long) good_quick
 
+    -- the check stops at a test before time and date, or goes on to them
     pub no_digits : all_from is_digit s 7 22 ≡ false → false ≡ is_good (read reply s)
     no_digits e = rw e at reply_is
 
     module _ (digits : all_from is_digit s 7 22 ≡ true) where
-      pub no_bounds : bounds_good s ≡ false → false ≡ is_good (read reply s)
-      no_bounds e = rw (digits, e) at reply_is
+      tests : (bounds_good s && codes_good s && values_good s) && eqb (seen_in s).wrong 0 ≡ is_good (read reply s)
+      tests = regrouped (bounds_good s) (codes_good s) (values_good s) (eqb (seen_in s).wrong 0) ∙ (rw digits at reply_is)
 
-      module _ (bounds : bounds_good s ≡ true) where
-        pub no_codes : codes_good s ≡ false → false ≡ is_good (read reply s)
-        no_codes e = rw (digits, bounds, e) at reply_is
+      -- the check stops at a test before time and date, or goes on to them
+      pub reply_stops : bounds_good s && codes_good s && values_good s ≡ false → false ≡ is_good (read reply s)
+      reply_stops e = ap (λ (t : Bool). t && eqb (seen_in s).wrong 0) (sym e) ∙ tests
 
-        module _ (codes : codes_good s ≡ true) where
-          pub no_values : values_good s ≡ false → false ≡ is_good (read reply s)
-          no_values e = rw (digits, bounds, codes, e) at reply_is
-
-          pub all_good : values_good s ≡ true → eqb (seen_in s).wrong 0 ≡ is_good (read reply s)
-          all_good e = rw (digits, bounds, codes, e) at reply_is
+      pub reply_goes_on : bounds_good s && codes_good s && values_good s ≡ true → eqb (seen_in s).wrong 0 ≡ is_good (read reply s)
+      reply_goes_on e = ap (λ (t : Bool). t && eqb (seen_in s).wrong 0) (sym e) ∙ tests

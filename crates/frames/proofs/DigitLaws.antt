@@ -1,4 +1,5 @@
 -- Runs of digits: in parts, as numbers, and as sums of their bytes. Assumes nothing.
+use Rattle.std.specs.Prelude.{Option, Some, None}
 use Prim.Native.Nat.{ℕ, zero, suc, ◌+◌, ◌-◌, ◌*◌, ◌^◌, ◌≤◌, ◌<◌}
 use mathlib.Core.List.{List}
 use mathlib.Core.Bool.{Bool, true, false, true≢false, ◌&&◌, and-eq-true_iff, and-true, and_assoc}
@@ -8,8 +9,6 @@ use native.Mathlib.Nat.{add-zero, zero-add, suc-add, pow-zero, pow-succ', mul_as
 use lib.Dec.{eqb, leb}
 use lib.ListN.{get_or}
 use borrow.Author.Tests.{le-leb, lt-leb, eq-eqb, ne_eqb}
-use Rattle.digits.specs.declared.Number.{Number}
-use Rattle.digits.specs.declared.Number.TheVariants.{Is, Wrong}
 use Rattle.digits.specs.Digits.{is_width, is_digit, number_from, number_at}
 use Rattle.digits.proofs.Reading.{between}
 use Rattle.digits.proofs.Tests.{by-test, by_less}
@@ -17,7 +16,6 @@ use Rattle.frames.specs.Rules.{up_to}
 use Rattle.frames.specs.Shape.{all_from}
 use Rattle.frames.specs.inside.Held.{or_none}
 use Rattle.frames.specs.inside.Check.{is_zero}
-use Rattle.frames.proofs.RuleLaws.{up_to_law}
 
 module _ (s : List ℕ) where
   -- ---- a run in two parts
@@ -53,12 +51,6 @@ module _ (s : List ℕ) where
   later_digit : (p a w : ℕ) → all_from is_digit s p (a + suc w) ≡ true → DigitAt (p + a)
   later_digit p a w e = first_digit (p + a) w (parted is_digit p a (suc w) e).1
 
-  pub two_digits : (at : ℕ) → all_from is_digit s at 2 ≡ true → DigitAt at × DigitAt (at + 1)
-  two_digits at e = (first_digit at 1 e, later_digit at 1 0 e)
-
-  pub three_digits : (at : ℕ) → all_from is_digit s at 3 ≡ true → DigitAt at × DigitAt (at + 1) × DigitAt (at + 2)
-  three_digits at e = (first_digit at 2 e, later_digit at 1 1 e, later_digit at 2 0 e)
-
   -- ---- digits are a number, and other bytes are none
 
   -- the value of w digits from place p on, after digits whose value is v
@@ -66,14 +58,14 @@ module _ (s : List ℕ) where
   value_from p zero v = v
   value_from p (suc w) v = value_from (suc p) w (v * 10 + (get_or s p 0 - 48))
 
-  number_from_law : (p w v : ℕ) → all_from is_digit s p w ≡ true → number_from s p w v ≡ Is (value_from p w v)
+  number_from_law : (p w v : ℕ) → all_from is_digit s p w ≡ true → number_from s p w v ≡ Some (value_from p w v)
   unfolding all_from number_from
   number_from_law p zero v e = refl
   number_from_law p (suc w) v e =
       let q = (and-eq-true_iff (is_digit (get_or s p 0)) (all_from is_digit s (suc p) w)).0 e in
       rw q.0 (number_from_law (suc p) w (v * 10 + (get_or s p 0 - 48)) q.1)
 
-  none_from : (p w v : ℕ) → all_from is_digit s p w ≡ false → number_from s p w v ≡ Wrong
+  none_from : (p w v : ℕ) → all_from is_digit s p w ≡ false → number_from s p w v ≡ None
   unfolding all_from number_from
   none_from p zero v e = absurd (true≢false e)
   none_from p (suc w) v e =
@@ -81,17 +73,17 @@ module _ (s : List ℕ) where
       (λ q. let f : all_from is_digit s (suc p) w ≡ false = rw q at e in rw q (none_from (suc p) w (v * 10 + (get_or s p 0 - 48)) f))
       (λ q. rw q)
 
-  pub is_number : (p w : ℕ) → is_width w ≡ true → all_from is_digit s p w ≡ true → number_at s p w ≡ Is (value_from p w 0)
+  pub is_number : (p w : ℕ) → is_width w ≡ true → all_from is_digit s p w ≡ true → number_at s p w ≡ Some (value_from p w 0)
   unfolding number_at
   is_number p w h e = rw h (number_from_law p w 0 e)
 
   -- where a test holds that is false without a number, there are digits
-  pub digits_by : (test : Number → Bool) → test Wrong ≡ false → (p w : ℕ) → is_width w ≡ true → test (number_at s p w) ≡ true → all_from is_digit s p w ≡ true
+  pub digits_by : (test : Option ℕ → Bool) → test None ≡ false → (p w : ℕ) → is_width w ≡ true → test (number_at s p w) ≡ true → all_from is_digit s p w ≡ true
   unfolding number_at
   digits_by test none p w h e =
       by-test (all_from is_digit s p w) (λ q. q)
       (λ q.
-      let f : number_at s p w ≡ Wrong = rw h (none_from p w 0 q) in
+      let f : number_at s p w ≡ None = rw h (none_from p w 0 q) in
       absurd (true≢false (sym e ∙ ap test f ∙ none)))
 
   -- ---- a number's bound by its first digit
@@ -140,38 +132,49 @@ module _ (s : List ℕ) where
   pub by_width : (p w hi : ℕ) → is_width (suc w) ≡ true → suc hi ≡ 10 * 10 ^ w → all_from is_digit s p (suc w) ≡ true → up_to hi (or_none (number_at s p (suc w))) ≡ true
   by_width p w hi h k e = by_first p w 9 hi h k e ∙ le-leb (get_or s p 0) 57 (first_digit p w e).1
 
-  -- ---- sums of digits, as the code makes them
+  -- ---- a turn of a loop over the digits of a number of at most four: n is what is read of them, the digits before place at + k
 
-  pub two_is : (at : ℕ) → all_from is_digit s at 2 ≡ true → get_or s at 0 * 10 + get_or s (at + 1) 0 - 528 ≡ or_none (number_at s at 2)
-  two_is at e =
-      let d = two_digits at e in
-      let q : suc at ≡ at + 1 = omega arith in
-      let v : or_none (number_at s at 2) ≡ (0 * 10 + (get_or s at 0 - 48)) * 10 + (get_or s (at + 1) 0 - 48) =
-      ap or_none (is_number at 2 refl e) ∙ ap (λ (n : ℕ). (0 * 10 + (get_or s at 0 - 48)) * 10 + (get_or s n 0 - 48)) q in
-      omega arith
+  value_least : (p w v : ℕ) → v ≤ value_from p w v
+  value_least p zero v = omega arith
+  value_least p (suc w) v = let q = value_least (suc p) w (v * 10 + (get_or s p 0 - 48)) in omega (arith, q)
 
-  pub three_is : (at : ℕ) → all_from is_digit s at 3 ≡ true → get_or s at 0 * 100 + get_or s (at + 1) 0 * 10 + get_or s (at + 2) 0 - 5328 ≡ or_none (number_at s at 3)
-  three_is at e =
-      let d = three_digits at e in
-      let q : suc at ≡ at + 1 = omega arith in
-      let r : suc (suc at) ≡ at + 2 = omega arith in
-      let v : or_none (number_at s at 3) ≡ ((0 * 10 + (get_or s at 0 - 48)) * 10 + (get_or s (at + 1) 0 - 48)) * 10 + (get_or s (at + 2) 0 - 48) =
-      ap or_none (is_number at 3 refl e)
-      ∙ ap (λ (n : ℕ). ((0 * 10 + (get_or s at 0 - 48)) * 10 + (get_or s n 0 - 48)) * 10 + (get_or s (suc (suc at)) 0 - 48)) q
-      ∙ ap (λ (n : ℕ). ((0 * 10 + (get_or s at 0 - 48)) * 10 + (get_or s (at + 1) 0 - 48)) * 10 + (get_or s n 0 - 48)) r in
-      omega arith
+  small : (w : ℕ) → w ≤ 4 → 10 ^ w ≤ 10000
+  small zero h = omega arith
+  small (suc zero) h = omega arith
+  small (suc (suc zero)) h = omega arith
+  small (suc (suc (suc zero))) h = omega arith
+  small (suc (suc (suc (suc zero)))) h = omega arith
+  small (suc (suc (suc (suc (suc w))))) h = absurd (omega (arith, h))
 
-  pub two_most : (at : ℕ) → all_from is_digit s at 2 ≡ true → or_none (number_at s at 2) ≤ 99
-  two_most at e = up_to_law 99 (or_none (number_at s at 2)) (by_width at 1 99 refl refl e)
+  module _ (at k w n : ℕ) (more : k < w) (digits : all_from is_digit s at w ≡ true) where
+    pub digit_there : DigitAt (at + k)
+    digit_there = let e : k + suc (w - suc k) ≡ w = omega (arith, more) in later_digit at k (w - suc k) (rw e digits)
 
-  pub four_is : (at : ℕ) → all_from is_digit s at 4 ≡ true → or_none (number_at s at 2) * 100 + or_none (number_at s (at + 2) 2) ≡ or_none (number_at s at 4)
-  four_is at e =
-      let d = parted is_digit at 2 2 e in
-      let q : at + 2 ≡ suc (suc at) = omega arith in
-      let x : or_none (number_at s at 2) ≡ value_from at 2 0 = ap or_none (is_number at 2 refl d.0) in
-      let y : or_none (number_at s (at + 2) 2) ≡ value_from (suc (suc at)) 2 0 = ap or_none (is_number (at + 2) 2 refl d.1) ∙ ap (λ (n : ℕ). value_from n 2 0) q in
-      let z : or_none (number_at s at 4) ≡ value_from at 4 0 = ap or_none (is_number at 4 refl e) in
-      omega (arith, x, y, z)
+    read_on : value_from (at + k) (w - k) n ≡ value_from (at + (k + 1)) (w - (k + 1)) (n * 10 + (get_or s (at + k) 0 - 48))
+    read_on =
+        let e : w - k ≡ suc (w - (k + 1)) = omega (arith, more) in
+        let f : suc (at + k) ≡ at + (k + 1) = omega arith in
+        rw (e, ← f)
+
+    module _ (is : value_from (at + k) (w - k) n ≡ value_from at w 0) where
+      pub number_goes : value_from (at + (k + 1)) (w - (k + 1)) (n * 10 + get_or s (at + k) 0 - 48) ≡ value_from at w 0
+      number_goes =
+          let e : n * 10 + get_or s (at + k) 0 - 48 ≡ n * 10 + (get_or s (at + k) 0 - 48) = omega (arith, digit_there.0) in
+          rw e (sym read_on ∙ is)
+
+      pub number_fits : w ≤ 4 → n * 10 + (get_or s (at + k) 0 - 48) < 10000
+      number_fits h =
+          let a = value_least (at + (k + 1)) (w - (k + 1)) (n * 10 + (get_or s (at + k) 0 - 48)) in
+          let b = (value_bounds at w 0 digits).1 in
+          let c = small w h in
+          omega (arith, a, b, c, sym read_on ∙ is)
+
+  pub number_done : (at k w n : ℕ) → w ≤ k → 1 ≤ w → w ≤ 4 → all_from is_digit s at w ≡ true → value_from (at + k) (w - k) n ≡ value_from at w 0 → n ≡ or_none (number_at s at w)
+  number_done at k w n done low high digits is =
+      let e : w - k ≡ 0 = omega (arith, done) in
+      let width : is_width w ≡ true = rw (le-leb 1 w low, le-leb w 10 (omega (arith, high))) in
+      let whole : n ≡ value_from at w 0 = rw e at is in
+      whole ∙ sym (ap or_none (is_number at w width digits))
 
   -- ---- a number is 0 if its digits are
 
@@ -191,4 +194,4 @@ module _ (s : List ℕ) where
       ∙ and_assoc (eqb v 0) (eqb (get_or s p 0) 48) (all_from is_zero s (suc p) w)
 
   pub number_zero : (p w : ℕ) → is_width w ≡ true → all_from is_digit s p w ≡ true → eqb (or_none (number_at s p w)) 0 ≡ all_from is_zero s p w
-  number_zero p w h e = ap (λ (n : Number). eqb (or_none n) 0) (is_number p w h e) ∙ value_zero p w 0 e
+  number_zero p w h e = ap (λ (n : Option ℕ). eqb (or_none n) 0) (is_number p w h e) ∙ value_zero p w 0 e

@@ -4,8 +4,11 @@ use mathlib.Core.List.{List, [], ◌∷◌, append_assoc}
 use mathlib.Core.Bool.{Bool, true, false, cond}
 use mathlib.Core.Path.{◌≡◌, refl, sym}
 use native.Mathlib.Omega.{arith}
+use lib.Dec.{eqb}
 use lib.ListN.{length, get_or, set}
 use lib.Seq.{sets}
+use Rattle.digits.specs.Refusals.{FIELD}
+use Rattle.digits.specs.Told.{gives, tried}
 use Rattle.digits.specs.Text.{codes, one_of}
 use Rattle.digits.specs.Digits.{digits}
 use Rattle.digits.proofs.Writing.{sets_append, length_digits}
@@ -15,7 +18,7 @@ use Rattle.frames.specs.Rules.{between, up_to, is_address, is_requester, is_outp
 use Rattle.frames.specs.Classes.{digit_from}
 use Rattle.frames.specs.Field.{number_by}
 use Rattle.frames.specs.Layout.{record_wrong, write}
-use Rattle.frames.specs.Kind.{letter_r, CR, wrong_in, frame_of}
+use Rattle.frames.specs.Kind.{letter_r, CR, head_told, read, wrong_in, frame_of}
 use Rattle.frames.specs.Faithful.{Faithful}
 use Rattle.frames.specs.Dynamic.{is_order, is_dynamic_channel, least_period, dynamic_fields, dynamic}
 use Rattle.frames.specs.inside.Held.{dynamic_at}
@@ -24,7 +27,7 @@ use Rattle.frames.proofs.RuleLaws.{up_to_law, in_range_law, none_in_range, or_on
 use Rattle.frames.proofs.LayoutLaws.{unless_none, Sound, end_sound, letter_sound, number_sound, time_sound, Sees, sees_end}
 use Rattle.frames.proofs.ShownLaws.{Shows, number_shows, to_shows, from_one, least, least_positive}
 use Rattle.frames.proofs.SeesLaws.{sees_letter, sees_number, sees_digit, sees_time}
-use Rattle.frames.proofs.KindLaws.{SoundKind, faithful, length_frame}
+use Rattle.frames.proofs.KindLaws.{SoundKind, faithful, length_frame, read_fields}
 
 channel_bound : (v : ℕ) → is_dynamic_channel v ≡ true → v ≤ 255
 unfolding is_dynamic_channel
@@ -118,3 +121,8 @@ pub stores_frame : (r : DynamicRequest) (l : List ℕ) →
     ≡ sets l 0 (frame_of dynamic r)
 unfolding dynamic_fields write frame_of
 stores_frame r l = simp (append_assoc, sets_append, length_digits)
+
+-- a frame that passed the tests of the head is read as its fields say
+pub dynamic_reads : (s : List ℕ) → gives tt ≡ head_told 19 46 s
+    → tried (eqb (wrong_in dynamic (dynamic_at s)) 0) (FIELD (wrong_in dynamic (dynamic_at s)) (dynamic_byte s (wrong_in dynamic (dynamic_at s)))) (gives (dynamic_at s)) ≡ read dynamic s
+dynamic_reads s good = read_fields dynamic s (dynamic_byte s) (wrong_in dynamic (dynamic_at s)) (dynamic_at s) (λ _. sees_dynamic s) good

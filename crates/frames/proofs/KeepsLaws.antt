@@ -9,7 +9,8 @@ use lib.ListN.{length, drop, length-append, length-drop}
 use lib.Seq.{drop_at}
 use Rattle.digits.specs.declared.refusal.Refusal.{Refusal}
 use Rattle.digits.specs.Told.{gives, refuses}
-use Rattle.frames.specs.declared.refusals.WriteAnswer.{WriteAnswer}
+use Rattle.std.specs.Prelude.{Result}
+use Rattle.frames.specs.declared.refusals.WriteRefusal.{WriteRefusal}
 use Rattle.frames.specs.Refusals.{write_told}
 use Rattle.frames.specs.Kind.{Kind, wrong_in, frame_of, write_tried, Wrote}
 use Rattle.frames.specs.Request.{request}
@@ -22,12 +23,12 @@ use Rattle.frames.proofs.ReplyLaws.{length_reply}
 use Rattle.frames.proofs.DynamicLaws.{length_dynamic}
 
 module _ {R : Type 0} (k : Kind R) (long : (r : R) → wrong_in k r ≡ 0 → length (frame_of k r) ≡ k.size) where
-  left : (r : R) (out out' : List ℕ) (a : WriteAnswer) → Wrote k r out a out' → (f : Refusal) → write_told a ≡ refuses f → out' ≡ out
+  left : (r : R) (out out' : List ℕ) (a : Result (Unit {0}) WriteRefusal) → Wrote k r out a out' → (f : Refusal) → write_told a ≡ refuses f → out' ≡ out
   left r out out' a w f e =
       let q : write_tried (wrong_in k r) k.size (length out) ≡ refuses f = sym w.told ∙ e in
       rw q at w.bytes
 
-  only_frame : (r : R) (out out' : List ℕ) (a : WriteAnswer) → Wrote k r out a out' → write_told a ≡ gives tt
+  only_frame : (r : R) (out out' : List ℕ) (a : Result (Unit {0}) WriteRefusal) → Wrote k r out a out' → write_told a ≡ gives tt
       → (length out' ≡ length out) × (drop k.size out' ≡ drop k.size out)
   unfolding write_tried
   only_frame r out out' a w e =

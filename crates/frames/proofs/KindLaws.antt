@@ -2,7 +2,7 @@
 use Prim.Native.Nat.{ℕ, suc, ◌+◌, ◌-◌, ◌≤◌, ◌<◌}
 use mathlib.Core.List.{List, [], ◌∷◌, ◌++◌}
 use mathlib.Core.Bool.{Bool, true, ◌&&◌, and-eq-true_iff}
-use mathlib.Core.Path.{◌≡◌, refl, sym, ap, subst, ◌∙◌}
+use mathlib.Core.Path.{◌≡◌, refl, sym, subst, ◌∙◌}
 use native.Mathlib.Omega.{arith}
 use native.Mathlib.Nat.{zero-add}
 use lib.Dec.{eqb, leb}
@@ -13,13 +13,9 @@ use Rattle.digits.specs.declared.refusal.Refusal.{Refusal}
 use Rattle.digits.specs.Refusals.{FIELD}
 use Rattle.digits.specs.Told.{Told, gives, refuses, tried}
 use Rattle.frames.specs.declared.refusals.ReadRefusal.{ReadRefusal}
-use Rattle.frames.specs.declared.refusals.ReadVerdict.{ReadVerdict}
-use Rattle.frames.specs.declared.refusals.ReadVerdict.TheVariants.{Read, Refused as turned}
+use Rattle.std.specs.Prelude.{Result, Ok, Err, IsErrAnd}
 use Rattle.frames.specs.declared.refusals.WriteRefusal.{WriteRefusal}
-use Rattle.frames.specs.declared.refusals.WriteRefusal.TheVariants.{Record, Room}
-use Rattle.frames.specs.declared.refusals.WriteAnswer.{WriteAnswer}
-use Rattle.frames.specs.declared.refusals.WriteAnswer.TheVariants.{Written, Refused}
-use Rattle.frames.specs.Refusals.{read_refused, verdict_told, write_told}
+use Rattle.frames.specs.Refusals.{read_refused, write_refused, read_told}
 use Rattle.frames.specs.Rules.{is_address}
 use Rattle.frames.specs.Field.{letter}
 use Rattle.frames.specs.Layout.{Layout, field, wrong_unless, fields_of, write}
@@ -145,45 +141,39 @@ sees_address {R} {part} {next} {s} {spoils} {w} {r} own rest good =
     subst (λ (t : Bool). Sees (field 2 (letter is_address) part next) 2 s spoils (wrong_unless t 2 w) r) good (sees_letter tt own (λ _. rest))
 
 pub read_fields : {R : Type 0} (k : Kind R) (s : List ℕ) (spoils : ℕ → ℕ) (w : ℕ) (r : R) → (is_address (get_or s 2 0) ≡ true → Sees k.fields 2 s spoils w r)
-    → (h : ReadVerdict) (t : Told R) → h ≡ Read → verdict_told h ≡ head_told k.lead k.size s → t ≡ tried (eqb w 0) (FIELD w (spoils w)) (gives r) → t ≡ read k s
+    → gives tt ≡ head_told k.lead k.size s → tried (eqb w 0) (FIELD w (spoils w)) (gives r) ≡ read k s
 unfolding read
-read_fields k s spoils w r sees h t q e f =
-    let good : gives tt ≡ head_told k.lead k.size s = rw q at e in
-    rw (← good) (f ∙ sym (seen_is (sees (passed k.lead k.size s (sym good)).address)))
-
--- for a kind whose fields the code holds as one record
-module _ {R : Type 0} (k : Kind R) (at : List ℕ → R) (spoils : List ℕ → ℕ → ℕ) (sees : (s : List ℕ) → Sees k.fields 2 s (spoils s) (wrong_in k (at s)) (at s)) where
-  pub read_record : (s : List ℕ) (r : R) → r ≡ at s → (h : ReadVerdict) (t : Told R) → h ≡ Read → verdict_told h ≡ head_told k.lead k.size s
-      → t ≡ tried (eqb (wrong_in k r) 0) (FIELD (wrong_in k r) (spoils s (wrong_in k r))) (gives r) → t ≡ read k s
-  read_record s r e h t q f g = read_fields k s (spoils s) (wrong_in k (at s)) (at s) (λ _. sees s) h t q f (rw e at g)
+read_fields k s spoils w r sees good =
+    rw (← good) (sym (seen_is (sees (passed k.lead k.size s (sym good)).address)))
 
 -- a frame that passed the tests of the head has its kind's size
-pub passed_long : (lead size : ℕ) (s : List ℕ) (h : ReadVerdict) → h ≡ Read → verdict_told h ≡ head_told lead size s → length s ≡ size
-passed_long lead size s h q e = let good : gives tt ≡ head_told lead size s = rw q at e in (passed lead size s (sym good)).long
+pub passed_long : (lead size : ℕ) (s : List ℕ) → gives tt ≡ head_told lead size s → length s ≡ size
+passed_long lead size s good = (passed lead size s (sym good)).long
 
-pub read_head : {R : Type 0} (k : Kind R) (s : List ℕ) (h : ReadVerdict) (f : ReadRefusal) → h ≡ turned f → verdict_told h ≡ head_told k.lead k.size s → refuses (read_refused f) ≡ read k s
+-- a refusal of the head is the reader's
+pub read_head : {R : Type 0} (k : Kind R) (s : List ℕ) (f : ReadRefusal) → refuses (read_refused f) ≡ head_told k.lead k.size s
+    → (a : Result R ReadRefusal) → IsErrAnd a (λ g. g ≡ f) → read_told a ≡ read k s
 unfolding read
-read_head k s h f is e = rw (← e, is)
+read_head k s f e (Ok r) is = absurd is
+read_head k s f e (Err g) is = rw (is, ← e)
 
 -- ---- the promise of a writer
 
-module _ {R : Type 0} (k : Kind R) (r : R) (out : List ℕ) (long : wrong_in k r ≡ 0 → length (frame_of k r) ≡ k.size)
-    (a : WriteAnswer) (is : write_told a ≡ write_tried (wrong_in k r) k.size (length out)) where
-  -- the text that was stored is the frame of the record, if that is well formed
-  pub wrote_text : (text out' : List ℕ) → (wrong_in k r ≡ 0 → text ≡ frame_of k r) → a ≡ Written → out' ≡ sets out 0 text → Wrote k r out Written out'
+module _ {R : Type 0} (k : Kind R) (r : R) (out : List ℕ) where
+  -- a well formed record whose frame was stored
+  pub wrote_frame : (wrong_in k r ≡ 0 → length (frame_of k r) ≡ k.size) → gives tt ≡ write_tried (wrong_in k r) k.size (length out)
+      → (out' : List ℕ) → (wrong_in k r ≡ 0 → out' ≡ sets out 0 (frame_of k r)) → Wrote k r out (Ok tt) out'
   unfolding write_tried
-  wrote_text text out' own w e =
-      let q : write_tried (wrong_in k r) k.size (length out) ≡ gives tt = sym is ∙ ap write_told w in
+  wrote_frame long is out' stored =
+      let q : write_tried (wrong_in k r) k.size (length out) ≡ gives tt = sym is in
       let b = tried_gives (eqb (wrong_in k r) 0) _ _ _ q in
       let c = tried_gives (leb k.size (length out)) _ _ _ b.1 in
       let z = eqb-true _ _ b.0 in
       let l = long z in
-      let h : 0 + length (frame_of k r) ≤ length out = omega (arith, leb-true k.size (length out) c.0) in
-      record { told = sym q; bytes = rw q (e ∙ ap (sets out 0) (own z) ∙ sets-eq (frame_of k r) out 0 h ∙ rw (l, zero-add)) }
+      let h : 0 + length (frame_of k r) ≤ length out = omega (arith, l, leb-true k.size (length out) c.0) in
+      record { told = is; bytes = rw q (stored z ∙ sets-eq (frame_of k r) out 0 h ∙ rw (l, zero-add)) }
 
-  pub wrote_frame : (out' : List ℕ) → a ≡ Written → out' ≡ sets out 0 (frame_of k r) → Wrote k r out Written out'
-  wrote_frame out' w e = wrote_text (frame_of k r) out' (λ z. refl) w e
-
-  pub wrote_nothing : (f : WriteRefusal) → a ≡ Refused f → Wrote k r out (Refused f) out
-  wrote_nothing (Record at) w = let q = sym is ∙ ap write_told w in record { told = sym q; bytes = rw q }
-  wrote_nothing Room w = let q = sym is ∙ ap write_told w in record { told = sym q; bytes = rw q }
+  pub wrote_nothing : (f : WriteRefusal) → refuses (write_refused f) ≡ write_tried (wrong_in k r) k.size (length out)
+      → (a : Result (Unit {0}) WriteRefusal) → IsErrAnd a (λ g. g ≡ f) → Wrote k r out a out
+  wrote_nothing f is (Ok u) e = absurd e
+  wrote_nothing f is (Err g) e = record { told = rw e is; bytes = rw (← is) }

@@ -1,4 +1,5 @@
 -- The label by the bytes alone is the label that the reader gives. Assumes nothing.
+use Rattle.std.specs.Prelude.{Option, Some, None}
 use Prim.Native.Nat.{ℕ, suc, ◌+◌, ◌-◌, ◌*◌, ◌≤◌}
 use mathlib.Core.List.{List}
 use mathlib.Core.Bool.{true, false≢true}
@@ -7,8 +8,6 @@ use native.Mathlib.Omega.{arith}
 use borrow.Author.Tests.{eqb-true}
 use lib.Dec.{eqb}
 use lib.ListN.{get_or}
-use Rattle.digits.specs.declared.Number.{Number}
-use Rattle.digits.specs.declared.Number.TheVariants.{Is, Wrong}
 use Rattle.digits.specs.Digits.{is_digit, number_from, number_at}
 use Rattle.digits.specs.Told.{Told, gives, refuses}
 use Rattle.digits.proofs.Tests.{by-test}
@@ -29,17 +28,17 @@ use Rattle.frames.proofs.ReplyLaws.{head_fine, sees_reply}
 
 -- ---- a number that was read has digits only
 
-read_number : (x : Number) → or_none x ≤ 99999 → x ≡ Is (or_none x)
-read_number (Is v) h = refl
-read_number Wrong h = absurd (omega arith)
+read_number : (x : Option ℕ) → or_none x ≤ 99999 → x ≡ Some (or_none x)
+read_number (Some v) h = refl
+read_number None h = absurd (omega arith)
 
 -- its first digit, by the low half of the byte, and the others
 pub record Led (s : List ℕ) (p w v n : ℕ) : Type 0 where
   pub low : 48 ≤ get_or s p 0
   pub high : get_or s p 0 ≤ 57
-  pub rest : number_from s (suc p) w (v * 10 + digit_at s p) ≡ Is n
+  pub rest : number_from s (suc p) w (v * 10 + digit_at s p) ≡ Some n
 
-led : (s : List ℕ) (p w v n : ℕ) → number_from s p (suc w) v ≡ Is n → Led s p w v n
+led : (s : List ℕ) (p w v n : ℕ) → number_from s p (suc w) v ≡ Some n → Led s p w v n
 unfolding number_from
 led s p w v n e =
     by-test (is_digit (get_or s p 0))
@@ -47,10 +46,10 @@ led s p w v n e =
     let k = between 48 57 (get_or s p 0) t in
     let same : get_or s p 0 - 48 ≡ digit_at s p = omega (arith, k.0, k.1) in
     record { low = k.0; high = k.1; rest = rw same at (rw t at e) })
-    (λ f. absurd (let g : Wrong ≡ Is n = rw f at e in let z : ◌≡◌ {A = ℕ} 0 1 = cc in omega arith))
+    (λ f. absurd (let g : None ≡ Some n = rw f at e in let z : ◌≡◌ {A = ℕ} 0 1 = cc in omega arith))
 
 -- five digits
-number_by_bytes : (s : List ℕ) (n : ℕ) → number_at s 7 5 ≡ Is n → digit_at s 7 * 10000 + digit_at s 8 * 1000 + digit_at s 9 * 100 + digit_at s 10 * 10 + digit_at s 11 ≡ n
+number_by_bytes : (s : List ℕ) (n : ℕ) → number_at s 7 5 ≡ Some n → digit_at s 7 * 10000 + digit_at s 8 * 1000 + digit_at s 9 * 100 + digit_at s 10 * 10 + digit_at s 11 ≡ n
 unfolding number_at number_from
 number_by_bytes s n e =
     let a = led s 7 4 0 n e in

@@ -6,6 +6,7 @@ pub mod ShownLaws
 pub mod LayoutLaws
 pub mod SeesLaws
 pub mod KindLaws
+pub mod RunLaws
 pub mod TimingLaws
 pub mod RequestLaws
 pub mod ReplyLaws

@@ -1,4 +1,5 @@
 -- Net times and their values belong together one to one, reading and writing follow, and minus zero is FIELD 40. Assumes nothing.
+use Rattle.std.specs.Prelude.{Some}
 use Prim.Native.Nat.{ℕ, ◌+◌, ◌-◌, ◌/◌, ◌%◌, ◌≤◌, ◌<◌}
 use mathlib.Core.List.{List, ◌∷◌, ◌++◌}
 use mathlib.Core.Bool.{true}
@@ -8,7 +9,6 @@ use lib.IntN.{ℤ, pos, negsuc, nat_abs}
 use lib.ListN.{length, get_or, set, take, drop, length-set, take-append-drop}
 use lib.Seq.{sets, slice, length-sets, length-slice, sets-eq, set-set, set-get_or, get_or-set_other, take-take, take-append-add, drop-append-add, get_or-take, get_or-drop}
 use borrow.Author.Tests.{leb-true, le-leb}
-use Rattle.digits.specs.declared.Number.TheVariants.{Is}
 use Rattle.digits.specs.Text.{codes, one_of}
 use Rattle.digits.specs.Digits.{digits, number_at, number_from}
 use Rattle.digits.specs.Refusals.{spoiled_at}
@@ -43,16 +43,16 @@ zero_time : (t : ℕ) → t < a_day → clock.put t ≡ take 10 minus_zero_law �
 unfolding digits clock_number number_at number_from ticks_of
 zero_time t h e =
     let back = clock_inverse.back t (le-leb t last_tick (omega arith)) in
-    let none : clock.got (clock.put t) 0 ≡ Is 0 = ap (λ (l : List ℕ). clock.got l 0) e in
-    let q : Is t ≡ Is 0 = sym back ∙ none in
+    let none : clock.got (clock.put t) 0 ≡ Some 0 = ap (λ (l : List ℕ). clock.got l 0) e in
+    let q : Some t ≡ Some 0 = sym back ∙ none in
     cc
 
 zero_days : (d : ℕ) → d ≤ 9999999 → digits 7 d ≡ drop 11 minus_zero_law → d ≡ 0
 unfolding number_at number_from
 zero_days d h e =
     let back = number_back 7 d (omega arith) (omega arith) (omega arith) in
-    let none : number_at (digits 7 d) 0 7 ≡ Is 0 = ap (λ (l : List ℕ). number_at l 0 7) e in
-    let q : Is d ≡ Is 0 = sym back ∙ none in
+    let none : number_at (digits 7 d) 0 7 ≡ Some 0 = ap (λ (l : List ℕ). number_at l 0 7) e in
+    let q : Some d ≡ Some 0 = sym back ∙ none in
     cc
 
 no_value : (v : ℤ) → sign_of (is_below v) ≡ 45 → nat_abs v ≡ 0 → ⊥

@@ -5,7 +5,6 @@ use mathlib.Core.Bool.{Bool, true, false, cond, ◌||◌}
 use mathlib.Core.Path.{◌≡◌, refl, sym, ap, ◌∙◌}
 use native.Mathlib.Omega.{arith}
 use lib.Dec.{eqb}
-use borrow.Author.Tests.{eq-eqb, ne_eqb}
 use lib.ListN.{length, get_or, set, length-append}
 use lib.Seq.{sets}
 use Rattle.digits.specs.Text.{one_of}
@@ -14,19 +13,15 @@ use Rattle.digits.specs.declared.refusal.Refusal.{Refusal}
 use Rattle.digits.specs.Refusals.{FIELD}
 use Rattle.digits.specs.Told.{gives, refuses, tried}
 use Rattle.digits.proofs.Writing.{sets_append, length_digits}
-use Rattle.frames.specs.declared.refusals.Place.{Place}
 use Rattle.frames.specs.declared.refusals.ReadRefusal.{ReadRefusal}
-use Rattle.frames.specs.declared.refusals.ReadRefusal.TheVariants.{Field}
-use Rattle.frames.specs.declared.refusals.ReadVerdict.{ReadVerdict}
-use Rattle.frames.specs.declared.refusals.ReadVerdict.TheVariants.{Read, Refused}
+use Rattle.std.specs.Prelude.{Result, Ok, Err, IsErrAnd}
 use Rattle.frames.specs.declared.timing.TimingKind.{TimingKind}
 use Rattle.frames.specs.declared.timing.Timing.{Timing}
 use Rattle.frames.specs.declared.timing.Timing.TheVariants.{Clock, Net, Raw}
 use Rattle.frames.specs.declared.reply.ReplyHead.{ReplyHead}
 use Rattle.frames.specs.declared.reply.StaticReply.{StaticReply}
-use Rattle.frames.specs.declared.reply.ReplyRead.{ReplyRead}
 use Rattle.frames.specs.declared.reply.ReplyLabel.{ReplyLabel}
-use Rattle.frames.specs.Refusals.{read_refused, verdict_told}
+use Rattle.frames.specs.Refusals.{read_refused, read_told}
 use Rattle.frames.specs.Rules.{between, up_to, is_address, is_raw, is_requester}
 use Rattle.frames.specs.Status.{is_status, is_z}
 use Rattle.frames.specs.Shape.{bytes_of}
@@ -36,10 +31,10 @@ use Rattle.frames.specs.Layout.{wrong_unless, record_wrong, write, within}
 use Rattle.frames.specs.Kind.{letter_r, CR, head_told, read, wrong_in, frame_of}
 use Rattle.frames.specs.Faithful.{Faithful}
 use Rattle.frames.specs.Timing.{timing_kind, timed}
-use Rattle.frames.specs.Reply.{is_letter, is_reply_channel, least_run, Tail, from_bib, tail_of, with_tail, reply_fields, reply, Whole, told_by, or_zero, ReadAs, label_of, labelled}
+use Rattle.frames.specs.Reply.{is_letter, is_reply_channel, least_run, Tail, from_bib, tail_of, with_tail, reply_fields, reply, Whole, label_of, labelled}
 use Rattle.frames.specs.inside.Held.{or_none}
 use Rattle.frames.specs.inside.Timing.{timing_wrong, timing_text}
-use Rattle.frames.specs.inside.Reply.{refused_by, wrong_place, judged_as, head_wrong, kind_at, seen_in, reply_at, wrong_at, spoiled_byte, fields_read, fields_checked, head_text, reply_text}
+use Rattle.frames.specs.inside.Reply.{head_wrong, kind_at, seen_in, reply_at, wrong_at, spoiled_byte, head_text, reply_text}
 use Rattle.frames.specs.inside.Spoiled.{in_class, looked_in, head_byte, reply_byte}
 use Rattle.frames.proofs.RuleLaws.{up_to_law, in_range_law, none_in_range, or_one, to_240}
 use Rattle.frames.proofs.ShapeLaws.{all_bytes}
@@ -288,41 +283,9 @@ reply_stores r l h =
     ap (λ (s : List ℕ). set (sets (sets (sets l 0 (head_text r.head)) 30 t) 48 s) 50 CR) (sym (all_bytes r.spare 2 (sym h)))
     ∙ sym (a ∙ rw (length_head r.head, b, length_timing r.timing r.raw_time r.raw_date))
 
--- reading: the refusals of the head, and then the fields
-pub refused_as : (s : List ℕ) (h : ReadVerdict) (f : ReadRefusal) (a : ReplyRead) → h ≡ Refused f → verdict_told h ≡ head_told 18 51 s → a ≡ refused_by f → ReadAs s a
-unfolding read
-refused_as s h f a is e q =
-    let t : refuses (read_refused f) ≡ read reply s = K.read_head reply s h f is e in
-    rw q (record { told = t; beside = rw (← t) })
-
-module _ (r : StaticReply) (w b : ℕ) where
-  abbrev judged_by : Bool → ReplyRead
-  judged_by t = cond t (record { verdict = Read; reply = r }) (refused_by (Field (wrong_place w b)))
-
-  judged_told : told_by (judged_as r w b).verdict (judged_as r w b).reply ≡ tried (eqb w 0) (FIELD w b) (gives r)
-  unfolding judged_as
-  judged_told = go (eqb w 0)
-    where
-      go : (t : Bool) → told_by (judged_by t).verdict (judged_by t).reply ≡ tried t (FIELD w b) (gives r)
-      go true = refl
-      go false = refl
-
-  judged_beside : (judged_as r w b).reply ≡ or_zero (tried (eqb w 0) (FIELD w b) (gives r))
-  unfolding judged_as
-  judged_beside = go (eqb w 0)
-    where
-      go : (t : Bool) → (judged_by t).reply ≡ or_zero (tried t (FIELD w b) (gives r))
-      go true = refl
-      go false = refl
-
-pub fields_told : (s : List ℕ) (h : ReadVerdict) → h ≡ Read → verdict_told h ≡ head_told 18 51 s → tried (eqb (wrong_at s) 0) (FIELD (wrong_at s) (spoiled_byte s)) (gives (reply_at s)) ≡ read reply s
-fields_told s h is e = K.read_fields reply s (reply_byte (kind_at s) s) (wrong_at s) (reply_at s) (sees_reply s) h _ is e refl
-
-pub read_as : (s : List ℕ) (h : ReadVerdict) (a : ReplyRead) → h ≡ Read → verdict_told h ≡ head_told 18 51 s → a ≡ fields_read s → ReadAs s a
-unfolding fields_read
-read_as s h a is e q =
-    let t = fields_told s h is e in
-    rw q (record { told = judged_told (reply_at s) (wrong_at s) (spoiled_byte s) ∙ t; beside = judged_beside (reply_at s) (wrong_at s) (spoiled_byte s) ∙ ap or_zero t })
+-- reading: the fields of a frame whose head was tested
+pub fields_told : (s : List ℕ) → gives tt ≡ head_told 18 51 s → tried (eqb (wrong_at s) 0) (FIELD (wrong_at s) (spoiled_byte s)) (gives (reply_at s)) ≡ read reply s
+fields_told s e = K.read_fields reply s (reply_byte (kind_at s) s) (wrong_at s) (reply_at s) (sees_reply s) e
 
 -- ---- the check: like reading, with the label in place of the record
 
@@ -330,18 +293,10 @@ labelled_tried : (t : Bool) (f : Refusal) (r : StaticReply) → tried t f (gives
 labelled_tried true f r = refl
 labelled_tried false f r = refl
 
-module _ (s : List ℕ) (w : ℕ) (is : w ≡ wrong_at s) where
-  pub checked_good : (l : ReplyLabel) → l ≡ label_of (reply_at s) → w ≡ 0 → gives l ≡ fields_checked s
-  unfolding fields_checked
-  checked_good l e z = rw (e, ← is, eq-eqb w 0 z)
+pub check_as : (s : List ℕ) → gives tt ≡ head_told 18 51 s → tried (eqb (wrong_at s) 0) (FIELD (wrong_at s) (spoiled_byte s)) (gives (label_of (reply_at s))) ≡ labelled (read reply s)
+check_as s e = labelled_tried (eqb (wrong_at s) 0) (FIELD (wrong_at s) (spoiled_byte s)) (reply_at s) ∙ ap labelled (fields_told s e)
 
-  pub checked_bad : (w ≡ 0 → ⊥) → (p : Place) → p ≡ wrong_place w (reply_byte (kind_at s) s w) → refuses (read_refused (Field p)) ≡ fields_checked s
-  unfolding fields_checked
-  checked_bad z p e = rw (← is, ne_eqb w 0 z, e)
-
-pub check_as : (s : List ℕ) (h : ReadVerdict) → h ≡ Read → verdict_told h ≡ head_told 18 51 s → fields_checked s ≡ labelled (read reply s)
-unfolding fields_checked
-check_as s h is e = labelled_tried (eqb (wrong_at s) 0) (FIELD (wrong_at s) (spoiled_byte s)) (reply_at s) ∙ ap labelled (fields_told s h is e)
-
-pub check_refused : (s : List ℕ) (h : ReadVerdict) (f : ReadRefusal) → h ≡ Refused f → verdict_told h ≡ head_told 18 51 s → refuses (read_refused f) ≡ labelled (read reply s)
-check_refused s h f is e = ap labelled (K.read_head reply s h f is e)
+pub check_refused : (s : List ℕ) (f : ReadRefusal) → refuses (read_refused f) ≡ head_told 18 51 s
+    → (a : Result ReplyLabel ReadRefusal) → IsErrAnd a (λ g. g ≡ f) → read_told a ≡ labelled (read reply s)
+check_refused s f e (Ok l) is = absurd is
+check_refused s f e (Err g) is = ap (λ h. refuses (read_refused h)) is ∙ ap labelled (K.read_head reply s f e (Err f) refl)

@@ -4,17 +4,19 @@ use mathlib.Core.List.{List, [], ◌∷◌, append_assoc}
 use mathlib.Core.Bool.{true}
 use mathlib.Core.Path.{◌≡◌, refl, sym}
 use native.Mathlib.Omega.{arith}
+use lib.Dec.{eqb}
 use lib.ListN.{length, set}
 use lib.Seq.{sets}
 use Rattle.digits.specs.Text.{one_of}
 use Rattle.digits.specs.Digits.{digits}
-use Rattle.digits.specs.Told.{gives}
+use Rattle.digits.specs.Refusals.{FIELD}
+use Rattle.digits.specs.Told.{gives, tried}
 use Rattle.digits.proofs.Writing.{sets_append, length_digits}
 use Rattle.frames.specs.declared.request.StaticRequest.{StaticRequest}
 use Rattle.frames.specs.Rules.{between, up_to, is_address, is_requester, is_output}
 use Rattle.frames.specs.Classes.{digit_from}
 use Rattle.frames.specs.Layout.{record_wrong, write}
-use Rattle.frames.specs.Kind.{letter_r, CR, read, wrong_in, frame_of}
+use Rattle.frames.specs.Kind.{letter_r, CR, head_told, read, wrong_in, frame_of}
 use Rattle.frames.specs.Faithful.{Faithful}
 use Rattle.frames.specs.Request.{is_information, is_request_channel, request_fields, request}
 use Rattle.frames.specs.inside.Held.{request_at}
@@ -23,7 +25,7 @@ use Rattle.frames.proofs.RuleLaws.{up_to_law, or_one, to_240}
 use Rattle.frames.proofs.LayoutLaws.{unless_none, Sound, end_sound, letter_sound, number_sound, Sees, sees_end}
 use Rattle.frames.proofs.ShownLaws.{number_shows, to_shows, least}
 use Rattle.frames.proofs.SeesLaws.{sees_letter, sees_number}
-use Rattle.frames.proofs.KindLaws.{SoundKind, faithful, frame_again, length_frame}
+use Rattle.frames.proofs.KindLaws.{SoundKind, faithful, frame_again, length_frame, read_fields}
 
 channel_bound : (v : ℕ) → is_request_channel v ≡ true → v ≤ 255
 unfolding is_request_channel
@@ -92,3 +94,8 @@ pub stores_frame : (r : StaticRequest) (l : List ℕ) →
     ≡ sets l 0 (frame_of request r)
 unfolding request_fields write frame_of
 stores_frame r l = simp (append_assoc, sets_append, length_digits)
+
+-- a frame that passed the tests of the head is read as its fields say
+pub request_reads : (s : List ℕ) → gives tt ≡ head_told 17 24 s
+    → tried (eqb (wrong_in request (request_at s)) 0) (FIELD (wrong_in request (request_at s)) (request_byte s (wrong_in request (request_at s)))) (gives (request_at s)) ≡ read request s
+request_reads s good = read_fields request s (request_byte s) (wrong_in request (request_at s)) (request_at s) (λ _. sees_request s) good

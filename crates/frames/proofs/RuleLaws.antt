@@ -1,4 +1,5 @@
 -- What follows for a value from a rule that takes it. Assumes nothing.
+use Rattle.std.specs.Prelude.{Option, Some, None, IfSome}
 use Prim.Native.Nat.{ℕ, ◌≤◌, ◌<◌}
 use mathlib.Core.Bool.{Bool, true, false, true≢false, ◌||◌, and-eq-true_iff}
 use mathlib.Core.Path.{◌≡◌, refl}
@@ -36,3 +37,8 @@ none_in_range lo hi h = over lo hi 4294967295 h
 -- logical channels are all below 256
 pub to_240 : (v : ℕ) → leb v 240 ≡ true → v ≤ 255
 to_240 v e = let h = leb-true v 240 e in omega arith
+
+-- what holds of each number that may be found
+pub if_found : {P : ℕ → Type 0} (x : Option ℕ) → ((v : ℕ) → x ≡ Some v → P v) → IfSome x P
+if_found (Some v) h = h v refl
+if_found None h = tt

@@ -1,4 +1,5 @@
 -- What the code reads of a field, by what the field is, and the byte that it names if the field is wrong. Assumes nothing.
+use Rattle.std.specs.Prelude.{Option, Some, None}
 use Prim.Native.Nat.{ℕ, ◌+◌}
 use mathlib.Core.List.{List, [], ◌∷◌}
 use mathlib.Core.Bool.{Bool, true, false, cond}
@@ -6,8 +7,6 @@ use mathlib.Core.Path.{◌≡◌, refl, sym, ◌∙◌}
 use native.Mathlib.Omega.{arith}
 use lib.Dec.{T, ltb}
 use lib.ListN.{get_or}
-use Rattle.digits.specs.declared.Number.{Number}
-use Rattle.digits.specs.declared.Number.TheVariants.{Is, Wrong}
 use Rattle.digits.specs.Digits.{number_at}
 use Rattle.times.specs.Clock.{clock, is_time}
 use Rattle.times.specs.Day.{real_day}
@@ -20,24 +19,24 @@ use Rattle.frames.specs.Timing.{is_date, real_date, are_days, net_days, are_raw,
 use Rattle.frames.specs.inside.Held.{no_number, or_none}
 use Rattle.frames.proofs.LayoutLaws.{HeldAs, Sees, sees_field}
 
-held_number : (rule : ℕ → Bool) → rule no_number ≡ false → (x : Number) → HeldAs rule (value x) (or_none x)
-held_number rule none (Is v) = refl
-held_number rule none Wrong = none
+held_number : (rule : ℕ → Bool) → rule no_number ≡ false → (x : Option ℕ) → HeldAs rule (value x) (or_none x)
+held_number rule none (Some v) = refl
+held_number rule none None = none
 
 is_false : (b : Bool) → (b ≡ true → ⊥) → b ≡ false
 is_false true f = absurd (f refl)
 is_false false f = refl
 
 -- a date with a part that is no number is no real day
-held_date : (x y z : Number) → HeldAs is_date (pair (value x) (pair (value y) (value z))) (or_none x, (or_none y, or_none z))
-held_date (Is d) (Is m) (Is y) = refl
-held_date (Is d) (Is m) Wrong = is_false (real_day d m no_number) (λ e. let b = day_bounds d m no_number e in let h = b.year in omega arith)
-held_date (Is d) Wrong z = is_false (real_day d no_number (or_none z)) (λ e. let b = day_bounds d no_number (or_none z) e in let h = b.month in omega arith)
-held_date Wrong y z = is_false (real_day no_number (or_none y) (or_none z)) (λ e. let b = day_bounds no_number (or_none y) (or_none z) e in let h = b.day in omega arith)
+held_date : (x y z : Option ℕ) → HeldAs is_date (pair (value x) (pair (value y) (value z))) (or_none x, (or_none y, or_none z))
+held_date (Some d) (Some m) (Some y) = refl
+held_date (Some d) (Some m) None = is_false (real_day d m no_number) (λ e. let b = day_bounds d m no_number e in let h = b.year in omega arith)
+held_date (Some d) None z = is_false (real_day d no_number (or_none z)) (λ e. let b = day_bounds d no_number (or_none z) e in let h = b.month in omega arith)
+held_date None y z = is_false (real_day no_number (or_none y) (or_none z)) (λ e. let b = day_bounds no_number (or_none y) (or_none z) e in let h = b.day in omega arith)
 
-held_days : (rule : ℕ × ℕ → Bool) (sign : ℕ) → rule (sign, no_number) ≡ false → (x : Number) → HeldAs rule (pair (value (Is sign)) (value x)) (sign, or_none x)
-held_days rule sign none (Is v) = refl
-held_days rule sign none Wrong = none
+held_days : (rule : ℕ × ℕ → Bool) (sign : ℕ) → rule (sign, no_number) ≡ false → (x : Option ℕ) → HeldAs rule (pair (value (Some sign)) (value x)) (sign, or_none x)
+held_days rule sign none (Some v) = refl
+held_days rule sign none None = none
 
 -- a date's parts, and a sign and days, as the code holds them
 abbrev date_at : List ℕ → ℕ → ℕ × (ℕ × ℕ)

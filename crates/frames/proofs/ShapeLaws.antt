@@ -1,4 +1,5 @@
 -- Shapes: one number, two shapes in a row, and raw bytes are lawful, and what is written reads back. Assumes nothing.
+use Rattle.std.specs.Prelude.{Option, Some, None}
 use Prim.Native.Nat.{ℕ, zero, suc, ◌+◌, ◌-◌, ◌^◌, ◌≤◌}
 use mathlib.Core.List.{List, [], ◌∷◌, ◌++◌, append_assoc, append-nil}
 use mathlib.Core.Bool.{Bool, true, false, ◌&&◌}
@@ -8,8 +9,6 @@ use native.Mathlib.Nat.{add-zero, add-suc}
 use lib.Dec.{T, leb, ltb, leb→le, ltb→lt}
 use lib.ListN.{length, get_or, take, drop, length-append, take-append-drop, get_or-append}
 use lib.Seq.{take-add, take_all, length-take-le, drop-drop, drop-cons, get_or-append-add}
-use Rattle.digits.specs.declared.Number.{Number}
-use Rattle.digits.specs.declared.Number.TheVariants.{Is, Wrong}
 use Rattle.digits.specs.Form as D
 use Rattle.digits.specs.Form.{Form}
 use Rattle.digits.proofs.Forms.{number_lawful, number_back}
@@ -31,9 +30,9 @@ pub record Inverse {A : Type 0} (k : Shape A) (rule : A → Bool) (Fit : A → T
 
 -- ---- one number
 
-pub value_is : (x : Number) (v : ℕ) → value x ≡ is v → x ≡ Is v
-value_is (Is w) v e = ap Is (let q : w ≡ v = cc in q)
-value_is Wrong v e = absurd (let z : ◌≡◌ {A = ℕ} 0 1 = cc in omega arith)
+pub value_is : (x : Option ℕ) (v : ℕ) → value x ≡ is v → x ≡ Some v
+value_is (Some w) v e = ap Some (let q : w ≡ v = cc in q)
+value_is None v e = absurd (let z : ◌≡◌ {A = ℕ} 0 1 = cc in omega arith)
 
 pub one_inverse : {k : Form} {rule : ℕ → Bool} → D.Inverse k rule → Inverse (one k) rule (λ _. Unit {0})
 one_inverse {k} {rule} g = record {
@@ -146,7 +145,7 @@ bytes_local (suc n) i pre t post h =
     let e : get_or (pre ++ t ++ post) (length pre + i) 0 ≡ get_or t i 0 = rw (append_assoc, get_or-append-add) (get_or-append t post 0 i (omega arith)) in
     rw (e, ← add-suc (length pre) i, bytes_local n (suc i) pre t post (omega arith))
 
-bytes_taken : (n p : ℕ) (s : List ℕ) → p + n ≤ length s → take n (drop p s) ≡ bytes_of s p n
+pub bytes_taken : (n p : ℕ) (s : List ℕ) → p + n ≤ length s → take n (drop p s) ≡ bytes_of s p n
 bytes_taken zero p s h = refl
 bytes_taken (suc n) p s h = rw (drop-cons s p 0 (omega arith)) (ap (λ (l : List ℕ). get_or s p 0 ∷ l) (bytes_taken n (suc p) s (omega arith)))
 

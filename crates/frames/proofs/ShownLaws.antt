@@ -4,13 +4,13 @@ use mathlib.Core.List.{List, [], ◌∷◌, ◌++◌}
 use mathlib.Core.Bool.{Bool, true, false, false≢true, cond, not, ◌&&◌, ◌||◌, and-eq-true_iff}
 use mathlib.Core.Path.{◌≡◌, refl, ap, ◌∙◌}
 use native.Mathlib.Omega.{arith}
-use native.Mathlib.Nat.{div-lt_iff_lt-mul}
+use native.Mathlib.Nat.{div-lt_iff_lt-mul, one-le-pow}
 use lib.Dec.{T, eqb, leb, ltb, leb→le}
 use borrow.Author.Tests.{eqb-true, leb-true, ltb-true}
 use lib.ListN.{length, get_or, replicate, length-replicate, get_or-replicate}
 use Rattle.digits.specs.Text.{one_of}
 use Rattle.digits.specs.Digits.{digits}
-use Rattle.digits.proofs.Reading.{inside, between as range, some_room}
+use Rattle.digits.proofs.Reading.{inside, between as range}
 use Rattle.digits.proofs.Writing.{length_digits}
 use Rattle.digits.proofs.Parts.{written_in_parts}
 use Rattle.digits.proofs.Tables.{agree, agreed}
@@ -109,7 +109,7 @@ each_any (suc w) n = more (digit_in 0 9 (n / 10 ^ w % 10) (omega arith) (omega a
 -- the first digit is at most `top`
 each_top : (w top n : ℕ) → n < suc top * 10 ^ w → Each (digit_to top ∷ any_digits w) (suc w) n
 each_top w top n h =
-    let l : n / 10 ^ w < suc top = (div-lt_iff_lt-mul (some_room w)).1 h in
+    let l : n / 10 ^ w < suc top = (div-lt_iff_lt-mul (one-le-pow w 10 (omega arith))).1 h in
     more (digit_in 0 top (n / 10 ^ w % 10) (omega arith) (omega arith)) (each_any w n)
 
 -- ---- classes of digits alone: a value for each digit at each place, tried out

@@ -1,8 +1,8 @@
--- Runs of bytes, and time and date of a reply: their layouts are sound, and the code tests, reads and stores what they say. Assumes nothing.
-use Prim.Native.Nat.{ℕ, zero, suc, ◌+◌, ◌-◌, ◌≤◌, ◌<◌}
+-- Time and date of a reply: their layouts are sound, and the code tests, reads and stores what they say. Assumes nothing.
+use Prim.Native.Nat.{ℕ, zero, suc}
 use mathlib.Core.List.{List, [], ◌∷◌, ◌++◌, append_assoc}
 use mathlib.Core.Bool.{Bool, true, false, ◌&&◌, ◌||◌, and-eq-true_iff}
-use mathlib.Core.Path.{◌≡◌, refl, sym, ap, ap₂, ◌∙◌}
+use mathlib.Core.Path.{◌≡◌, refl, sym, ap, ◌∙◌}
 use native.Mathlib.Omega.{arith}
 use lib.Dec.{eqb, leb}
 use lib.ListN.{length, get_or, set, replicate}
@@ -27,29 +27,14 @@ use Rattle.frames.specs.Classes.{digit_from}
 use Rattle.frames.specs.Layout.{record_wrong, write}
 use Rattle.frames.specs.Timing.{Times, is_of, are_zero, date, is_date, real_date, ticks_in, date_in, is_sign, sign_of, net_of, net_in, days_in, signed_days, are_days, net_days, timed}
 use Rattle.frames.specs.inside.Held.{or_none}
-use Rattle.frames.specs.inside.Timing.{clock_wrong, net_wrong, net_value_wrong, timing_wrong, seen_clock, net_timing, seen_net, seen_raw, seen_of, clock_text, net_text, raw_text, timing_text}
+use Rattle.frames.specs.inside.Timing.{clock_wrong, net_wrong, net_value_wrong, timing_wrong, seen_clock, net_timing, seen_net, seen_raw, seen_of, clock_text, net_text, timing_text}
 use Rattle.frames.specs.inside.Spoiled.{in_class, looked_in, timing_byte, reply_byte}
 use Rattle.frames.proofs.RuleLaws.{or_cases, or_false}
-use Rattle.frames.proofs.ShapeLaws.{Inverse, digits_inverse, both_inverse, all_bytes}
+use Rattle.frames.proofs.RunLaws.{shifted}
+use Rattle.frames.proofs.ShapeLaws.{Inverse, digits_inverse, both_inverse}
 use Rattle.frames.proofs.LayoutLaws.{unless_none, Sound, field_sound, suits_sound, end_sound, byte_inverse, time_sound, raw_sound, Sees, sees_suits, sees_end}
 use Rattle.frames.proofs.ShownLaws.{date_shows, net_shows}
 use Rattle.frames.proofs.SeesLaws.{sees_time, sees_date, sees_days, sees_raw}
-
--- ---- a turn of a loop over bytes
-
-module _ (rule : ℕ → Bool) (l : List ℕ) (i n b : ℕ) (more : i < n) (read : b ≡ get_or l i 0) where
-  pub run_goes : (all good x : Bool) → all ≡ good && all_from rule l i (n - i) → x ≡ rule b → all ≡ (good && x) && all_from rule l (i + 1) (n - (i + 1))
-  unfolding all_from
-  run_goes all false x e h = e
-  run_goes all true x e h =
-      let k : n - i ≡ suc (n - suc i) = omega arith in
-      let j : i + 1 ≡ suc i = omega arith in
-      e ∙ rw (k, j, ← read, ← h)
-
-pub run_done : (rule : ℕ → Bool) (l : List ℕ) (i n : ℕ) (all good : Bool) → n ≤ i → all ≡ good && all_from rule l i (n - i) → good ≡ all
-unfolding all_from
-run_done rule l i n all false h e = sym e
-run_done rule l i n all true h e = let k : n - i ≡ 0 = omega arith in sym (e ∙ rw k)
 
 -- ---- stores that are a single run
 
@@ -61,18 +46,7 @@ pub net_stores : (o : List ℕ) (v : ℤ)
     → sets (set (sets o 30 (clock.put (net_parts v).time)) 40 (sign_of (net_parts v).minus)) 41 (digits 7 (net_parts v).days) ≡ sets o 30 (net_text v)
 net_stores o v = simp (sets_append, length_digits)
 
-pub raw_stores : (o rt rd : List ℕ) → 10 ≡ length rt → 8 ≡ length rd → sets (sets o 30 rt) 40 rd ≡ sets o 30 (raw_text rt rd)
-raw_stores o rt rd a b =
-    let e : raw_text rt rd ≡ rt ++ rd = ap₂ (λ (x y : List ℕ). x ++ y) (all_bytes rt 10 (sym a)) (all_bytes rd 8 (sym b)) in
-    let n : 30 + length rt ≡ 40 = omega arith in
-    sym (ap (sets o 30) e ∙ sets_append o 30 rt rd ∙ rw n)
-
 -- ---- bytes that are all zero
-
-shifted : (rule : ℕ → Bool) (x : ℕ) (l : List ℕ) (i n : ℕ) → all_from rule (x ∷ l) (suc i) n ≡ all_from rule l i n
-unfolding all_from
-shifted rule x l i zero = refl
-shifted rule x l i (suc n) = ap (λ (b : Bool). rule (get_or l i 0) && b) (shifted rule x l (suc i) n)
 
 zeros_are : (n : ℕ) (l : List ℕ) → length l ≡ n → are_zero n l ≡ true → replicate n 0 ≡ l
 unfolding all_from
@@ -210,7 +184,7 @@ kind_fits raw_kind t e = (unless_none (is_of raw_kind t.timing) 30 _ (omega arit
 -- ---- `seen_at` reads a frame's time and date
 
 abbrev pub times_seen : TimingKind → List ℕ → Times
-times_seen kind s = record { timing = (seen_of kind s).timing; raw_time = (seen_of kind s).raw_time; raw_date = (seen_of kind s).raw_date; spare = bytes_of s 48 2 }
+times_seen kind s = record { timing = (seen_of kind s).timing; raw_time = (seen_of kind s).raw.time; raw_date = (seen_of kind s).raw.date; spare = bytes_of s 48 2 }
 
 net_seen : (ticks sign days : ℕ) → are_days ticks (sign, days) ≡ true → Net (net_sum (net_of ticks sign days)) ≡ net_timing (net_of ticks sign days)
 unfolding net_value

@@ -1,7 +1,6 @@
 -- The twelve numbered cases, with the other side of a limit where there is one, and each refusal of reading, writing and running time by its number.
-use Rattle.std.specs.Prelude.{ℕ, zero, suc, List, [], ◌∷◌, ◌++◌, Bool, true, false, ◌≡◌, pos, negsuc, set}
+use Rattle.std.specs.Prelude.{ℕ, zero, suc, List, [], ◌∷◌, ◌++◌, Bool, true, false, ◌≡◌, pos, negsuc, set, Some}
 use Prim.Native.String.{String}
-use Rattle.digits.specs.declared.Number.TheVariants.{Is}
 use Rattle.digits.specs.Text.{codes}
 use Rattle.digits.specs.Refusals.{plain, placed, spoiled_at}
 use Rattle.digits.specs.Told.{Told, gives, refuses}
@@ -74,7 +73,7 @@ running order bib period =
 
 pub record Worked : Type 0 where
   -- 1. 23:59:59.9999 is the last tick of a day; hour 24 is no time, neither in a clock reply nor in a net reply
-  pub last_tick_case : clock.got (codes "2359599999") 0 ≡ Is 863999999
+  pub last_tick_case : clock.got (codes "2359599999") 0 ≡ Some 863999999
   pub last_second : read reply (replying "00041" "255" "0" "2359599999" "29022024") ≡ gives (replied 48 (Clock 863999999 29 2 2024))
   pub hour_24 : FieldAt reply (replying "00041" "255" "0" "2400000000" "29022024") 30
   pub net_hour_24 : FieldAt reply (replying "00041" "255" "1" "2400000000" "+0000000") 30

@@ -1,11 +1,10 @@
 -- The dynamic request: 46 bytes, lead byte DC3.
-use Rattle.std.specs.Prelude.{ℕ, List, Bool, cond, ◌||◌, ◌≡◌, leb, eqb}
+use Rattle.std.specs.Prelude.{ℕ, List, Bool, cond, ◌||◌, ◌≡◌, leb, eqb, Result}
 use Rattle.digits.specs.Text.{codes, one_of}
-use Rattle.digits.specs.Told.{Told, gives, refuses}
+use Rattle.digits.specs.Told.{Told}
 use Rattle.frames.specs.declared.dynamic.DynamicRequest.{DynamicRequest}
-use Rattle.frames.specs.declared.dynamic.DynamicRead.{DynamicRead}
-use Rattle.frames.specs.declared.dynamic.DynamicRead.TheVariants.{Request, Refused}
-use Rattle.frames.specs.Refusals.{read_refused}
+use Rattle.frames.specs.declared.refusals.ReadRefusal.{ReadRefusal}
+use Rattle.frames.specs.Refusals.{read_told}
 use Rattle.frames.specs.Rules.{between, is_address, is_requester, is_output}
 use Rattle.frames.specs.Field.{letter, number_by, number_to, time_of_day}
 use Rattle.frames.specs.Layout.{Layout, field, end}
@@ -45,10 +44,9 @@ abbrev pub dynamic : Kind DynamicRequest
 dynamic = record { lead = 19; size = 46; fields = dynamic_fields }
 
 -- what the reader's answer means
-abbrev pub dynamic_told : DynamicRead → Told DynamicRequest
-dynamic_told (Request r) = gives r
-dynamic_told (Refused f) = refuses (read_refused f)
+abbrev pub dynamic_told : Result DynamicRequest ReadRefusal → Told DynamicRequest
+dynamic_told = read_told
 
 -- what is promised of reading s: the answer means `read dynamic` of s
-abbrev pub DynamicAs : List ℕ → DynamicRead → Type 0
+abbrev pub DynamicAs : List ℕ → Result DynamicRequest ReadRefusal → Type 0
 DynamicAs s a = dynamic_told a ≡ read dynamic s

@@ -1,8 +1,8 @@
 -- A kind of frame with its records of type R, and how it is read and written: lead byte, R, fields from the address on, CR.
-use Rattle.std.specs.Prelude.{ℕ, ◌-◌, List, [], ◌∷◌, ◌++◌, Bool, false, ◌&&◌, ◌≡◌, length, get_or, drop, eqb, leb}
+use Rattle.std.specs.Prelude.{ℕ, ◌-◌, List, [], ◌∷◌, ◌++◌, Bool, false, ◌&&◌, ◌≡◌, length, get_or, drop, eqb, leb, Result}
 use Rattle.digits.specs.Refusals.{KIND, LENGTH, END, ADDRESS, RECORD, ROOM}
 use Rattle.digits.specs.Told.{Told, gives, refuses, tried}
-use Rattle.frames.specs.declared.refusals.WriteAnswer.{WriteAnswer}
+use Rattle.frames.specs.declared.refusals.WriteRefusal.{WriteRefusal}
 use Rattle.frames.specs.Refusals.{write_told}
 use Rattle.frames.specs.Rules.{is_address}
 use Rattle.frames.specs.Layout.{Layout, fields_of, record_wrong, write}
@@ -69,6 +69,14 @@ output_after (gives _) frame size out = frame ++ drop size out
 output_after (refuses f) frame size out = out
 
 -- what is promised of writing the record r to the output out: the answer, and every byte of the output
-pub record Wrote {R : Type 0} (k : Kind R) (r : R) (out : List ℕ) (answer : WriteAnswer) (out' : List ℕ) : Type 0 where
+pub record Wrote {R : Type 0} (k : Kind R) (r : R) (out : List ℕ) (answer : Result (Unit {0}) WriteRefusal) (out' : List ℕ) : Type 0 where
   pub told : write_told answer ≡ write_tried (wrong_in k r) k.size (length out)
   pub bytes : out' ≡ output_after (write_tried (wrong_in k r) k.size (length out)) (frame_of k r) k.size out
+
+-- what a writer's answer means that gives the frame itself: the frame, or the refusal of an output with just enough room
+abbrev pub framed : {R : Type 0} → Kind R → R → Told (List ℕ)
+framed k r = and_then (write_tried (wrong_in k r) k.size k.size) (gives (frame_of k r))
+
+-- what a writer promises that gives the frame itself
+abbrev pub WroteFrame : {R : Type 0} → Kind R → R → Result (List ℕ) WriteRefusal → Type 0
+WroteFrame k r a = write_told a ≡ framed k r

@@ -1,15 +1,12 @@
 -- What the refusals of reading and writing mean: their numbers and offsets.
+use Rattle.std.specs.Prelude.{Result, Ok, Err}
 use Rattle.digits.specs.declared.refusal.Refusal.{Refusal}
 use Rattle.digits.specs.Refusals.{KIND, LENGTH, END, ADDRESS, FIELD, RECORD, ROOM}
 use Rattle.digits.specs.Told.{Told, gives, refuses}
 use Rattle.frames.specs.declared.refusals.ReadRefusal.{ReadRefusal}
 use Rattle.frames.specs.declared.refusals.ReadRefusal.TheVariants.{Kind, Length, End, Address, Field}
-use Rattle.frames.specs.declared.refusals.ReadVerdict.{ReadVerdict}
-use Rattle.frames.specs.declared.refusals.ReadVerdict.TheVariants.{Read, Refused}
 use Rattle.frames.specs.declared.refusals.WriteRefusal.{WriteRefusal}
 use Rattle.frames.specs.declared.refusals.WriteRefusal.TheVariants.{Record, Room}
-use Rattle.frames.specs.declared.refusals.WriteAnswer.{WriteAnswer}
-use Rattle.frames.specs.declared.refusals.WriteAnswer.TheVariants.{Written, Refused as not_written}
 
 abbrev pub read_refused : ReadRefusal → Refusal
 read_refused Kind = KIND
@@ -22,10 +19,15 @@ abbrev pub write_refused : WriteRefusal → Refusal
 write_refused (Record at) = RECORD at
 write_refused Room = ROOM
 
-abbrev pub verdict_told : ReadVerdict → Told (Unit {0})
-verdict_told Read = gives tt
-verdict_told (Refused f) = refuses (read_refused f)
+-- what an answer means
+module _ {A : Type 0} where
+  abbrev pub read_told : Result A ReadRefusal → Told A
+  read_told (Ok a) = gives a
+  read_told (Err f) = refuses (read_refused f)
 
-abbrev pub write_told : WriteAnswer → Told (Unit {0})
-write_told Written = gives tt
-write_told (not_written f) = refuses (write_refused f)
+  abbrev pub write_told : Result A WriteRefusal → Told A
+  write_told (Ok a) = gives a
+  write_told (Err f) = refuses (write_refused f)
+
+abbrev pub verdict_told : Result (Unit {0}) ReadRefusal → Told (Unit {0})
+verdict_told = read_told

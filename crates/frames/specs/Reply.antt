@@ -1,18 +1,14 @@
 -- The static reply: 51 bytes, lead byte DC2.
-use Rattle.std.specs.Prelude.{ℕ, ◌+◌, ◌*◌, ◌%◌, List, ◌↔◌, ◌≡◌, Bool, true, false, cond, ◌||◌, length, get_or, replicate, leb, eqb}
+use Rattle.std.specs.Prelude.{ℕ, ◌+◌, ◌*◌, ◌%◌, List, ◌↔◌, ◌≡◌, Bool, true, false, cond, ◌||◌, length, get_or, replicate, leb, eqb, Result, Option, Some, None}
 use Rattle.digits.specs.Text.{codes, one_of, place_of}
 use Rattle.digits.specs.Told.{Told, gives, refuses}
-use Rattle.frames.specs.declared.refusals.ReadVerdict.{ReadVerdict}
-use Rattle.frames.specs.declared.refusals.ReadVerdict.TheVariants.{Read, Refused}
+use Rattle.frames.specs.declared.refusals.ReadRefusal.{ReadRefusal}
 use Rattle.frames.specs.declared.timing.TimingKind.{TimingKind}
 use Rattle.frames.specs.declared.timing.Timing.TheVariants.{Raw}
 use Rattle.frames.specs.declared.reply.ReplyHead.{ReplyHead}
 use Rattle.frames.specs.declared.reply.StaticReply.{StaticReply}
-use Rattle.frames.specs.declared.reply.ReplyRead.{ReplyRead}
 use Rattle.frames.specs.declared.reply.ReplyLabel.{ReplyLabel}
-use Rattle.frames.specs.declared.reply.ReplyCheck.{ReplyCheck}
-use Rattle.frames.specs.declared.reply.ReplyCheck.TheVariants.{Good, Refused as Rejected}
-use Rattle.frames.specs.Refusals.{read_refused}
+use Rattle.frames.specs.Refusals.{read_told}
 use Rattle.frames.specs.Rules.{between, is_address, is_raw, is_requester}
 use Rattle.frames.specs.Status.{is_status, is_z}
 use Rattle.frames.specs.Field.{Field, letter, number_by, number_to}
@@ -30,6 +26,10 @@ is_letter = one_of letters
 -- the place of a letter among the 33, or 33 if it is none of them
 unfoldable pub letter_place : ℕ → ℕ
 letter_place = place_of letters
+
+-- its place, if it is a letter of a reply
+abbrev pub letter_found : ℕ → Option ℕ
+letter_found b = cond (is_letter b) (Some (letter_place b)) None
 
 unfoldable pub is_reply_channel : ℕ → Bool
 is_reply_channel v = leb v 240 || eqb v 245 || eqb v 248 || eqb v 249 || eqb v 250 || eqb v 255
@@ -102,7 +102,7 @@ pub record Whole (r : StaticReply) : Type 0 where
 
 -- ---- what the reader answers
 
--- the record that comes with a refusal: all zeros
+-- a record of zeros, which stands beside a refusal where an answer has room for a record
 abbrev pub zero_head : ReplyHead
 zero_head = record { address = 0; program = 0; mode = 0; status = 0; requester = 0; number = 0; bib = 0; group = 0; run = 0; physical = 0; channel = 0; information = 0 }
 
@@ -110,19 +110,13 @@ abbrev pub zero_reply : StaticReply
 zero_reply =
     record { head = zero_head; timing = Raw; raw_time = replicate 10 0; raw_date = replicate 8 0; spare = replicate 2 0 }
 
--- what an answer means
-abbrev pub told_by : ReadVerdict → StaticReply → Told StaticReply
-told_by Read r = gives r
-told_by (Refused f) r = refuses (read_refused f)
-
 abbrev pub or_zero : Told StaticReply → StaticReply
 or_zero (gives r) = r
 or_zero (refuses f) = zero_reply
 
--- what is promised of reading s: the answer means `read reply` of s, and with a refusal comes the record of zeros
-pub record ReadAs (s : List ℕ) (a : ReplyRead) : Type 0 where
-  pub told : told_by a.verdict a.reply ≡ read reply s
-  pub beside : a.reply ≡ or_zero (read reply s)
+-- what is promised of reading s: the answer means `read reply` of s
+abbrev pub ReadAs : List ℕ → Result StaticReply ReadRefusal → Type 0
+ReadAs s a = read_told a ≡ read reply s
 
 -- ---- what the check answers: the same refusals as the reader, and of a good reply only status, address, requester and number
 
@@ -133,12 +127,11 @@ abbrev pub labelled : Told StaticReply → Told ReplyLabel
 labelled (gives r) = gives (label_of r)
 labelled (refuses f) = refuses f
 
-abbrev pub check_told : ReplyCheck → Told ReplyLabel
-check_told (Good l) = gives l
-check_told (Rejected f) = refuses (read_refused f)
+abbrev pub check_told : Result ReplyLabel ReadRefusal → Told ReplyLabel
+check_told = read_told
 
 -- what is promised of checking s
-abbrev pub CheckedAs : List ℕ → ReplyCheck → Type 0
+abbrev pub CheckedAs : List ℕ → Result ReplyLabel ReadRefusal → Type 0
 CheckedAs s a = check_told a ≡ labelled (read reply s)
 
 -- ---- the check alone

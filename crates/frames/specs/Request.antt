@@ -1,11 +1,10 @@
 -- The static request: 24 bytes, lead byte DC1.
-use Rattle.std.specs.Prelude.{ℕ, List, Bool, ◌||◌, ◌≡◌, leb, eqb}
+use Rattle.std.specs.Prelude.{ℕ, List, Bool, ◌||◌, ◌≡◌, leb, eqb, Result}
 use Rattle.digits.specs.Text.{codes, one_of}
-use Rattle.digits.specs.Told.{Told, gives, refuses}
+use Rattle.digits.specs.Told.{Told}
 use Rattle.frames.specs.declared.request.StaticRequest.{StaticRequest}
-use Rattle.frames.specs.declared.request.RequestRead.{RequestRead}
-use Rattle.frames.specs.declared.request.RequestRead.TheVariants.{Request, Refused}
-use Rattle.frames.specs.Refusals.{read_refused}
+use Rattle.frames.specs.declared.refusals.ReadRefusal.{ReadRefusal}
+use Rattle.frames.specs.Refusals.{read_told}
 use Rattle.frames.specs.Rules.{is_address, is_requester, is_output}
 use Rattle.frames.specs.Field.{letter, number_by, number_to}
 use Rattle.frames.specs.Layout.{Layout, field, end}
@@ -36,10 +35,9 @@ abbrev pub request : Kind StaticRequest
 request = record { lead = 17; size = 24; fields = request_fields }
 
 -- what the reader's answer means
-abbrev pub request_told : RequestRead → Told StaticRequest
-request_told (Request r) = gives r
-request_told (Refused f) = refuses (read_refused f)
+abbrev pub request_told : Result StaticRequest ReadRefusal → Told StaticRequest
+request_told = read_told
 
 -- what is promised of reading s: the answer means `read request` of s
-abbrev pub RequestAs : List ℕ → RequestRead → Type 0
+abbrev pub RequestAs : List ℕ → Result StaticRequest ReadRefusal → Type 0
 RequestAs s a = request_told a ≡ read request s

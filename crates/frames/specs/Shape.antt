@@ -1,7 +1,5 @@
 -- What a shape is: how the value of a field is written in a frame. It is one number, several in a row, or bytes kept as they are.
-use Rattle.std.specs.Prelude.{ℕ, zero, suc, ◌+◌, List, [], ◌∷◌, ◌++◌, Bool, true, ◌&&◌, get_or}
-use Rattle.digits.specs.declared.Number.{Number}
-use Rattle.digits.specs.declared.Number.TheVariants.{Is, Wrong}
+use Rattle.std.specs.Prelude.{ℕ, zero, suc, ◌+◌, List, [], ◌∷◌, ◌++◌, Bool, true, ◌&&◌, get_or, Option, Some, None}
 use Rattle.digits.specs.Form as D
 use Rattle.digits.specs.Form.{Form}
 use Rattle.times.specs.Clock.{clock}
@@ -19,9 +17,9 @@ pub record Shape (A : Type 0) : Type 0 where
 
 -- ---- one number
 
-abbrev pub value : Number → Value ℕ
-value (Is v) = is v
-value Wrong = none
+abbrev pub value : Option ℕ → Value ℕ
+value (Some v) = is v
+value None = none
 
 abbrev pub one : Form → Shape ℕ
 one k = record { width = k.width; got = λ s p. value (k.got s p); put = k.put }

@@ -1,5 +1,5 @@
 -- The status letters of a reply: R is one record of an answer, E its last one, Z says that no record is available.
-use Rattle.std.specs.Prelude.{ℕ, Bool, List, [], ◌∷◌, eqb}
+use Rattle.std.specs.Prelude.{ℕ, Bool, List, [], ◌∷◌, eqb, cond, Option, Some, None}
 use Rattle.digits.specs.Text.{one_of, place_of}
 
 abbrev pub status_r : ℕ
@@ -20,6 +20,10 @@ is_status = one_of statuses
 -- the place of a status among the three, or 3 if it is none of them
 unfoldable pub status_place : ℕ → ℕ
 status_place = place_of statuses
+
+-- its place, if it is a status
+abbrev pub status_found : ℕ → Option ℕ
+status_found b = cond (is_status b) (Some (status_place b)) None
 
 -- the status is Z: not available
 abbrev pub is_z : ℕ → Bool

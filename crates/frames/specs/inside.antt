@@ -3,4 +3,5 @@ pub mod Held
 pub mod Timing
 pub mod Spoiled
 pub mod Reply
+pub mod Runs
 pub mod Check

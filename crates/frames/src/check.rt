@@ -16,6 +16,7 @@ use crate::head::{CR, LETTER};
 use crate::reply::{
     REPLY_LEAD, REPLY_SIZE, ReplyLabel, field, is_letter, is_reply_channel, is_status, least_run,
 };
+use crate::runs::all_in;
 use crate::timing::{TimingKind, is_raw, kind_of};
 use digits::byte_at;
 use times::day::is_day;
@@ -29,26 +30,21 @@ const SECONDS: usize = field::TIME + 4;
 pub fn is_reply(s: &[u8]) -> bool
     ensures { result ≡ is_good (read reply s.now) }
 {
-    if s.len() != REPLY_SIZE {
+    let Some(s) = s.as_array::<REPLY_SIZE>() else {
         return false;
-    }
+    };
     // All numbers before the time. Of the number and the physical channel nothing else is asked.
-    if !digits_in(s, field::NUMBER, field::INFORMATION) {
+    if !all_in(&s[field::NUMBER..field::INFORMATION], is_digit) {
         return false;
     }
-    if !bounds_good(s) {
-        return false;
-    }
-    if !codes_good(s) {
-        return false;
-    }
-    if !values_good(s) {
-        return false;
-    }
-    timing_good(s, kind_of(s[field::STATUS], s[field::INFORMATION]))
+    bounds_good(s)
+        && codes_good(s)
+        && values_good(s)
+        && timing_good(s, kind_of(s[field::STATUS], s[field::INFORMATION]))
 }
 
 // The label by the bytes alone, whether the frame is good or not.
+#[tactic(auto, unfolding(crate::specs::Reply::label_at))]
 pub fn label_at(s: &[u8]) -> ReplyLabel
     ensures { result ≡ label_at s.now }
 {
@@ -72,8 +68,8 @@ fn digit_at(s: &[u8], at: usize) -> u32
 }
 
 // The bytes with one good value, and two bounds that are bounds of a first digit: bib up to 59999, group up to 199.
-fn bounds_good(s: &[u8]) -> bool
-    requires { length s.now ≡ 51 }
+#[tactic(auto, unfolding(crate::specs::inside::Check::bounds_good))]
+fn bounds_good(s: &[u8; 51]) -> bool
     ensures { result ≡ I.bounds_good s.now }
 {
     let fixed = (s[0] == REPLY_LEAD) & (s[1] == LETTER) & (s[field::END] == CR);
@@ -81,156 +77,109 @@ fn bounds_good(s: &[u8]) -> bool
 }
 
 // Address, requester, program and mode.
-fn codes_good(s: &[u8]) -> bool
-    requires { length s.now ≡ 51 }
+#[tactic(auto, unfolding(crate::specs::inside::Check::codes_good))]
+fn codes_good(s: &[u8; 51]) -> bool
     ensures { result ≡ I.codes_good s.now }
 {
-    if !is_address(s[field::ADDRESS]) {
-        return false;
-    }
-    if !is_requester(s[field::REQUESTER]) {
-        return false;
-    }
-    raw_in(s, field::PROGRAM, field::STATUS)
+    is_address(s[field::ADDRESS])
+        && is_requester(s[field::REQUESTER])
+        && all_in(&s[field::PROGRAM..field::STATUS], is_raw)
 }
 
 // Status, information, run and channel.
-fn values_good(s: &[u8]) -> bool
-    requires { (length s.now ≡ 51) × (all_from is_digit s.now 7 22 ≡ true) }
+#[tactic(auto, unfolding(crate::specs::inside::Check::values_good))]
+fn values_good(s: &[u8; 51]) -> bool
+    requires { all_from is_digit s.now 7 22 ≡ true }
     ensures { result ≡ I.values_good s.now }
 {
     let status = s[field::STATUS];
     let letters = is_status(status) & is_letter(s[field::INFORMATION]);
     letters
-        & within(least_run(status), 250, three(s, field::RUN))
-        & is_reply_channel(three(s, field::CHANNEL))
+        & within(least_run(status), 250, number::<3>(s, field::RUN))
+        & is_reply_channel(number::<3>(s, field::CHANNEL))
 }
 
 // Time, date and spare.
-fn timing_good(s: &[u8], kind: TimingKind) -> bool
-    requires { length s.now ≡ 51 }
+fn timing_good(s: &[u8; 51], kind: TimingKind) -> bool
     ensures { result ≡ eqb (T.seen_of kind s.now).wrong 0 }
 {
     match kind {
         TimingKind::Clock => clock_good(s),
         TimingKind::Net => net_good(s),
-        TimingKind::Raw => raw_in(s, field::TIME, field::END),
+        TimingKind::Raw => all_in(&s[field::TIME..field::END], is_raw),
     }
 }
 
-fn clock_good(s: &[u8]) -> bool
-    requires { length s.now ≡ 51 }
+fn clock_good(s: &[u8; 51]) -> bool
     ensures { result ≡ eqb (T.seen_clock s.now).wrong 0 }
 {
-    if !digits_in(s, field::TIME, field::SPARE) {
+    if !all_in(&s[field::TIME..field::SPARE], is_digit) {
         return false;
     }
-    if !(raw_in(s, field::SPARE, field::END) & time_good(s)) {
-        return false;
-    }
-    is_day(
-        two(s, field::DATE),
-        two(s, field::MONTH),
-        four(s, field::YEAR),
-    )
+    (all_in(&s[field::SPARE..field::END], is_raw) & time_good(s))
+        && is_day(
+            number::<2>(s, field::DATE),
+            number::<2>(s, field::MONTH),
+            number::<4>(s, field::YEAR),
+        )
 }
 
-fn net_good(s: &[u8]) -> bool
-    requires { length s.now ≡ 51 }
+fn net_good(s: &[u8; 51]) -> bool
     ensures { result ≡ eqb (T.seen_net s.now).wrong 0 }
 {
-    if !(digits_in(s, field::TIME, field::DATE) & digits_in(s, field::DAYS, field::SPARE)) {
+    let digits = all_in(&s[field::TIME..field::DATE], is_digit)
+        & all_in(&s[field::DAYS..field::SPARE], is_digit);
+    if !digits {
         return false;
     }
-    if !(raw_in(s, field::SPARE, field::END) & time_good(s)) {
-        return false;
-    }
-    sign_good(s)
+    (all_in(&s[field::SPARE..field::END], is_raw) & time_good(s)) && sign_good(s)
 }
 
 // Minutes and seconds up to 59: their first digit is at most 5.
-fn time_good(s: &[u8]) -> bool
-    requires { (length s.now ≡ 51) × (all_from is_digit s.now 30 10 ≡ true) }
+fn time_good(s: &[u8; 51]) -> bool
+    requires { all_from is_digit s.now 30 10 ≡ true }
     ensures { result ≡ is_time (or_none (clock.got s.now 30)) }
 {
-    if 23 < two(s, field::TIME) {
-        return false;
-    }
-    (s[MINUTES] <= b'5') & (s[SECONDS] <= b'5')
+    number::<2>(s, field::TIME) <= 23 && (s[MINUTES] <= b'5') & (s[SECONDS] <= b'5')
 }
 
 // A plus, or a minus that is not in front of zero.
-fn sign_good(s: &[u8]) -> bool
-    requires { length s.now ≡ 51 }
+#[tactic(auto, unfolding(crate::specs::inside::Check::sign_good))]
+fn sign_good(s: &[u8; 51]) -> bool
     ensures { result ≡ I.sign_good s.now }
 {
     if s[field::DATE] == b'+' {
         return true;
     }
-    let zero = zeros_in(s, field::TIME, field::DATE) & zeros_in(s, field::DAYS, field::SPARE);
+    let zero = all_in(&s[field::TIME..field::DATE], is_zero)
+        & all_in(&s[field::DAYS..field::SPARE], is_zero);
     (s[field::DATE] == b'-') & !zero
 }
 
-// ---- runs of bytes
+// ---- rules for a byte
 
-fn digits_in(s: &[u8], from: usize, to: usize) -> bool
-    requires { to ≤ length s.now }
-    ensures { result ≡ all_from is_digit s.now from (to - from) }
+fn is_digit(b: u8) -> bool
+    ensures { result ≡ is_digit b }
 {
-    let mut good = true;
-    let mut i = from;
-    while i < to {
-        good = good & (b'0' <= s[i]) & (s[i] <= b'9');
-        i += 1;
+    (b'0' <= b) & (b <= b'9')
+}
+
+fn is_zero(b: u8) -> bool
+    ensures { result ≡ I.is_zero b }
+{
+    b == b'0'
+}
+
+// The number of N tested digits.
+fn number<const N: usize>(s: &[u8; 51], at: usize) -> u32
+    requires place { at + N ≤ 51 }
+    requires width { (1 ≤ N) × (N ≤ 4) }
+    requires digits { all_from is_digit s.now at N ≡ true }
+    ensures { result ≡ or_none (number_at s.now at N) }
+{
+    let mut n = 0;
+    for k in 0..N {
+        n = n * 10 + s[at + k] as u32 - 48;
     }
-    good
-}
-
-fn raw_in(s: &[u8], from: usize, to: usize) -> bool
-    requires { to ≤ length s.now }
-    ensures { result ≡ all_from is_raw s.now from (to - from) }
-{
-    let mut good = true;
-    let mut i = from;
-    while i < to {
-        good = good & is_raw(s[i]);
-        i += 1;
-    }
-    good
-}
-
-fn zeros_in(s: &[u8], from: usize, to: usize) -> bool
-    requires { to ≤ length s.now }
-    ensures { result ≡ all_from I.is_zero s.now from (to - from) }
-{
-    let mut good = true;
-    let mut i = from;
-    while i < to {
-        good = good & (s[i] == b'0');
-        i += 1;
-    }
-    good
-}
-
-// ---- numbers of tested digits: the code of a digit is 48 more than the digit, so a sum is 48 * 11 or 48 * 111 too much
-
-fn two(s: &[u8], at: usize) -> u32
-    requires { (at + 2 ≤ length s.now) × (all_from is_digit s.now at 2 ≡ true) }
-    ensures { result ≡ or_none (number_at s.now at 2) }
-{
-    s[at] as u32 * 10 + s[at + 1] as u32 - 528
-}
-
-fn three(s: &[u8], at: usize) -> u32
-    requires { (at + 3 ≤ length s.now) × (all_from is_digit s.now at 3 ≡ true) }
-    ensures { result ≡ or_none (number_at s.now at 3) }
-{
-    s[at] as u32 * 100 + s[at + 1] as u32 * 10 + s[at + 2] as u32 - 5_328
-}
-
-fn four(s: &[u8], at: usize) -> u32
-    requires { (at + 4 ≤ length s.now) × (all_from is_digit s.now at 4 ≡ true) }
-    ensures { result ≡ or_none (number_at s.now at 4) }
-{
-    two(s, at) * 100 + two(s, at + 2)
+    n
 }

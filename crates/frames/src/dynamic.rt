@@ -1,19 +1,17 @@
 // The dynamic request: 46 bytes, lead byte DC3.
-ghost use Rattle.std.specs.Prelude.{◌≡◌, eqb};
-ghost use Rattle.std.proofs.lemmas.List.Edits.{sets};
-ghost use Rattle.digits.specs.Told.{gives, tried};
-ghost use Rattle.digits.specs.Refusals.{FIELD};
-ghost use Rattle.frames.specs.Kind.{wrong_in, frame_of, Wrote};
+ghost use Rattle.std.specs.Prelude.{◌≡◌, refl};
+ghost use Rattle.std.proofs.Common.{lit<};
+ghost use Rattle.frames.specs.Kind.{Wrote};
 ghost use Rattle.frames.specs.inside.Held.{dynamic_at};
 ghost use Rattle.frames.specs.inside.Spoiled.{dynamic_byte};
-ghost use Rattle.frames.specs.Dynamic.{is_order, is_dynamic_channel, least_period, dynamic, dynamic_told, DynamicAs};
+ghost use Rattle.frames.specs.Dynamic.{is_order, is_dynamic_channel, least_period, dynamic, DynamicAs};
 
 use crate::fields::{
-    clock_or_none, is_address, is_output, is_requester, number_or_none, within, write_tries,
-    wrong_unless,
+    clock_or_none, is_address, is_output, is_requester, number_or_none, within, wrong_unless,
 };
-use crate::head::{CR, head_of, put_head};
-use crate::refusals::{Place, ReadRefusal, ReadVerdict, WriteAnswer};
+use crate::head::{CR, put_head};
+use crate::record::{Record, read, write};
+use crate::refusals::{ReadRefusal, WriteRefusal};
 use crate::spoiled::{TIME_CLASSES, looked_in};
 use digits::{byte_at, put_byte, put_number};
 use times::clock::{LAST_TICK, put_clock};
@@ -57,7 +55,7 @@ pub mod field {
 
 // Address and letters by their codes. Sign, time in ticks and days are those of Taux; the sign is kept if time and days are zero.
 #[repr(C)]
-#[derive(Clone, Copy)]
+#[derive(Clone, Copy, Debug, PartialEq, Eq)]
 pub struct DynamicRequest {
     pub address: u8,
     pub requester: u8,
@@ -75,31 +73,97 @@ pub struct DynamicRequest {
     pub output: u8,
 }
 
-#[derive(Clone, Copy)]
-pub enum DynamicRead {
-    Request(DynamicRequest),
-    Refused(ReadRefusal),
-}
-
-pub fn read_dynamic(s: &[u8]) -> DynamicRead
+pub fn read_dynamic(s: &[u8]) -> Result<DynamicRequest, ReadRefusal>
     ensures { DynamicAs s.now result }
 {
-    match head_of(s, DYNAMIC_LEAD, DYNAMIC_SIZE) {
-        ReadVerdict::Read => judged(s, dynamic_at(s)),
-        ReadVerdict::Refused(refusal) => DynamicRead::Refused(refusal),
-    }
+    read(s)
 }
 
 // Writes the frame to the first 46 bytes of out, or changes nothing.
-pub fn write_dynamic(r: DynamicRequest, out: &mut [u8]) -> WriteAnswer
+pub fn write_dynamic(r: DynamicRequest, out: &mut [u8]) -> Result<(), WriteRefusal>
     ensures { Wrote dynamic r out.old result out.new }
 {
-    match write_tries(dynamic_wrong(r), DYNAMIC_SIZE, out.len()) {
-        WriteAnswer::Written => {
-            put_dynamic(r, out);
-            WriteAnswer::Written
-        }
-        WriteAnswer::Refused(refusal) => WriteAnswer::Refused(refusal),
+    write(r, out)
+}
+
+impl Record for DynamicRequest {
+    ghost kind = { dynamic };
+
+    ghost LEAD = { 19 };
+
+    ghost SIZE = { 46 };
+
+    const LEAD: u8 = DYNAMIC_LEAD;
+
+    const SIZE: usize = DYNAMIC_SIZE;
+
+    ghost spoils = { dynamic_byte };
+
+    ghost some = { (lit< tt, lit< tt) };
+
+    ghost of_kind = { (refl, refl) };
+
+    #[tactic(auto, using(crate::proofs::DynamicLaws::dynamic_reads))]
+    fn held(s: &[u8]) -> (DynamicRequest, u8) {
+        let r = dynamic_at(s);
+        (r, r.wrong())
+    }
+
+    // A field of one byte is its own.
+    fn spoiled(s: &[u8], wrong: u8) -> u8 {
+        let spoiled = looked_in(s, wrong, field::BIB, b"69999", wrong);
+        let spoiled = looked_in(s, wrong, field::CHANNEL, b"299", spoiled);
+        let spoiled = looked_in(s, wrong, field::RUN, b"299", spoiled);
+        let spoiled = looked_in(s, wrong, field::STOP_BIB, b"69999", spoiled);
+        let spoiled = looked_in(s, wrong, field::STOP_CHANNEL, b"299", spoiled);
+        let spoiled = looked_in(s, wrong, field::STOP_RUN, b"299", spoiled);
+        let spoiled = looked_in(s, wrong, field::TIME, &TIME_CLASSES, spoiled);
+        looked_in(s, wrong, field::PERIOD, b"99999", spoiled)
+    }
+
+    #[tactic(auto, unfolding(crate::specs::Kind::wrong_in, crate::specs::Dynamic::dynamic_fields, crate::specs::Layout::record_wrong, crate::specs::Rules::up_to))]
+    fn wrong(self) -> u8 {
+        let wrong = wrong_unless(is_output(self.output), field::OUTPUT, 0);
+        let wrong = wrong_unless(
+            within(least_period(self.order), 99_999, self.period),
+            field::PERIOD,
+            wrong,
+        );
+        let wrong = wrong_unless(self.days <= 9, field::DAYS, wrong);
+        let wrong = wrong_unless(self.time <= LAST_TICK, field::TIME, wrong);
+        let wrong = wrong_unless(self.sign <= 1, field::SIGN, wrong);
+        let wrong = wrong_unless(self.stop_run <= 250, field::STOP_RUN, wrong);
+        let wrong = wrong_unless(
+            is_dynamic_channel(self.stop_channel),
+            field::STOP_CHANNEL,
+            wrong,
+        );
+        let wrong = wrong_unless(within(1, 60_000, self.stop_bib), field::STOP_BIB, wrong);
+        let wrong = wrong_unless(self.run <= 250, field::RUN, wrong);
+        let wrong = wrong_unless(is_dynamic_channel(self.channel), field::CHANNEL, wrong);
+        let wrong = wrong_unless(self.bib <= 60_000, field::BIB, wrong);
+        let wrong = wrong_unless(is_order(self.order), field::ORDER, wrong);
+        let wrong = wrong_unless(is_requester(self.requester), field::REQUESTER, wrong);
+        wrong_unless(is_address(self.address), field::ADDRESS, wrong)
+    }
+
+    #[tactic(auto, using(crate::proofs::DynamicLaws::stores_frame, crate::proofs::DynamicLaws::length_dynamic), unfolding(crate::specs::Kind::frame_of))]
+    fn put(self, out: &mut [u8]) {
+        put_head(out, DYNAMIC_LEAD, self.address);
+        put_byte(out, field::REQUESTER, self.requester);
+        put_byte(out, field::ORDER, self.order);
+        put_number(out, field::BIB, 5, self.bib as u64);
+        put_number(out, field::CHANNEL, 3, self.channel as u64);
+        put_number(out, field::RUN, 3, self.run as u64);
+        put_number(out, field::STOP_BIB, 5, self.stop_bib as u64);
+        put_number(out, field::STOP_CHANNEL, 3, self.stop_channel as u64);
+        put_number(out, field::STOP_RUN, 3, self.stop_run as u64);
+        put_number(out, field::SIGN, 1, self.sign as u64);
+        put_clock(out, field::TIME, self.time);
+        put_number(out, field::DAYS, 1, self.days as u64);
+        put_number(out, field::PERIOD, 5, self.period as u64);
+        put_byte(out, field::OUTPUT, self.output);
+        put_byte(out, field::END, CR);
     }
 }
 
@@ -125,74 +189,21 @@ fn dynamic_at(s: &[u8]) -> DynamicRequest
     }
 }
 
-fn judged(s: &[u8], r: DynamicRequest) -> DynamicRead
-    ensures { dynamic_told result ≡ tried (eqb (wrong_in dynamic r) 0) (FIELD (wrong_in dynamic r) (dynamic_byte s.now (wrong_in dynamic r))) (gives r) }
-{
-    let wrong = dynamic_wrong(r);
-    if wrong == 0 {
-        DynamicRead::Request(r)
-    } else {
-        DynamicRead::Refused(ReadRefusal::Field(Place {
-            field: wrong,
-            spoiled: dynamic_byte(s, wrong),
-        }))
-    }
-}
-
-// The byte that spoils the wrong field. A field of one byte is its own.
-fn dynamic_byte(s: &[u8], wrong: u8) -> u8
-    ensures { result ≡ dynamic_byte s.now wrong }
-{
-    let spoiled = looked_in(s, wrong, field::BIB, b"69999", wrong);
-    let spoiled = looked_in(s, wrong, field::CHANNEL, b"299", spoiled);
-    let spoiled = looked_in(s, wrong, field::RUN, b"299", spoiled);
-    let spoiled = looked_in(s, wrong, field::STOP_BIB, b"69999", spoiled);
-    let spoiled = looked_in(s, wrong, field::STOP_CHANNEL, b"299", spoiled);
-    let spoiled = looked_in(s, wrong, field::STOP_RUN, b"299", spoiled);
-    let spoiled = looked_in(s, wrong, field::TIME, &TIME_CLASSES, spoiled);
-    looked_in(s, wrong, field::PERIOD, b"99999", spoiled)
-}
-
-// The offset of the first wrong part, or 0 if none is wrong.
-fn dynamic_wrong(r: DynamicRequest) -> u8
-    ensures { result ≡ wrong_in dynamic r }
-{
-    let wrong = wrong_unless(is_output(r.output), field::OUTPUT, 0);
-    let wrong = wrong_unless(
-        within(least_period(r.order), 99_999, r.period),
-        field::PERIOD,
-        wrong,
-    );
-    let wrong = wrong_unless(r.days <= 9, field::DAYS, wrong);
-    let wrong = wrong_unless(r.time <= LAST_TICK, field::TIME, wrong);
-    let wrong = wrong_unless(r.sign <= 1, field::SIGN, wrong);
-    let wrong = wrong_unless(r.stop_run <= 250, field::STOP_RUN, wrong);
-    let wrong = wrong_unless(
-        is_dynamic_channel(r.stop_channel),
-        field::STOP_CHANNEL,
-        wrong,
-    );
-    let wrong = wrong_unless(within(1, 60_000, r.stop_bib), field::STOP_BIB, wrong);
-    let wrong = wrong_unless(r.run <= 250, field::RUN, wrong);
-    let wrong = wrong_unless(is_dynamic_channel(r.channel), field::CHANNEL, wrong);
-    let wrong = wrong_unless(r.bib <= 60_000, field::BIB, wrong);
-    let wrong = wrong_unless(is_order(r.order), field::ORDER, wrong);
-    let wrong = wrong_unless(is_requester(r.requester), field::REQUESTER, wrong);
-    wrong_unless(is_address(r.address), field::ADDRESS, wrong)
-}
-
+#[tactic(auto, unfolding(crate::specs::Dynamic::is_order, digits::specs::Text::one_of))]
 fn is_order(b: u8) -> bool
     ensures { result ≡ is_order b }
 {
     (b == b'A') | (b == b'B') | (b == b'a') | (b == b'b') | (b == b'T') | (b == b't')
 }
 
+#[tactic(auto, unfolding(crate::specs::Dynamic::is_dynamic_channel))]
 fn is_dynamic_channel(v: u32) -> bool
     ensures { result ≡ is_dynamic_channel v }
 {
     (v <= 240) | (v == 250) | (v == 255)
 }
 
+#[tactic(auto, unfolding(crate::specs::Dynamic::least_period, digits::specs::Text::one_of))]
 fn least_period(order: u8) -> u32
     ensures { result ≡ least_period order }
 {
@@ -201,24 +212,4 @@ fn least_period(order: u8) -> u32
     } else {
         0
     }
-}
-
-fn put_dynamic(r: DynamicRequest, out: &mut [u8])
-    ensures { out.new ≡ sets out.old 0 (frame_of dynamic r) }
-{
-    put_head(out, DYNAMIC_LEAD, r.address);
-    put_byte(out, field::REQUESTER, r.requester);
-    put_byte(out, field::ORDER, r.order);
-    put_number(out, field::BIB, 5, r.bib as u64);
-    put_number(out, field::CHANNEL, 3, r.channel as u64);
-    put_number(out, field::RUN, 3, r.run as u64);
-    put_number(out, field::STOP_BIB, 5, r.stop_bib as u64);
-    put_number(out, field::STOP_CHANNEL, 3, r.stop_channel as u64);
-    put_number(out, field::STOP_RUN, 3, r.stop_run as u64);
-    put_number(out, field::SIGN, 1, r.sign as u64);
-    put_clock(out, field::TIME, r.time);
-    put_number(out, field::DAYS, 1, r.days as u64);
-    put_number(out, field::PERIOD, 5, r.period as u64);
-    put_byte(out, field::OUTPUT, r.output);
-    put_byte(out, field::END, CR);
 }

@@ -5,7 +5,7 @@ ghost use Rattle.frames.specs.Refusals.{verdict_told};
 ghost use Rattle.frames.specs.Kind.{letter_r, head_told};
 
 use crate::fields::is_address;
-use crate::refusals::{ReadRefusal, ReadVerdict};
+use crate::refusals::ReadRefusal;
 use digits::{byte_at, put_byte};
 
 pub const LETTER: u8 = b'R';
@@ -16,26 +16,27 @@ pub const ADDRESS: usize = 2;
 pub const CR: u8 = 13;
 
 // Tests lead byte, length, last byte, R and address, before any field.
-pub fn head_of(s: &[u8], lead: u8, size: usize) -> ReadVerdict
+#[tactic(auto, using(crate::proofs::HeadLaws::head_kind, crate::proofs::HeadLaws::head_length, crate::proofs::HeadLaws::head_end, crate::proofs::HeadLaws::head_letter, crate::proofs::HeadLaws::head_address, crate::proofs::HeadLaws::head_good))]
+pub fn head_of(s: &[u8], lead: u8, size: usize) -> Result<(), ReadRefusal>
     requires { (0 < lead) × (0 < size) }
     ensures { verdict_told result ≡ head_told lead size s.now }
 {
     if byte_at(s, 0) != lead {
-        return ReadVerdict::Refused(ReadRefusal::Kind);
+        return Err(ReadRefusal::Kind);
     }
     if s.len() != size {
-        return ReadVerdict::Refused(ReadRefusal::Length);
+        return Err(ReadRefusal::Length);
     }
     if byte_at(s, size - 1) != CR {
-        return ReadVerdict::Refused(ReadRefusal::End);
+        return Err(ReadRefusal::End);
     }
     if byte_at(s, 1) != LETTER {
-        return ReadVerdict::Refused(ReadRefusal::Address);
+        return Err(ReadRefusal::Address);
     }
     if !is_address(byte_at(s, ADDRESS)) {
-        return ReadVerdict::Refused(ReadRefusal::Address);
+        return Err(ReadRefusal::Address);
     }
-    ReadVerdict::Read
+    Ok(())
 }
 
 // Stores the lead byte, R and the address.

@@ -6,14 +6,14 @@ use digits::refusal as table;
 use digits::refusal::{Refusal, of_field, placed, plain};
 
 // The offset at which a frame's first wrong field begins, and the offset of the byte that spoils it.
-#[derive(Clone, Copy)]
+#[derive(Clone, Copy, Debug, PartialEq, Eq)]
 pub struct Place {
     pub field: u8,
     pub spoiled: u8,
 }
 
 // In the order in which they are tested.
-#[derive(Clone, Copy)]
+#[derive(Clone, Copy, Debug, PartialEq, Eq)]
 pub enum ReadRefusal {
     Kind,
     Length,
@@ -22,42 +22,34 @@ pub enum ReadRefusal {
     Field(Place),
 }
 
-#[derive(Clone, Copy)]
-pub enum ReadVerdict {
-    Read,
-    Refused(ReadRefusal),
-}
-
 // Record holds the offset of the record's first wrong part.
-#[derive(Clone, Copy)]
+#[derive(Clone, Copy, Debug, PartialEq, Eq)]
 pub enum WriteRefusal {
     Record(u8),
     Room,
 }
 
-#[derive(Clone, Copy)]
-pub enum WriteAnswer {
-    Written,
-    Refused(WriteRefusal),
-}
+impl From<ReadRefusal> for Refusal {
+    ghost from_gives = { λ refusal f. f ≡ read_refused refusal };
 
-pub fn of_reading(refusal: ReadRefusal) -> Refusal
-    ensures { result ≡ read_refused refusal }
-{
-    match refusal {
-        ReadRefusal::Kind => plain(table::KIND),
-        ReadRefusal::Length => plain(table::LENGTH),
-        ReadRefusal::End => plain(table::END),
-        ReadRefusal::Address => plain(table::ADDRESS),
-        ReadRefusal::Field(place) => of_field(place.field, place.spoiled),
+    fn from(refusal: ReadRefusal) -> Refusal {
+        match refusal {
+            ReadRefusal::Kind => plain(table::KIND),
+            ReadRefusal::Length => plain(table::LENGTH),
+            ReadRefusal::End => plain(table::END),
+            ReadRefusal::Address => plain(table::ADDRESS),
+            ReadRefusal::Field(place) => of_field(place.field, place.spoiled),
+        }
     }
 }
 
-pub fn of_writing(refusal: WriteRefusal) -> Refusal
-    ensures { result ≡ write_refused refusal }
-{
-    match refusal {
-        WriteRefusal::Record(at) => placed(table::RECORD, at),
-        WriteRefusal::Room => plain(table::ROOM),
+impl From<WriteRefusal> for Refusal {
+    ghost from_gives = { λ refusal f. f ≡ write_refused refusal };
+
+    fn from(refusal: WriteRefusal) -> Refusal {
+        match refusal {
+            WriteRefusal::Record(at) => placed(table::RECORD, at),
+            WriteRefusal::Room => plain(table::ROOM),
+        }
     }
 }

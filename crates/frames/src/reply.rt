@@ -1,21 +1,23 @@
 // The static reply: 51 bytes, lead byte DC2.
-ghost use Rattle.std.specs.Prelude.{◌≡◌, length, replicate};
+ghost use Rattle.std.specs.Prelude.{◌≡◌, length, refl};
+ghost use Rattle.std.proofs.Common.{lit<};
 ghost use Rattle.std.proofs.lemmas.List.Edits.{sets};
-ghost use Rattle.frames.specs.Kind.{wrong_in, Wrote};
+ghost use Rattle.frames.specs.Kind.{Wrote, WroteFrame};
 ghost use Rattle.frames.specs.inside.Reply as I;
 ghost use Rattle.frames.specs.inside.Spoiled.{head_byte, reply_byte};
-ghost use Rattle.frames.specs.Status.{is_status, status_place};
-ghost use Rattle.frames.specs.Reply.{is_letter, letter_place, is_reply_channel, least_run, reply, zero_head, zero_reply, ReadAs, check_told, CheckedAs};
+ghost use Rattle.frames.specs.Status.{is_status, status_found};
+ghost use Rattle.frames.specs.Reply.{is_letter, letter_found, is_reply_channel, least_run, reply, ReadAs, CheckedAs};
 
-use crate::fields::{is_address, is_requester, number_or_none, within, write_tries, wrong_unless};
+use crate::fields::{is_address, is_requester, number_or_none, within, wrong_unless};
 use crate::head::{CR, head_of, put_head};
-use crate::refusals::{Place, ReadRefusal, ReadVerdict, WriteAnswer};
+use crate::record::{Record, judged, read, write};
+use crate::refusals::{ReadRefusal, WriteRefusal};
 use crate::spoiled::looked_in;
 use crate::timing::{
-    Seen, Timing, TimingKind, is_raw, kind_of, put_timing, seen_at, spare_at, timing_byte,
+    RawBytes, Timing, TimingKind, is_raw, kind_of, put_timing, seen_at, spare_at, timing_byte,
     timing_wrong, timing_wrong_at,
 };
-use digits::{byte_at, in_set, put_byte, put_bytes, put_number};
+use digits::{byte_at, in_set, put_all, put_byte, put_number};
 
 pub const REPLY_LEAD: u8 = 18;
 
@@ -82,7 +84,7 @@ pub const STATUSES: usize = 3;
 
 // The parts before time and date. Address, letters, program and mode are held by their codes.
 #[repr(C)]
-#[derive(Clone, Copy)]
+#[derive(Clone, Copy, Debug, PartialEq, Eq)]
 pub struct ReplyHead {
     pub address: u8,
     pub program: u8,
@@ -99,7 +101,7 @@ pub struct ReplyHead {
 }
 
 // Raw time and date are zero if the timing is not raw.
-#[derive(Clone, Copy)]
+#[derive(Clone, Copy, Debug, PartialEq, Eq)]
 pub struct StaticReply {
     pub head: ReplyHead,
     pub timing: Timing,
@@ -108,15 +110,8 @@ pub struct StaticReply {
     pub spare: [u8; 2],
 }
 
-// The record is all zero if the frame was refused.
-#[derive(Clone, Copy)]
-pub struct ReplyRead {
-    pub verdict: ReadVerdict,
-    pub reply: StaticReply,
-}
-
 // Where a good reply belongs, and its status. Address and requester are held by their codes, as in a key.
-#[derive(Clone, Copy)]
+#[derive(Clone, Copy, Debug, PartialEq, Eq)]
 pub struct ReplyLabel {
     pub status: u8,
     pub address: u32,
@@ -124,165 +119,125 @@ pub struct ReplyLabel {
     pub number: u32,
 }
 
-#[derive(Clone, Copy)]
-pub enum ReplyCheck {
-    Good(ReplyLabel),
-    Refused(ReadRefusal),
-}
-
-// The frame is all zero if the record was refused.
-#[derive(Clone, Copy)]
-pub struct ReplyFrame {
-    pub answer: WriteAnswer,
-    pub frame: [u8; 51],
-}
-
-pub fn read_reply(s: &[u8]) -> ReplyRead
+pub fn read_reply(s: &[u8]) -> Result<StaticReply, ReadRefusal>
     ensures { ReadAs s.now result }
 {
-    match head_of(s, REPLY_LEAD, REPLY_SIZE) {
-        ReadVerdict::Read => fields_read(s),
-        ReadVerdict::Refused(refusal) => refused(refusal),
-    }
+    read(s)
 }
 
 // Like read_reply, for a caller who only needs to know where a reply belongs: no record is made.
-pub fn check_reply(s: &[u8]) -> ReplyCheck
+#[tactic(auto, using(crate::proofs::ReplyLaws::check_as, crate::proofs::ReplyLaws::check_refused))]
+pub fn check_reply(s: &[u8]) -> Result<ReplyLabel, ReadRefusal>
     ensures { CheckedAs s.now result }
 {
-    match head_of(s, REPLY_LEAD, REPLY_SIZE) {
-        ReadVerdict::Read => fields_checked(s),
-        ReadVerdict::Refused(refusal) => ReplyCheck::Refused(refusal),
-    }
+    head_of(s, REPLY_LEAD, REPLY_SIZE)?;
+    let wrong = frame_wrong(s, timing_wrong_at(s, kind_at(s)));
+    judged::<StaticReply, ReplyLabel>(
+        s,
+        ReplyLabel {
+            status: byte_at(s, field::STATUS),
+            address: byte_at(s, field::ADDRESS) as u32,
+            requester: byte_at(s, field::REQUESTER) as u32,
+            number: number_or_none(s, field::NUMBER, 5),
+        },
+        wrong,
+    )
 }
 
 // Writes the frame to the first 51 bytes of out, or changes nothing.
-pub fn write_reply(r: StaticReply, out: &mut [u8]) -> WriteAnswer
+pub fn write_reply(r: StaticReply, out: &mut [u8]) -> Result<(), WriteRefusal>
     ensures { Wrote reply r out.old result out.new }
 {
-    match write_tries(reply_wrong(r), REPLY_SIZE, out.len()) {
-        WriteAnswer::Written => {
-            put_reply(r, out);
-            WriteAnswer::Written
-        }
-        WriteAnswer::Refused(refusal) => WriteAnswer::Refused(refusal),
-    }
+    write(r, out)
 }
 
 // The same for a reply that is held as a value.
-pub fn read_reply_value(frame: [u8; 51]) -> ReplyRead
+pub fn read_reply_value(frame: [u8; 51]) -> Result<StaticReply, ReadRefusal>
     ensures { ReadAs frame result }
 {
     read_reply(&frame)
 }
 
-pub fn write_reply_value(r: StaticReply) -> ReplyFrame
-    ensures { Wrote reply r (replicate 51 0) result.answer result.frame }
+pub fn write_reply_value(r: StaticReply) -> Result<[u8; 51], WriteRefusal>
+    ensures { WroteFrame reply r result }
 {
     let mut frame = [0u8; 51];
-    let answer = write_reply(r, &mut frame);
-    ReplyFrame { answer, frame }
+    write_reply(r, &mut frame)?;
+    Ok(frame)
 }
 
-fn refused(refusal: ReadRefusal) -> ReplyRead
-    ensures { result ≡ I.refused_by refusal }
-{
-    ReplyRead {
-        verdict: ReadVerdict::Refused(refusal),
-        reply: zero_reply(),
+impl StaticReply {
+    fn raw(self) -> RawBytes
+        ensures { result ≡ I.raw_of self }
+    {
+        let time = self.raw_time;
+        let date = self.raw_date;
+        RawBytes { time, date }
     }
 }
 
-fn zero_reply() -> StaticReply
-    ensures { result ≡ zero_reply }
-{
-    StaticReply {
-        head: zero_head(),
-        timing: Timing::Raw,
-        raw_time: [0; 10],
-        raw_date: [0; 8],
-        spare: [0; 2],
-    }
-}
+impl Record for StaticReply {
+    ghost kind = { reply };
 
-fn zero_head() -> ReplyHead
-    ensures { result ≡ zero_head }
-{
-    ReplyHead {
-        address: 0,
-        program: 0,
-        mode: 0,
-        status: 0,
-        requester: 0,
-        number: 0,
-        bib: 0,
-        group: 0,
-        run: 0,
-        physical: 0,
-        channel: 0,
-        information: 0,
-    }
-}
+    ghost LEAD = { 18 };
 
-fn fields_read(s: &[u8]) -> ReplyRead
-    requires { length s.now ≡ 51 }
-    ensures { result ≡ I.fields_read s.now }
-{
-    let h = head_at(s);
-    let asked = kind_of(h.status, h.information);
-    let seen = seen_at(s, asked);
-    let wrong = head_wrong(h, seen.wrong);
-    judged(s, asked, reply_of(h, seen, spare_at(s)), wrong)
-}
+    ghost SIZE = { 51 };
 
-fn fields_checked(s: &[u8]) -> ReplyCheck
-    requires { length s.now ≡ 51 }
-    ensures { check_told result ≡ I.fields_checked s.now }
-{
-    let status = byte_at(s, field::STATUS);
-    let kind = kind_of(status, byte_at(s, field::INFORMATION));
-    let wrong = frame_wrong(s, timing_wrong_at(s, kind));
-    if wrong == 0 {
-        let address = byte_at(s, field::ADDRESS) as u32;
-        let requester = byte_at(s, field::REQUESTER) as u32;
-        return ReplyCheck::Good(ReplyLabel {
-            status,
-            address,
-            requester,
-            number: number_or_none(s, field::NUMBER, 5),
-        });
-    }
-    ReplyCheck::Refused(ReadRefusal::Field(wrong_place(s, kind, wrong)))
-}
+    const LEAD: u8 = REPLY_LEAD;
 
-fn judged(s: &[u8], kind: TimingKind, r: StaticReply, wrong: u8) -> ReplyRead
-    ensures { result ≡ I.judged_as r wrong (reply_byte kind s.now wrong) }
-{
-    if wrong == 0 {
-        return ReplyRead {
-            verdict: ReadVerdict::Read,
-            reply: r,
+    const SIZE: usize = REPLY_SIZE;
+
+    ghost spoils = { λ s wrong. reply_byte (I.kind_at s) s wrong };
+
+    ghost some = { (lit< tt, lit< tt) };
+
+    ghost of_kind = { (refl, refl) };
+
+    #[tactic(auto, using(crate::proofs::ReplyLaws::fields_told, crate::proofs::KindLaws::passed_long))]
+    fn held(s: &[u8]) -> (StaticReply, u8) {
+        let head = head_at(s);
+        let seen = seen_at(s, kind_of(head.status, head.information));
+        let raw_time = seen.raw.time;
+        let raw_date = seen.raw.date;
+        let spare = spare_at(s);
+        let r = StaticReply {
+            head,
+            timing: seen.timing,
+            raw_time,
+            raw_date,
+            spare,
         };
+        (r, head_wrong(head, seen.wrong))
     }
-    refused(ReadRefusal::Field(wrong_place(s, kind, wrong)))
+
+    // A field of one byte is its own.
+    fn spoiled(s: &[u8], wrong: u8) -> u8 {
+        let spoiled = timing_byte(s, kind_at(s), wrong, head_byte(s, wrong));
+        looked_in(s, wrong, field::SPARE, b"  ", spoiled)
+    }
+
+    #[tactic(auto, using(crate::proofs::ReplyLaws::reply_wrong_is))]
+    fn wrong(self) -> u8 {
+        let kind = kind_of(self.head.status, self.head.information);
+        let wrong = timing_wrong(kind, self.timing, self.raw(), self.spare);
+        let wrong = head_wrong(self.head, wrong);
+        wrong_unless(is_address(self.head.address), field::ADDRESS, wrong)
+    }
+
+    #[tactic(auto, using(crate::proofs::ReplyLaws::reply_stores, crate::proofs::ReplyLaws::length_reply, crate::proofs::ReplyLaws::text_is_frame))]
+    fn put(self, out: &mut [u8]) {
+        put_reply_head(self.head, out);
+        put_timing(self.timing, self.raw(), out);
+        put_all(out, field::SPARE, &self.spare);
+        put_byte(out, field::END, CR);
+    }
 }
 
-// Not a refusal: where a caller makes it one, the compiler sees which one it is.
-fn wrong_place(s: &[u8], kind: TimingKind, wrong: u8) -> Place
-    ensures { result ≡ I.wrong_place wrong (reply_byte kind s.now wrong) }
+// The kind of time and date that a frame's status and letter ask for.
+fn kind_at(s: &[u8]) -> TimingKind
+    ensures { result ≡ I.kind_at s.now }
 {
-    Place {
-        field: wrong,
-        spoiled: reply_byte(s, kind, wrong),
-    }
-}
-
-// The byte that spoils the wrong field. A field of one byte is its own.
-fn reply_byte(s: &[u8], kind: TimingKind, wrong: u8) -> u8
-    ensures { result ≡ reply_byte kind s.now wrong }
-{
-    let spoiled = timing_byte(s, kind, wrong, head_byte(s, wrong));
-    looked_in(s, wrong, field::SPARE, b"  ", spoiled)
+    kind_of(byte_at(s, field::STATUS), byte_at(s, field::INFORMATION))
 }
 
 fn head_byte(s: &[u8], wrong: u8) -> u8
@@ -303,7 +258,7 @@ fn head_at(s: &[u8]) -> ReplyHead
 {
     // The length is always this one. The test tells the compiler so, and then no byte needs a test of its own.
     if s.len() != REPLY_SIZE {
-        return zero_head();
+        unreachable!()
     }
     ReplyHead {
         address: byte_at(s, field::ADDRESS),
@@ -321,36 +276,8 @@ fn head_at(s: &[u8]) -> ReplyHead
     }
 }
 
-fn reply_of(head: ReplyHead, seen: Seen, spare: [u8; 2]) -> StaticReply
-    ensures { result ≡ I.reply_of head seen spare }
-{
-    let timing = seen.timing;
-    let raw_time = seen.raw_time;
-    let raw_date = seen.raw_date;
-    StaticReply {
-        head,
-        timing,
-        raw_time,
-        raw_date,
-        spare,
-    }
-}
-
-// The offset of the first wrong part, or 0 if none is wrong.
-fn reply_wrong(r: StaticReply) -> u8
-    ensures { result ≡ wrong_in reply r }
-{
-    let head = r.head;
-    let kind = kind_of(head.status, head.information);
-    let timing = r.timing;
-    let raw_time = r.raw_time;
-    let raw_date = r.raw_date;
-    let spare = r.spare;
-    let wrong = head_wrong(head, timing_wrong(kind, timing, raw_time, raw_date, spare));
-    wrong_unless(is_address(head.address), field::ADDRESS, wrong)
-}
-
 // The offset of the first wrong part from the program to the information; otherwise what `rest` says. The address of a frame was tested before.
+#[tactic(auto, unfolding(crate::specs::inside::Reply::head_wrong, crate::specs::Rules::up_to))]
 fn head_wrong(h: ReplyHead, rest: u8) -> u8
     ensures { result ≡ I.head_wrong h rest }
 {
@@ -367,7 +294,8 @@ fn head_wrong(h: ReplyHead, rest: u8) -> u8
     wrong_unless(is_raw(h.program), field::PROGRAM, wrong)
 }
 
-// The same over the bytes of a frame. A record between them would be a call of head_at, which then read_reply would have to call as well instead of taking it in.
+// The same over the bytes of a frame: head_wrong over the record of head_at was slower here.
+#[tactic(auto, unfolding(crate::specs::inside::Reply::head_wrong, crate::specs::Rules::up_to))]
 fn frame_wrong(s: &[u8], rest: u8) -> u8
     ensures { result ≡ I.head_wrong (I.head_at s.now) rest }
 {
@@ -395,6 +323,7 @@ fn frame_wrong(s: &[u8], rest: u8) -> u8
     wrong_unless(program, field::PROGRAM, wrong)
 }
 
+#[tactic(auto, unfolding(crate::specs::Status::is_status, digits::specs::Text::one_of))]
 pub(crate) fn is_status(b: u8) -> bool
     ensures { result ≡ is_status b }
 {
@@ -407,89 +336,77 @@ pub(crate) fn is_letter(b: u8) -> bool
     in_set(LETTERS_LOW, LETTERS_HIGH, b)
 }
 
-// The place of a letter among the 33, or LETTERS if it is none of them. The compiler makes a table of it; is_letter, which is asked more often, needs none.
-pub fn letter_place(letter: u8) -> usize
-    ensures { result ≡ letter_place letter }
+// The place of a letter among the 33. The compiler makes a table of it; is_letter, which is asked more often, needs none.
+#[tactic(auto, unfolding(crate::specs::Reply::is_letter, crate::specs::Reply::letter_place, digits::specs::Text::one_of, digits::specs::Text::place_of))]
+pub fn letter_place(letter: u8) -> Option<usize>
+    ensures { result ≡ letter_found letter }
 {
     match letter {
-        b'0' => 0,
-        b'1' => 1,
-        b'2' => 2,
-        b'3' => 3,
-        b'4' => 4,
-        b'5' => 5,
-        b'6' => 6,
-        b'7' => 7,
-        b'8' => 8,
-        b'9' => 9,
-        b'A' => 10,
-        b'Q' => 11,
-        b'P' => 12,
-        b'a' => 13,
-        b'S' => 14,
-        b's' => 15,
-        b'T' => 16,
-        b'K' => 17,
-        b'R' => 18,
-        b'G' => 19,
-        b'H' => 20,
-        b'h' => 21,
-        b'I' => 22,
-        b'i' => 23,
-        b'J' => 24,
-        b'j' => 25,
-        b'p' => 26,
-        b'k' => 27,
-        b'u' => 28,
-        b'g' => 29,
-        b'W' => 30,
-        b'w' => 31,
-        b'X' => 32,
-        _ => LETTERS,
+        b'0' => Some(0),
+        b'1' => Some(1),
+        b'2' => Some(2),
+        b'3' => Some(3),
+        b'4' => Some(4),
+        b'5' => Some(5),
+        b'6' => Some(6),
+        b'7' => Some(7),
+        b'8' => Some(8),
+        b'9' => Some(9),
+        b'A' => Some(10),
+        b'Q' => Some(11),
+        b'P' => Some(12),
+        b'a' => Some(13),
+        b'S' => Some(14),
+        b's' => Some(15),
+        b'T' => Some(16),
+        b'K' => Some(17),
+        b'R' => Some(18),
+        b'G' => Some(19),
+        b'H' => Some(20),
+        b'h' => Some(21),
+        b'I' => Some(22),
+        b'i' => Some(23),
+        b'J' => Some(24),
+        b'j' => Some(25),
+        b'p' => Some(26),
+        b'k' => Some(27),
+        b'u' => Some(28),
+        b'g' => Some(29),
+        b'W' => Some(30),
+        b'w' => Some(31),
+        b'X' => Some(32),
+        _ => None,
     }
 }
 
-// The place of a status among the three, or STATUSES if it is none of them.
-pub fn status_place(status: u8) -> usize
-    ensures { result ≡ status_place status }
+// The place of a status among the three.
+#[tactic(auto, unfolding(crate::specs::Status::is_status, crate::specs::Status::status_place, digits::specs::Text::one_of, digits::specs::Text::place_of))]
+pub fn status_place(status: u8) -> Option<usize>
+    ensures { result ≡ status_found status }
 {
     match status {
-        STATUS_R => 0,
-        STATUS_E => 1,
-        STATUS_Z => 2,
-        _ => STATUSES,
+        STATUS_R => Some(0),
+        STATUS_E => Some(1),
+        STATUS_Z => Some(2),
+        _ => None,
     }
 }
 
+#[tactic(auto, unfolding(crate::specs::Reply::is_reply_channel))]
 pub(crate) fn is_reply_channel(v: u32) -> bool
     ensures { result ≡ is_reply_channel v }
 {
-    if v <= 240 {
-        return true;
-    }
-    (v == 245) | (v == 248) | (v == 249) | (v == 250) | (v == 255)
+    (v <= 240) | (v == 245) | (v == 248) | (v == 249) | (v == 250) | (v == 255)
 }
 
+#[tactic(auto, unfolding(crate::specs::Reply::least_run))]
 pub(crate) fn least_run(status: u8) -> u32
     ensures { result ≡ least_run status }
 {
     if status == STATUS_Z { 0 } else { 1 }
 }
 
-fn put_reply(r: StaticReply, out: &mut [u8])
-    ensures { out.new ≡ sets out.old 0 (I.reply_text r) }
-{
-    let head = r.head;
-    put_reply_head(head, out);
-    let timing = r.timing;
-    let raw_time = r.raw_time;
-    let raw_date = r.raw_date;
-    let spare = r.spare;
-    put_timing(timing, raw_time, raw_date, out);
-    put_bytes(out, field::SPARE, &spare);
-    put_byte(out, field::END, CR);
-}
-
+#[tactic(auto, using(crate::proofs::ReplyLaws::head_stores))]
 fn put_reply_head(h: ReplyHead, out: &mut [u8])
     ensures { out.new ≡ sets out.old 0 (I.head_text h) }
 {

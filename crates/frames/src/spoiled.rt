@@ -10,19 +10,16 @@ use digits::byte_at;
 pub(crate) const TIME_CLASSES: [u8; 10] = *b"2959599999";
 
 // What can be at a place: a space stands for a raw byte, + for a sign, = for the digit 2, and a digit for the digits up to it.
+#[tactic(auto, unfolding(crate::specs::inside::Spoiled::in_class, crate::specs::Rules::between))]
 fn in_class(class: u8, b: u8) -> bool
     ensures { result ≡ in_class class b }
 {
-    if class == b' ' {
-        return is_raw(b);
+    match class {
+        b' ' => is_raw(b),
+        b'+' => is_sign(b),
+        b'=' => b == b'2',
+        _ => (b'0' <= b) & (b <= class),
     }
-    if class == b'+' {
-        return is_sign(b);
-    }
-    if class == b'=' {
-        return b == b'2';
-    }
-    (b'0' <= b) & (b <= class)
 }
 
 // The offset of the first byte from `at` on that is not in its class, or `at` if each one is.
@@ -30,18 +27,17 @@ fn first_off(s: &[u8], at: usize, text: &[u8]) -> u8
     requires { at + length text.now < 256 }
     ensures { result ≡ first_off (classes_of text.now) s.now at at }
 {
-    let mut i: usize = 0;
-    while i < text.len() {
+    for (i, class) in text.iter().enumerate() {
         let p = at + i;
-        if !in_class(byte_at(text, i), byte_at(s, p)) {
+        if !in_class(*class, byte_at(s, p)) {
             return p as u8;
         }
-        i += 1;
     }
     at as u8
 }
 
 // If the wrong field is the one at `at`, the byte that spoils it, and otherwise what is known already. The text has a class for each byte of the field.
+#[tactic(auto, unfolding(crate::specs::inside::Spoiled::looked_in))]
 pub(crate) fn looked_in(s: &[u8], wrong: u8, at: usize, text: &[u8], known: u8) -> u8
     requires { at + length text.now < 256 }
     ensures { result ≡ looked_in s.now wrong at text.now known }

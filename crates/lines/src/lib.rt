@@ -7,7 +7,7 @@ ghost use Rattle.lines.specs.Places.{line_at};
 use text::LF;
 
 // A line is the bytes from start up to end. If it is whole, the last of them is its LF.
-#[derive(Clone, Copy)]
+#[derive(Clone, Copy, Debug, PartialEq, Eq)]
 pub struct Place {
     pub start: usize,
     pub end: usize,
@@ -18,21 +18,18 @@ pub struct Place {
 pub fn next_line(s: &[u8], at: usize) -> Place
     ensures { result ≡ line_at s.now at }
 {
-    let mut i = at;
-    while i < s.len() {
-        let after = i + 1;
+    for i in at..s.len() {
         if s[i] == LF {
             return Place {
                 start: at,
-                end: after,
+                end: i + 1,
                 whole: true,
             };
         }
-        i = after;
     }
     Place {
         start: at,
-        end: i,
+        end: at.max(s.len()),
         whole: false,
     }
 }

@@ -33,7 +33,8 @@ use Rattle.desk.specs.Tally.{held_of, entry_right, tally_right}
 use Rattle.desk.specs.Desk.{is_zero, mark_names, last_ends, is_desk}
 use Rattle.desk.specs.Calls.{key_tried, request_tried, open_tried, opens, seat_tried, label_tried, reply_tried, replies}
 use Rattle.desk.specs.Capture.{meets, fates, after_all, how_many, counts_of}
-use Rattle.listing.specs.Text.{address_shown, columns, row_text, end_text}
+use Rattle.text.specs.Address.{address_shown}
+use Rattle.listing.specs.Text.{columns, row_text, end_text}
 use Rattle.listing.specs.Listing.{store, seats_text, list_text, list_of}
 use Rattle.listing.specs.Sizes.{longest_row, longest_end, longest_list}
 use Rattle.listing.specs.Cases.{framed, small, ListWorked}

@@ -1,21 +1,26 @@
--- Laws of columns: the bytes that they show, and a row that is put column by column. Assumes nothing.
-use Prim.Native.Nat.{ℕ, ◌+◌, ◌≤◌}
+-- Laws of columns: the bytes that they show, a row that is put column by column, and the counts of the end line. Assumes nothing.
+use Prim.Native.Nat.{ℕ, ◌+◌, ◌<◌, ◌≤◌}
 use mathlib.Core.List.{List, [], ◌∷◌, ◌++◌, append-nil, append_assoc}
 use mathlib.Core.Bool.{Bool, true, ◌&&◌}
 use mathlib.Core.Path.{◌≡◌, refl, sym, ap, ◌∙◌}
 use native.Mathlib.Omega.{arith}
 use lib.ListN.{length, get_or, take, length-append, length-drop, length-take, length-map}
-use lib.Seq.{slice, length-take-le}
+use native.Mathlib.Numerals.{add-one}
+use lib.Seq.{slice, length-take-le, take-suc}
+use Rattle.std.specs.List.{flat_map}
+use Rattle.std.proofs.lemmas.List.{flat_map_more}
+use Rattle.desk.specs.declared.capture.Counts.{Counts}
 use lib.Dec.{leb}
 use borrow.Author.Tests.{leb-true}
 use Rattle.digits.proofs.Tests.{and_l, and_r}
 use Rattle.text.specs.Put.{most_place, Put}
 use Rattle.text.specs.Lines.{TAB, LF}
 use Rattle.text.specs.Decimal.{width, decimal}
-use Rattle.text.proofs.PutLaws.{put_then, put_whole}
+use Rattle.text.proofs.PutLaws.{put_then, put_parted, put_whole}
 use Rattle.text.proofs.DecimalLaws.{decimal_length}
 use Rattle.desk.specs.Limits.{cell_size}
-use Rattle.listing.specs.Text.{row_text, Look, plain, address, address_shown, looks, Column, columns, part, shown, HeadingNamesColumns}
+use Rattle.text.specs.Address.{address_shown}
+use Rattle.listing.specs.Text.{row_text, Look, plain, address, looks, Column, columns, part, shown, HeadingNamesColumns, end, count_text, end_text}
 use Rattle.listing.specs.Sizes.{columns_size}
 
 pub heading_names_columns : HeadingNamesColumns
@@ -46,6 +51,12 @@ address_part [] l = absurd (omega arith)
 address_part (a ∷ []) l = absurd (omega arith)
 address_part (a ∷ b ∷ []) l = absurd (omega arith)
 address_part (a ∷ b ∷ c ∷ f) l = refl
+
+-- put after a tab
+pub address_put : (out : List ℕ) (at : ℕ) (f : List ℕ) (p : ℕ) (mid : List ℕ) (r q : ℕ) (out' : List ℕ)
+    → length out ≤ most_place → length f ≡ cell_size → r ≡ address_shown (get_or f 2 0) → Put out at (TAB ∷ []) p mid → Put mid p (r ∷ []) q out'
+    → Put out at (TAB ∷ looks address (slice 2 3 f)) q out'
+address_put out at f p mid r q out' n l e x y = rw (address_part f l, ← e) (put_then out at (TAB ∷ []) p mid (r ∷ []) q out' n x y)
 
 -- ---- how long a row is
 
@@ -112,3 +123,19 @@ module _ (s : ℕ) (f zeros : List ℕ) (q : ℕ) (shorter : List ℕ) (r : ℕ)
   unfolding row_text
   put_together out at p mid end out' n x y d t =
       rw (append_assoc (decimal s) (shown f columns) (LF ∷ [])) (put_then out at (decimal s) p mid (shown f columns ++ (LF ∷ [])) end out' n d (rw (together x y) at t))
+
+-- ---- the end line
+
+-- one more count
+pub count_more : (out : List ℕ) (at : ℕ) (a ns : List ℕ) (i p : ℕ) (mid : List ℕ) (q : ℕ) (mid' : List ℕ) (r : ℕ) (out' : List ℕ)
+    → length out ≤ most_place → i < length ns → Put out at (a ++ flat_map count_text (take i ns)) p mid → Put mid p (TAB ∷ []) q mid' → Put mid' q (decimal (get_or ns i 0)) r out'
+    → Put out at (a ++ flat_map count_text (take (i + 1) ns)) r out'
+count_more out at a ns i p mid q mid' r out' l h x y z =
+    rw (add-one i, take-suc ns i 0 h, ← flat_map_more count_text a (take i ns) (get_or ns i 0)) (put_parted out at _ p mid TAB q mid' _ r out' l x y z)
+
+four_then : (a b c d e l : List ℕ) → (a ++ (b ++ (c ++ (d ++ (e ++ []))))) ++ l ≡ a ++ b ++ c ++ d ++ e ++ l
+four_then a b c d e l = simp (append_assoc, append-nil)
+
+pub end_is : (c : Counts) → (end ++ flat_map count_text (c.opened ∷ c.collected ∷ c.dynamic ∷ c.refused ∷ [])) ++ (LF ∷ []) ≡ end_text c
+unfolding end_text
+end_is c = four_then end (count_text c.opened) (count_text c.collected) (count_text c.dynamic) (count_text c.refused) (LF ∷ [])

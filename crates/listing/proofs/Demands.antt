@@ -10,7 +10,7 @@ use Rattle.digits.specs.declared.refusal.Refusal.{Refusal}
 use Rattle.digits.specs.Refusals.{ROOM}
 use Rattle.digits.proofs.Tests.{by-test}
 use Rattle.frames.specs.Rules.{space, between, is_address}
-use Rattle.listing.specs.Text.{minus, address_shown}
+use Rattle.text.specs.Address.{minus, address_shown}
 use Rattle.listing.specs.Listing.{fits}
 use Rattle.listing.specs.Demands.{ListIsOfCapture, AddressesStayApart, RefusedKeeps}
 use Rattle.listing.proofs.StoreLaws.{store_desk}
@@ -29,7 +29,8 @@ shown_space a h e = by-test (eqb a space) (λ q. eqb-true a space q) (λ q. let 
 
 pub addresses_stay_apart : AddressesStayApart
 unfolding address_shown
-addresses_stay_apart a b h k e =
+addresses_stay_apart a b h k es =
+    let e : address_shown a ≡ address_shown b = cc in
     by-test (eqb a space)
     (λ q. let s : minus ≡ address_shown b = rw q at e in eqb-true a space q ∙ sym (shown_space b k (sym s)))
     (λ q. let s : a ≡ address_shown b = rw q at e in

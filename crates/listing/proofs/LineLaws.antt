@@ -12,6 +12,7 @@ use Rattle.digits.specs.Told.{Told, gives, refuses}
 use Rattle.digits.proofs.Tests.{by-test, and_true, and_l, and_r}
 use Rattle.text.specs.Decimal.{decimal}
 use Rattle.text.specs.Lines.{LF, lines}
+use Rattle.text.specs.Address.{address_shown}
 use Rattle.text.proofs.LineLaws.{lines_both, decimal_none}
 use Rattle.frames.specs.declared.reply.StaticReply.{StaticReply}
 use Rattle.frames.specs.declared.reply.ReplyLabel.{ReplyLabel}
@@ -31,7 +32,7 @@ use Rattle.desk.specs.Memory.{Memory, cell_at, mark_at, records_of, held_by}
 use Rattle.desk.proofs.ReplayLaws.{desk_facts, cell_keyed_law}
 use Rattle.desk.proofs.LeavesLaws.{all_desk}
 use Rattle.desk.proofs.HearingLaws.{heard_long}
-use Rattle.listing.specs.Text.{Look, plain, address, address_shown, looks, Column, columns, part, shown, heading, row_text, rows_text, count_text, end_text}
+use Rattle.listing.specs.Text.{Look, plain, address, looks, Column, columns, part, shown, heading, row_text, rows_text, count_text, end_text}
 use Rattle.listing.specs.Listing.{most_input, store, seats_text, list_text, after, counts, list_of}
 use Rattle.listing.specs.Sizes.{rows_in, LinesAreRows}
 use Rattle.listing.proofs.StoreLaws.{store_desk}

@@ -11,14 +11,16 @@ use lib.Dec.{leb}
 use borrow.Author.Tests.{le-leb, lt-leb, leb-true}
 use Rattle.digits.specs.Told.{gives, refuses, tried}
 use Rattle.digits.specs.Refusals.{ROOM, DESK}
-use Rattle.desk.specs.declared.capture.CaptureAnswer.TheVariants.{Taken as All, NoDesk}
+use Rattle.desk.specs.declared.capture.CaptureRefusal.{CaptureRefusal}
+use Rattle.desk.specs.declared.capture.CaptureRefusal.TheVariants.{Desk}
 use Rattle.text.specs.Put.{most_place, place_after, Put}
 use Rattle.desk.specs.Limits.{seat_count, most_cells, cell_size, store_size}
 use Rattle.desk.specs.Memory.{Memory, records_of}
 use Rattle.desk.specs.Capture.{TookCapture}
 use Rattle.listing.specs.declared.Taken.{Taken}
-use Rattle.listing.specs.declared.ListAnswer.{ListAnswer}
-use Rattle.listing.specs.declared.ListAnswer.TheVariants.{Written, Room}
+use Rattle.std.specs.Prelude.{Result, Ok, Err}
+use Rattle.listing.specs.declared.ListRefusal.{ListRefusal}
+use Rattle.listing.specs.declared.ListRefusal.TheVariants.{Room}
 use Rattle.listing.specs.Text.{too_long, rows_text}
 use Rattle.listing.specs.Listing.{most_input, store, after, counts, short, list_of, seats_text, list_text, Listed}
 use Rattle.listing.specs.inside.Rows.{seats_of, list_lines}
@@ -32,10 +34,10 @@ put_all out text end out' p l =
     let h : 0 + length text ≤ length out = omega arith in
     p.bytes ∙ sets-eq text out 0 h ∙ ap (λ (n : ℕ). text ++ drop n out) (zero-add (length text))
 
-pub wrote_none : (text out : List ℕ) → length out < length text → WroteAll text out Room out
+pub wrote_none : (text out : List ℕ) → length out < length text → WroteAll text out (Err Room) out
 wrote_none text out l = record { told = rw (lt-leb (length text) (length out) l); bytes = rw (lt-leb (length text) (length out) l) }
 
-pub wrote_all : (text out : List ℕ) (end : ℕ) (out' : List ℕ) → length out < most_place → length text ≤ length out → Put out 0 text end out' → WroteAll text out (Written end) out'
+pub wrote_all : (text out : List ℕ) (end : ℕ) (out' : List ℕ) → length out < most_place → length text ≤ length out → Put out 0 text end out' → WroteAll text out (Ok end) out'
 wrote_all text out end out' r l p =
     let n : end ≡ length text = omega (arith, p.next) in
     record { told = rw (le-leb (length text) (length out) l, n); bytes = rw (le-leb (length text) (length out) l) (put_all out text end out' p l) }
@@ -43,7 +45,7 @@ wrote_all text out end out' r l p =
 -- ---- a capture, taken
 
 module _ (cells marks s : List ℕ) (m : Memory) where
-  pub taken_as : (t : Taken) → TookCapture (store cells marks) s (All t.counts) m → t.count ≡ m.count → TakenAs cells marks s t m.cells m.marks
+  pub taken_as : (t : Taken) → TookCapture (store cells marks) s (Ok t.counts) m → t.count ≡ m.count → TakenAs cells marks s t m.cells m.marks
   taken_as t k e =
       let d = store_desk cells marks s in
       let a : gives t.counts ≡ gives (counts cells marks s) = rw d at k.told in
@@ -51,8 +53,8 @@ module _ (cells marks s : List ℕ) (m : Memory) where
       let b : m ≡ after cells marks s = rw d at k.memory in
       record { count = e ∙ ap (λ (x : Memory). x.count) b; four = f; kept_cells = ap (λ (x : Memory). x.cells) b; kept_marks = ap (λ (x : Memory). x.marks) b }
 
-  pub never_no_desk : {A : Type 0} → TookCapture (store cells marks) s NoDesk m → A
-  never_no_desk k =
+  pub never_no_desk : {A : Type 0} (f : CaptureRefusal) → TookCapture (store cells marks) s (Err f) m → A
+  never_no_desk Desk k =
       let d = store_desk cells marks s in
       let a : refuses DESK ≡ gives (counts cells marks s) = rw d at k.told in
       let z : ◌≡◌ {A = ℕ} 0 1 = cc in absurd (omega arith)
@@ -91,7 +93,7 @@ module _ (cells marks s : List ℕ) (l : length s ≤ most_input) where
       rw (is_short, k.count, k.four, k.kept_cells, k.kept_marks, seats_are (after cells marks s) seat_count)
 
   pub listed_room : (out : List ℕ) (t : Taken) (cells' marks' : List ℕ) (end : ℕ) (scratch scratch' : List ℕ) (back-cells back-marks : List ℕ) → TakenAs cells marks s t cells' marks'
-      → Put scratch 0 (list_lines cells' marks' t) end scratch' → length out < end → back-cells ≡ cells → back-marks ≡ marks → Listed cells marks s out Room back-cells back-marks out
+      → Put scratch 0 (list_lines cells' marks' t) end scratch' → length out < end → back-cells ≡ cells → back-marks ≡ marks → Listed cells marks s out (Err Room) back-cells back-marks out
   listed_room out t cells' marks' end scratch scratch' back-cells back-marks k p h ec em =
       let e = lines_are t cells' marks' k in
       let n : end ≡ place_after 0 (length (list_of cells marks s)) = p.next ∙ ap (λ (x : List ℕ). place_after 0 (length x)) e in
@@ -99,7 +101,7 @@ module _ (cells marks s : List ℕ) (l : length s ≤ most_input) where
       record { told = rw b; bytes = rw b; cells = rw b ec; marks = rw b em }
 
   pub listed_written : (out : List ℕ) (t : Taken) (cells' marks' : List ℕ) (end : ℕ) (scratch scratch' : List ℕ) (last : ℕ) (out' : List ℕ) → length out < most_place → TakenAs cells marks s t cells' marks'
-      → Put scratch 0 (list_lines cells' marks' t) end scratch' → end ≤ length out → Put out 0 (list_lines cells' marks' t) last out' → Listed cells marks s out (Written end) cells' marks' out'
+      → Put scratch 0 (list_lines cells' marks' t) end scratch' → end ≤ length out → Put out 0 (list_lines cells' marks' t) last out' → Listed cells marks s out (Ok end) cells' marks' out'
   listed_written out t cells' marks' end scratch scratch' last out' r k p h q =
       let e = lines_are t cells' marks' k in
       let m : end ≡ place_after 0 (length (list_of cells marks s)) = p.next ∙ ap (λ (x : List ℕ). place_after 0 (length x)) e in
@@ -117,7 +119,7 @@ neither : (x y : List ℕ) (t : Bool) → y ≡ cond (t && false) x y
 neither x y true = refl
 neither x y false = refl
 
-pub listed_long : (cells marks s out : List ℕ) (a : ListAnswer) (out' : List ℕ) → most_input < length s → WroteAll too_long out a out' → Listed cells marks s out a cells marks out'
+pub listed_long : (cells marks s out : List ℕ) (a : Result ℕ ListRefusal) (out' : List ℕ) → most_input < length s → WroteAll too_long out a out' → Listed cells marks s out a cells marks out'
 unfolding list_of
 listed_long cells marks s out a out' l w =
     let b = lt-leb (length s) most_input l in
@@ -135,7 +137,7 @@ given_is true n m e = (refl, let h : n ≡ m = cc in h)
 given_is false n m e = absurd (let z : ◌≡◌ {A = ℕ} 0 1 = cc in omega arith)
 
 -- a list that was written is no longer than the output
-pub written_fits : (cells marks s out : List ℕ) (n : ℕ) (cells' marks' out' : List ℕ) → Listed cells marks s out (Written n) cells' marks' out' → n ≤ length out
+pub written_fits : (cells marks s out : List ℕ) (n : ℕ) (cells' marks' out' : List ℕ) → Listed cells marks s out (Ok n) cells' marks' out' → n ≤ length out
 written_fits cells marks s out n cells' marks' out' l =
     let g = given_is (leb (length (list_of cells marks s)) (length out)) n (length (list_of cells marks s)) l.told in
     let h = leb-true (length (list_of cells marks s)) (length out) g.0 in

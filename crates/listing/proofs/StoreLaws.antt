@@ -1,14 +1,14 @@
 -- Laws of memory that is copied aside and put back, and of what a capture leaves unchanged. Assumes nothing.
-use Prim.Native.Nat.{ℕ, ◌+◌, ◌*◌, ◌<◌, ◌≤◌, min}
+use Prim.Native.Nat.{ℕ, ◌+◌, ◌*◌, ◌≤◌, min}
 use mathlib.Core.List.{List, ◌++◌}
 use mathlib.Core.Bool.{true}
 use mathlib.Core.Path.{◌≡◌, sym, ap, ◌∙◌}
 use native.Mathlib.Omega.{arith}
 use native.Mathlib.Nat.{zero-add}
-use lib.ListN.{length, get_or, take, drop, set, take-append-drop, drop_of_length-le}
+use lib.ListN.{length, take, drop, take-append-drop, drop_of_length-le}
 use lib.Seq.{sets, sets-eq, length-sets, length-take-le, take_at}
 use Rattle.digits.proofs.Tests.{by_less}
-use Rattle.digits.proofs.Writing.{sets_beyond, run_more, run_whole}
+use Rattle.digits.proofs.Writing.{sets_beyond, run_whole}
 use Rattle.finder.specs.Pieces.{pieces}
 use Rattle.desk.specs.Limits.{most_cells, cell_size}
 use Rattle.desk.specs.Memory.{capacity_of}
@@ -18,12 +18,9 @@ use Rattle.desk.proofs.DeskLaws.{stays_desk}
 use Rattle.desk.proofs.LeavesLaws.{Leaves, all_leaves, all_desk}
 use Rattle.listing.specs.Listing.{store, after}
 
--- ---- a copy, element by element
+-- ---- a copy of as many as have room
 
-pub copy_more : (l vs : List ℕ) (i : ℕ) → i < length vs → set (sets l 0 (take i vs)) i (get_or vs i 0) ≡ sets l 0 (take (i + 1) vs)
-copy_more l vs i h = ap (λ (k : ℕ). set (sets l 0 (take i vs)) k (get_or vs i 0)) (sym (zero-add i)) ∙ run_more l 0 vs i h
-
-pub copy_whole : (l vs : List ℕ) (n : ℕ) → n ≡ min (length l) (length vs) → sets l 0 (take n vs) ≡ sets l 0 vs
+copy_whole : (l vs : List ℕ) (n : ℕ) → n ≡ min (length l) (length vs) → sets l 0 (take n vs) ≡ sets l 0 vs
 copy_whole l vs n e =
     by_less 0 (length l)
     (λ h. run_whole l 0 vs n (omega (arith, e)) h)

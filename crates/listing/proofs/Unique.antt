@@ -2,18 +2,19 @@
 use Prim.Native.Nat.{ℕ}
 use mathlib.Core.Path.{◌≡◌, refl, sym, ap, ◌∙◌}
 use Rattle.digits.specs.Told.{Told, gives, refuses}
-use Rattle.listing.specs.declared.ListAnswer.{ListAnswer}
-use Rattle.listing.specs.declared.ListAnswer.TheVariants.{Written, Room}
+use Rattle.std.specs.Prelude.{Result, Ok, Err}
+use Rattle.listing.specs.declared.ListRefusal.{ListRefusal}
+use Rattle.listing.specs.declared.ListRefusal.TheVariants.{Room}
 use Rattle.listing.specs.Listing.{list_told}
 use Rattle.listing.specs.Unique.{OneOutcome}
 
-abbrev list_back : Told ℕ → ListAnswer
-list_back (gives n) = Written n
-list_back (refuses f) = Room
+abbrev list_back : Told ℕ → Result ℕ ListRefusal
+list_back (gives n) = Ok n
+list_back (refuses f) = Err Room
 
-list_back_law : (a : ListAnswer) → list_back (list_told a) ≡ a
-list_back_law (Written n) = refl
-list_back_law Room = refl
+list_back_law : (a : Result ℕ ListRefusal) → list_back (list_told a) ≡ a
+list_back_law (Ok n) = refl
+list_back_law (Err Room) = refl
 
 pub one_outcome : OneOutcome
 one_outcome = record {

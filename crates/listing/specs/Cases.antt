@@ -1,8 +1,8 @@
 -- A small capture and its list, written out.
-use Rattle.std.specs.Prelude.{ℕ, List, [], ◌∷◌, ◌++◌, map, true, ◌≡◌, replicate}
+use Rattle.std.specs.Prelude.{ℕ, List, [], ◌∷◌, ◌++◌, true, ◌≡◌, replicate}
 use Prim.Native.String.{String}
 use Rattle.digits.specs.Text.{codes}
-use Rattle.listing.specs.Text.{address_shown}
+use Rattle.listing.specs.Text.{address, looks}
 use Rattle.listing.specs.Listing.{short, list_of}
 use Rattle.listing.specs.Sizes.{longest_list}
 
@@ -30,7 +30,7 @@ pub record ListWorked : Type 0 where
       ++ codes "1\t1\t3\t012\t00009\t004\t001\t002\t003\tP\t1112131415\t16171819\tR\n"
       ++ codes "end\t2\t3\t1\t2\n"
   -- how each address is shown
-  pub addresses : map address_shown (codes " 0123456789") ≡ codes "-0123456789"
+  pub addresses : looks address (codes " 0123456789") ≡ codes "-0123456789"
   -- 32,768 bytes are listed; one more is too long
   pub not_too_long : short [] [] (replicate 32768 0) ≡ true
   pub too_long_case : list_of [] [] (replicate 32769 0) ≡ codes "input too long\n"

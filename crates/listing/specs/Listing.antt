@@ -1,5 +1,6 @@
 -- The list of a capture, and what is promised of the call that writes it.
-use Rattle.std.specs.Prelude.{ℕ, zero, suc, List, [], ◌++◌, Bool, cond, ◌&&◌, ◌≡◌, length, drop, leb}
+use Rattle.std.specs.Prelude.{ℕ, zero, suc, List, [], ◌++◌, Bool, cond, ◌&&◌, ◌≡◌, length, drop, leb, Result, Ok, Err}
+use Rattle.digits.specs.declared.refusal.Refusal.{Refusal}
 use Rattle.digits.specs.Told.{Told, gives, refuses, tried}
 use Rattle.digits.specs.Refusals.{ROOM}
 use Rattle.finder.specs.Pieces.{pieces}
@@ -9,8 +10,8 @@ use Rattle.desk.specs.Memory.{Memory, held_by}
 use Rattle.desk.specs.Calls.{empty_row}
 use Rattle.desk.specs.Tally.{empty_tally}
 use Rattle.desk.specs.Capture.{fates, after_all, counts_of}
-use Rattle.listing.specs.declared.ListAnswer.{ListAnswer}
-use Rattle.listing.specs.declared.ListAnswer.TheVariants.{Written, Room}
+use Rattle.listing.specs.declared.ListRefusal.{ListRefusal}
+use Rattle.listing.specs.declared.ListRefusal.TheVariants.{Room}
 use Rattle.listing.specs.Text.{heading, rows_text, end_text, too_long}
 
 -- the longest capture that is listed
@@ -66,12 +67,15 @@ module _ (cells marks s : List ℕ) where
 
 -- ---- the call
 
-abbrev pub list_told : ListAnswer → Told ℕ
-list_told (Written n) = gives n
-list_told Room = refuses ROOM
+abbrev pub list_refused : ListRefusal → Refusal
+list_refused Room = ROOM
+
+abbrev pub list_told : Result ℕ ListRefusal → Told ℕ
+list_told (Ok n) = gives n
+list_told (Err f) = refuses (list_refused f)
 
 -- what is promised of listing s to an output: the answer, and all bytes and marks that are lent
-pub record Listed (lent-cells lent-marks s out : List ℕ) (answer : ListAnswer) (cells' marks' out' : List ℕ) : Type 0 where
+pub record Listed (lent-cells lent-marks s out : List ℕ) (answer : Result ℕ ListRefusal) (cells' marks' out' : List ℕ) : Type 0 where
   pub told : list_told answer ≡ listed lent-cells lent-marks s out
   pub bytes : out' ≡ out_after lent-cells lent-marks s out
   pub cells : cells' ≡ cells_after lent-cells lent-marks s out

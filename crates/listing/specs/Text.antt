@@ -1,10 +1,10 @@
 -- The lines of a list.
-use Rattle.std.specs.Prelude.{ℕ, List, [], ◌∷◌, ◌++◌, map, cond, ◌≡◌, eqb}
+use Rattle.std.specs.Prelude.{ℕ, List, [], ◌∷◌, ◌++◌, map, ◌≡◌}
 use Rattle.std.proofs.Math.Seq.{slice}
 use Rattle.digits.specs.Text.{codes}
 use Rattle.text.specs.Decimal.{decimal}
 use Rattle.text.specs.Lines.{TAB, LF}
-use Rattle.frames.specs.Rules.{space}
+use Rattle.text.specs.Address.{address_shown}
 use Rattle.desk.specs.declared.capture.Counts.{Counts}
 
 -- ---- columns: a name, the bytes of a frame that are shown under it, and how they are shown
@@ -19,13 +19,6 @@ pub record Column : Type 0 where
   pub from : ℕ
   pub to : ℕ
   pub look : Look
-
--- an address that is a space is shown as a minus sign, which no address is
-abbrev pub minus : ℕ
-minus = 45
-
-unfoldable pub address_shown : ℕ → ℕ
-address_shown b = cond (eqb b space) minus b
 
 abbrev pub looks : Look → List ℕ → List ℕ
 looks plain bytes = bytes

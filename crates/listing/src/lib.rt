@@ -3,23 +3,22 @@
 
 mod line;
 mod rows;
-mod store;
 
-ghost use Rattle.std.specs.Prelude.{◌*◌, ◌≤◌, length};
+ghost use Rattle.std.specs.Prelude.{◌≡◌, ◌*◌, ◌≤◌, length};
 ghost use Rattle.text.specs.Put.{Put};
 ghost use Rattle.desk.specs.Limits.{cell_size};
-ghost use Rattle.listing.specs.Listing.{Listed};
+ghost use Rattle.listing.specs.Listing.{list_refused, Listed};
 ghost use Rattle.listing.specs.inside.Rows.{list_lines};
 ghost use Rattle.listing.specs.inside.Steps.{TakenAs, WroteAll};
 
-use desk::capture::{CaptureAnswer, Counts, take_capture};
+use desk::capture::{Counts, take_capture};
 use desk::limits::{CELLS, STORE};
 use desk::state::reset;
-use digits::put_bytes;
+use digits::refusal::{Refusal, plain};
+use digits::{put_all, refusal as table};
 use frames::reply::{LETTERS, STATUSES};
 use line::{LONGEST_END, LONGEST_ROW, put_end};
 use rows::put_seats;
-use store::copy_marks;
 use text::put_text;
 
 pub const HEADING_SIZE: usize = 67;
@@ -35,11 +34,20 @@ pub const LONGEST_LIST: usize = HEADING_SIZE + CELLS * LONGEST_ROW + LONGEST_END
 
 const TOO_LONG: [u8; 15] = *b"input too long\n";
 
-// Written, with this many bytes; or the output has no room for all of them.
-#[derive(Clone, Copy)]
-pub enum ListAnswer {
-    Written(usize),
+// The output has no room for all bytes of the list.
+#[derive(Clone, Copy, Debug, PartialEq, Eq)]
+pub enum ListRefusal {
     Room,
+}
+
+impl From<ListRefusal> for Refusal {
+    ghost from_gives = { λ refusal r. r ≡ list_refused refusal };
+
+    fn from(refusal: ListRefusal) -> Refusal {
+        match refusal {
+            ListRefusal::Room => plain(table::ROOM),
+        }
+    }
 }
 
 // How many cells are held after a capture, and the counts of its frames.
@@ -49,28 +57,33 @@ struct Taken {
     counts: Counts,
 }
 
-// Writes the list of a capture to the first bytes of out. The replies are kept in lent cells and marks, on an emptied desk. If out is
+// Writes the list of a capture to the first bytes of out, and returns how many they are. The replies are kept in lent cells and marks, on an emptied desk. If out is
 // too short, nothing that is lent changes.
-pub fn list(capture: &[u8], cells: &mut [u8], marks: &mut [u32], out: &mut [u8]) -> ListAnswer
+pub fn list(
+    capture: &[u8],
+    cells: &mut [u8],
+    marks: &mut [u32],
+    out: &mut [u8],
+) -> Result<usize, ListRefusal>
     ensures { Listed cells.old marks.old capture.now out.old result cells.new marks.new out.new }
 {
     if capture.len() > MOST_INPUT {
-        return put_all(out, &TOO_LONG);
+        return write_all(out, &TOO_LONG);
     }
     let mut old_cells = [0u8; STORE];
     let mut old_marks = [0u32; CELLS];
-    put_bytes(&mut old_cells, 0, cells);
-    copy_marks(marks, &mut old_marks);
+    put_all(&mut old_cells, 0, cells);
+    put_all(&mut old_marks, 0, marks);
     let t = take(cells, marks, capture);
     let mut scratch = [0u8; 1];
     let size = put_list(&mut scratch, t, cells, marks);
     if out.len() < size {
-        put_bytes(cells, 0, &old_cells);
-        copy_marks(&old_marks, marks);
-        return ListAnswer::Room;
+        put_all(cells, 0, &old_cells);
+        put_all(marks, 0, &old_marks);
+        return Err(ListRefusal::Room);
     }
     put_list(out, t, cells, marks);
-    ListAnswer::Written(size)
+    Ok(size)
 }
 
 fn take(cells: &mut [u8], marks: &mut [u32], capture: &[u8]) -> Taken
@@ -84,12 +97,12 @@ fn take(cells: &mut [u8], marks: &mut [u32], capture: &[u8]) -> Taken
     let answer = d.answer;
     let after = d.desk;
     match answer {
-        CaptureAnswer::Taken(counts) => Taken {
+        Ok(counts) => Taken {
             count: after.count as usize,
             counts,
         },
         // An empty desk is a desk, so this case never occurs.
-        CaptureAnswer::NoDesk => Taken {
+        Err(_) => Taken {
             count: 0,
             counts: Counts {
                 opened: 0,
@@ -113,11 +126,11 @@ fn put_list(out: &mut [u8], t: Taken, cells: &[u8], marks: &[u32]) -> usize
     put_end(out, q, counts)
 }
 
-fn put_all(out: &mut [u8], text: &[u8]) -> ListAnswer
+fn write_all(out: &mut [u8], text: &[u8]) -> Result<usize, ListRefusal>
     ensures { WroteAll text.now out.old result out.new }
 {
     if out.len() < text.len() {
-        return ListAnswer::Room;
+        return Err(ListRefusal::Room);
     }
-    ListAnswer::Written(put_text(out, 0, text))
+    Ok(put_text(out, 0, text))
 }

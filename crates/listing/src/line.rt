@@ -4,12 +4,12 @@ ghost use Rattle.std.proofs.Math.Seq.{slice};
 ghost use Rattle.text.specs.Put.{Put};
 ghost use Rattle.text.specs.Lines.{TAB};
 ghost use Rattle.desk.specs.Limits.{cell_size};
-ghost use Rattle.listing.specs.Text.{address, address_shown, looks, columns, shown, row_text, end_text};
+ghost use Rattle.listing.specs.Text.{address, looks, columns, shown, row_text, end_text};
 
 use desk::capture::Counts;
 use digits::byte_at;
 use frames::reply::field;
-use text::{LF, TAB, place_after, put_decimal, put_one, put_text, width_of};
+use text::{LF, TAB, address_shown, place_after, put_decimal, put_one, put_text, width_of};
 
 const COLUMNS: usize = 12;
 
@@ -50,18 +50,15 @@ pub fn put_row(out: &mut [u8], at: usize, seat: usize, frame: &[u8]) -> usize
 pub fn put_end(out: &mut [u8], at: usize, c: Counts) -> usize
     ensures { Put out.old at (end_text c) result out.new }
 {
-    let p = put_text(out, at, &END);
-    let p = put_one(out, p, TAB);
-    let p = put_decimal(out, p, c.opened as u64);
-    let p = put_one(out, p, TAB);
-    let p = put_decimal(out, p, c.collected as u64);
-    let p = put_one(out, p, TAB);
-    let p = put_decimal(out, p, c.dynamic as u64);
-    let p = put_one(out, p, TAB);
-    let p = put_decimal(out, p, c.refused as u64);
+    let mut p = put_text(out, at, &END);
+    for count in [c.opened, c.collected, c.dynamic, c.refused] {
+        p = put_one(out, p, TAB);
+        p = put_decimal(out, p, count as u64);
+    }
     put_one(out, p, LF)
 }
 
+// A call for each column: a table of them would need a look for each as well, since the address is shown in its own way.
 // Each column goes up to the next field. A request's number has three digits, so the first two of the reply's five are not shown.
 fn put_columns(out: &mut [u8], frame: &[u8]) -> usize
     requires { length frame.now ≡ cell_size }
@@ -90,17 +87,11 @@ fn put_column(out: &mut [u8], at: usize, frame: &[u8], from: usize, to: usize) -
     put_text(out, p, &frame[from..to])
 }
 
+#[tactic(auto, using(crate::proofs::ColumnLaws::address_put))]
 fn put_address(out: &mut [u8], at: usize, frame: &[u8]) -> usize
     requires { length frame.now ≡ cell_size }
     ensures { Put out.old at (TAB ∷ looks address (slice 2 3 frame.now)) result out.new }
 {
     let p = put_one(out, at, TAB);
     put_one(out, p, address_shown(byte_at(frame, field::ADDRESS)))
-}
-
-// A space is shown as a minus sign.
-fn address_shown(b: u8) -> u8
-    ensures { result ≡ address_shown b }
-{
-    if b == b' ' { b'-' } else { b }
 }

@@ -14,10 +14,8 @@ pub fn put_seats(out: &mut [u8], at: usize, count: usize, cells: &[u8], marks: &
     ensures { Put out.old at (seats_of cells.now marks.now count seat_count) result out.new }
 {
     let mut p = at;
-    let mut s: usize = 0;
-    while s < SEATS {
+    for s in 0..SEATS {
         p = put_seat(out, p, s, count, cells, marks);
-        s += 1;
     }
     p
 }
@@ -34,12 +32,10 @@ fn put_seat(
     ensures { Put out.old at (rows_text seat (records_of cells.now marks.now seat count)) result out.new }
 {
     let mut p = at;
-    let mut i: usize = 0;
-    while i < count {
+    for i in 0..count {
         let a = i * CELL_SIZE;
         let e = a + CELL_SIZE;
         p = put_own(out, p, seat, marks[i], &cells[a..e]);
-        i += 1;
     }
     p
 }

@@ -1,8 +1,7 @@
 -- The tokens of a page and their lines: a token that fits is written as a line, and guessed from it. Assumes nothing.
-use Rattle.std.proofs.Common.{◌≡◌, ℕ, zero, suc, ◌+◌, ◌/◌, ◌%◌, ◌<◌, ◌≤◌, Bool, true, false, not, ◌&&◌, eqb, ltb, leb, List, [], ◌∷◌, ◌++◌, length, get_or, take, sym, refl, ap, ◌∙◌, append_assoc, arith, length-append, take_at, get_or-append-add, ltb-true, eq-eqb, ne_eqb, eqb-true, leb-true}
+use Rattle.std.proofs.Common.{Some, ◌≡◌, ℕ, zero, suc, ◌+◌, ◌/◌, ◌%◌, ◌<◌, ◌≤◌, Bool, true, false, not, ◌&&◌, eqb, ltb, leb, List, [], ◌∷◌, ◌++◌, length, get_or, take, sym, refl, ap, ◌∙◌, append_assoc, arith, length-append, take_at, get_or-append-add, ltb-true, eq-eqb, ne_eqb, eqb-true, leb-true}
 use lib.Seq.{take-append-add, drop-append-add, slice}
 use borrow.Author.Tests.{not-true}
-use Rattle.digits.specs.declared.Number.TheVariants.{Is}
 use Rattle.digits.specs.Digits.{digits, number_at}
 use Rattle.digits.proofs.Tests.{by-test, and_true, and_l, and_r}
 use Rattle.digits.proofs.Writing.{length_digits}
@@ -137,7 +136,7 @@ module _ (v : Version) (sound : Sound v) where
   past_seat : (i n : ℕ) (rest : List ℕ) → get_or (v.seat.put i ++ rest) (w + n) 0 ≡ get_or rest n 0
   past_seat i n rest = ap (λ (k : ℕ). get_or (v.seat.put i ++ rest) (k + n) 0) (sym (long i)) ∙ get_or-append-add (v.seat.put i) rest n 0
 
-  number_in : (m n : ℕ) (pre post : List ℕ) → 1 ≤ m → m ≤ 10 → (p : ℕ) → length pre ≡ p → number_at (digits m n) 0 m ≡ Is n → value_of (number_at (pre ++ (digits m n ++ post)) p m) ≡ n
+  number_in : (m n : ℕ) (pre post : List ℕ) → 1 ≤ m → m ≤ 10 → (p : ℕ) → length pre ≡ p → number_at (digits m n) 0 m ≡ Some n → value_of (number_at (pre ++ (digits m n ++ post)) p m) ≡ n
   number_in m n pre post a b p h e =
       ap value_of (ap (λ (q : ℕ). number_at (pre ++ (digits m n ++ post)) q m) (sym h)
       ∙ ap (λ (s : List ℕ). number_at s (length pre) m) (sym (append_assoc pre (digits m n) post))

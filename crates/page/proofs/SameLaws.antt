@@ -1,5 +1,6 @@
--- Lines compared byte by byte: the loop of the code, and the line of a cell, of which only three bytes are compared. Assumes nothing.
-use Rattle.std.proofs.Common.{◌≡◌, ℕ, ◌+◌, ◌<◌, ◌≤◌, Bool, true, false, ◌&&◌, eqb, List, [], ◌∷◌, ◌++◌, length, get_or, take, drop, sym, refl, ap, ◌∙◌, add-one, arith, drop_of_length-le, drop-cons, eq-eqb, eqb-true}
+-- Lines compared byte by byte; and the line of a cell, of which only three bytes are compared. Assumes nothing.
+use Rattle.std.proofs.Common.{◌≡◌, ℕ, ◌≤◌, Bool, true, ◌&&◌, eqb, List, [], ◌∷◌, ◌++◌, length, get_or, take, drop, refl, ap, arith, drop_of_length-le, eq-eqb, eqb-true}
+use Rattle.std.specs.Cmp.Lexicographic.{pointwise}
 use lib.Seq.{split_at, get_or_at, slice, length-slice}
 use Rattle.digits.proofs.Tests.{by-test, and_true, and_l, and_r}
 use Rattle.text.specs.Lines.{TAB, LF}
@@ -10,36 +11,13 @@ use Rattle.desk.proofs.Below.{never, false_or}
 use Rattle.page.specs.Version.{one, seat_digit}
 use Rattle.page.specs.Page.{cell_line}
 
--- ---- the loop
-
-pub same_apart : (a b : List ℕ) → (length a ≡ length b → ⊥) → false ≡ same a b
-same_apart a b n = sym (false_or (same a b) (λ e. n (ap length (same_is a b e))))
-
-both_true : (x : Bool) → x && true ≡ x
-both_true true = refl
-both_true false = refl
-
-both_grouped : (x y z : Bool) → (x && y) && z ≡ x && (y && z)
-both_grouped true y z = refl
-both_grouped false y z = refl
-
--- x says whether the bytes below i are the same
-module _ (a b : List ℕ) (l : length a ≡ length b) (i : ℕ) (x : Bool) (e : x && same (drop i a) (drop i b) ≡ same a b) where
-  pub same_turn : i < length a → (x && eqb (get_or a i 0) (get_or b i 0)) && same (drop (i + 1) a) (drop (i + 1) b) ≡ same a b
-  unfolding same
-  same_turn h =
-      let p : drop i a ≡ get_or a i 0 ∷ drop (i + 1) a = rw (add-one i) (drop-cons a i 0 h) in
-      let q : drop i b ≡ get_or b i 0 ∷ drop (i + 1) b = rw (add-one i) (drop-cons b i 0 (omega arith)) in
-      both_grouped x (eqb (get_or a i 0) (get_or b i 0)) (same (drop (i + 1) a) (drop (i + 1) b)) ∙ (rw (p, q) at e)
-
-  pub same_end : i ≡ length a → x ≡ same a b
-  unfolding same
-  same_end n =
-      let h : length a ≤ i = omega arith in
-      let k : length b ≤ i = omega arith in
-      let p : drop i a ≡ [] = drop_of_length-le a h in
-      let q : drop i b ≡ [] = drop_of_length-le b k in
-      sym (both_true x) ∙ (rw (p, q) at e)
+-- `==` on slices says whether they are the same
+pub same_by : (a b : List ℕ) → pointwise eqb a b ≡ same a b
+unfolding same
+same_by [] [] = refl
+same_by [] (y ∷ ys) = refl
+same_by (x ∷ xs) [] = refl
+same_by (x ∷ xs) (y ∷ ys) = ap (λ (t : Bool). eqb x y && t) (same_by xs ys)
 
 -- ---- the line of a cell
 

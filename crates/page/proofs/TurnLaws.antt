@@ -1,11 +1,11 @@
 -- One more line of a cell is stored. Assumes nothing.
-use Rattle.std.proofs.Common.{◌≡◌, ℕ, ◌+◌, ◌-◌, ◌*◌, ◌≤◌, List, [], ◌∷◌, length, take, drop, set, ap, ◌∙◌, add-one, arith, length-append}
-use lib.Seq.{sets, slice, length-slice}
+use Rattle.std.proofs.Common.{◌≡◌, ℕ, ◌+◌, ◌-◌, ◌*◌, ◌≤◌, List, [], ◌∷◌, ◌++◌, length, take, drop, set, sym, ap, ◌∙◌, add-one, arith, length-append, take_all}
+use Rattle.std.proofs.lemmas.Slice.{put_mid-paste}
+use borrow.Rule.Slice.PartMut.{put_mid}
+use lib.Seq.{slice, length-slice}
 use Rattle.frames.specs.Kind.{CR}
 use Rattle.desk.specs.Limits.{cell_size}
 use Rattle.desk.specs.Tally.{Table, letter_at, status_at, counted_in}
-use Rattle.desk.specs.Calls.{with_cell}
-use Rattle.desk.proofs.WrittenLaws.{with_cell_law}
 use Rattle.page.specs.inside.Machine.{framed}
 use Rattle.page.specs.inside.Stored.{line_size, begins_at, frame_in, seat_in, stored_cells, stored_marks, stored_tally}
 use Rattle.page.proofs.PartLaws.{part_part}
@@ -26,13 +26,14 @@ module _ (text : List ℕ) (from j : ℕ) where
       omega (arith, n, m)
 
   module _ (frame : List ℕ) (e : frame ≡ frame_in text from j) where
-    pub cells_more : (cells₀ cells : List ℕ) → cells ≡ stored_cells text from cells₀ j → begins_at text from j + line_size ≤ length text → j * cell_size + cell_size ≤ length cells
-        → sets cells (j * cell_size) frame ≡ stored_cells text from cells₀ (j + 1)
+    pub cells_more : (cells₀ cells ys : List ℕ) (k : ℕ) → k ≡ cell_size → ys ≡ frame → cells ≡ stored_cells text from cells₀ j → begins_at text from j + line_size ≤ length text
+        → put_mid (j * cell_size) k cells ys ≡ stored_cells text from cells₀ (j + 1)
     unfolding stored_cells
-    cells_more cells₀ cells c h room =
-        rw (e, add-one j)
-        (with_cell_law cells (j * cell_size) (frame_in text from j) room (frame_long h)
-        ∙ ap (λ (l : List ℕ). with_cell l (j * cell_size) (frame_in text from j)) c)
+    cells_more cells₀ cells ys k w y c h =
+        let n = frame_long h in
+        rw (add-one j, ← c)
+        (put_mid-paste (j * cell_size) k cells ys (frame_in text from j) cell_size (y ∙ e) (sym w) (sym n)
+        ∙ ap (λ (f : List ℕ). take (j * cell_size) cells ++ f ++ drop (j * cell_size + cell_size) cells) (take_all cell_size (frame_in text from j) (omega (arith, n))))
 
     pub tally_more : (t : Table) → t ≡ stored_tally text from j → counted_in t (letter_at frame) (status_at frame) ≡ stored_tally text from (j + 1)
     unfolding stored_tally

@@ -1,5 +1,5 @@
 -- Only one outcome meets the promise of each call. Assumes nothing.
-use Rattle.std.proofs.Common.{◌≡◌, ℕ, ◌*◌, cond, eqb, List, ◌++◌, drop, sym, refl, ap, ◌∙◌}
+use Rattle.std.proofs.Common.{◌≡◌, ℕ, ◌*◌, cond, eqb, List, ◌++◌, drop, sym, refl, ap, ◌∙◌, Result, Ok, Err}
 use mathlib.Core.Bool.{false≢true}
 use Rattle.digits.specs.Told.{Told, gives, refuses}
 use Rattle.digits.specs.Refusals.{ROOM, PAGE}
@@ -7,12 +7,10 @@ use Rattle.lines.specs.Demands.{SomePage}
 use Rattle.lines.proofs.ReadLaws.{first_line_is_one}
 use Rattle.desk.specs.Limits.{cell_size}
 use Rattle.desk.specs.Memory.{Memory}
-use Rattle.page.specs.declared.write.WriteAnswer.{WriteAnswer}
-use Rattle.page.specs.declared.write.WriteAnswer.TheVariants.{Written, Desk, Room}
-use Rattle.page.specs.declared.read.PageCheck.{PageCheck}
-use Rattle.page.specs.declared.read.PageCheck.TheVariants.{Page as NotGood}
-use Rattle.page.specs.declared.read.ReadAnswer.{ReadAnswer}
-use Rattle.page.specs.declared.read.ReadAnswer.TheVariants.{Read, Page as NotPage, Room as NoRoom}
+use Rattle.page.specs.declared.write.WriteRefusal.{WriteRefusal}
+use Rattle.page.specs.declared.write.WriteRefusal.TheVariants.{Desk, Room}
+use Rattle.page.specs.declared.read.ReadRefusal.{ReadRefusal}
+use Rattle.page.specs.declared.read.ReadRefusal.TheVariants.{Page as NotPage, Room as NoRoom}
 use Rattle.page.specs.Version.{Version, one, showable}
 use Rattle.page.specs.Page.{page}
 use Rattle.page.specs.Writing.{write_told}
@@ -22,14 +20,14 @@ use Rattle.page.proofs.VersionLaws.{one_shows_all}
 use Rattle.page.proofs.TellLaws.{pages_tell}
 use Rattle.page.specs.Unique.{OneOutcome}
 
-abbrev write_back : Told ℕ → WriteAnswer
-write_back (gives n) = Written n
-write_back (refuses f) = cond (eqb f.number ROOM.number) Room Desk
+abbrev write_back : Told ℕ → Result ℕ WriteRefusal
+write_back (gives n) = Ok n
+write_back (refuses f) = Err (cond (eqb f.number ROOM.number) Room Desk)
 
-write_back_law : (a : WriteAnswer) → write_back (write_told a) ≡ a
-write_back_law (Written n) = refl
-write_back_law Desk = refl
-write_back_law Room = refl
+write_back_law : (a : Result ℕ WriteRefusal) → write_back (write_told a) ≡ a
+write_back_law (Ok n) = refl
+write_back_law (Err Desk) = refl
+write_back_law (Err Room) = refl
 
 -- ---- a text is a page or not, and a page shows one desk
 
@@ -37,11 +35,11 @@ module _ {v : Version} {text : List ℕ} where
   some_page : {d : Memory} → Writes v d text → SomePage (showable v) (page v) text
   some_page {d} w = (d, w.desk, w.its_page)
 
-check_once : (text : List ℕ) (a b : PageCheck) → PageChecked one text a → PageChecked one text b → a ≡ b
+check_once : (text : List ℕ) (a b : Result (Unit {0}) ℕ) → PageChecked one text a → PageChecked one text b → a ≡ b
 check_once text _ _ (a_page d w) (a_page e x) = refl
 check_once text _ _ (a_page d w) (no_page n none line) = absurd (none (some_page w))
 check_once text _ _ (no_page n none line) (a_page d w) = absurd (none (some_page w))
-check_once text _ _ (no_page n none line) (no_page k other that) = ap NotGood (first_line_is_one (showable one) (page one) text n k line that)
+check_once text _ _ (no_page n none line) (no_page k other that) = ap Err (first_line_is_one (showable one) (page one) text n k line that)
 
 -- ---- reading, by what the answer means
 
@@ -76,14 +74,14 @@ module _ (m : Memory) (text : List ℕ) where
   read_once _ _ _ _ (read d w h) (read e x k) = (refl, same_restored d e (same_desk d e w x))
 
 -- the answer is known by what it means
-abbrev read_back : Told (Unit {0}) → ReadAnswer
-read_back (gives u) = Read
-read_back (refuses f) = cond (eqb f.number ROOM.number) NoRoom (NotPage f.offset)
+abbrev read_back : Told (Unit {0}) → Result (Unit {0}) ReadRefusal
+read_back (gives u) = Ok u
+read_back (refuses f) = Err (cond (eqb f.number ROOM.number) NoRoom (NotPage f.offset))
 
-read_back_law : (a : ReadAnswer) → read_back (read_told a) ≡ a
-read_back_law Read = refl
-read_back_law (NotPage n) = refl
-read_back_law NoRoom = refl
+read_back_law : (a : Result (Unit {0}) ReadRefusal) → read_back (read_told a) ≡ a
+read_back_law (Ok u) = refl
+read_back_law (Err (NotPage n)) = refl
+read_back_law (Err NoRoom) = refl
 
 pub one_outcome : OneOutcome
 one_outcome = record {

@@ -1,7 +1,6 @@
 -- Version 1 is sound, and it can show every desk. Assumes nothing.
-use Rattle.std.proofs.Common.{◌≡◌, ℕ, ◌+◌, ◌-◌, ◌^◌, ◌<◌, true, ◌&&◌, ltb, leb, [], ◌∷◌, length, sym, refl, ◌∙◌, arith, ltb-false, ltb-true, le-ltb, lt-ltb, ne_eqb, le-leb, leb-true}
+use Rattle.std.proofs.Common.{◌≡◌, ℕ, ◌+◌, ◌-◌, ◌^◌, ◌<◌, true, ◌&&◌, ltb, leb, [], ◌∷◌, length, sym, refl, ◌∙◌, arith, ltb-false, ltb-true, le-ltb, lt-ltb, ne_eqb, le-leb, leb-true, Some, None}
 use borrow.Author.Tests.{lt-leb}
-use Rattle.digits.specs.declared.Number.TheVariants.{Is, Wrong}
 use Rattle.digits.specs.Digits.{is_digit}
 use Rattle.digits.specs.Form.{byte}
 use Rattle.digits.proofs.Tests.{by-test, and_true, and_l, and_r}
@@ -17,30 +16,30 @@ use Rattle.page.specs.Version.{seat_digit, digit_seat, one, within, Sound, showa
 -- ---- a seat is one digit
 
 -- the digit of a seat that was read
-digit_back : (b i : ℕ) → digit_seat b ≡ Is i → seat_digit i ≡ b
+digit_back : (b i : ℕ) → digit_seat b ≡ Some i → seat_digit i ≡ b
 unfolding digit_seat seat_digit
 digit_back b i e =
     by-test (is_digit b)
     (λ d.
     let l = leb-true 48 b (and_l (leb 48 b) (leb b 57) d) in
     let h = leb-true b 57 (and_r (leb 48 b) (leb b 57) d) in
-    let q : Is (b - 48) ≡ Is i = rw d at e in
+    let q : Some (b - 48) ≡ Some i = rw d at e in
     let n : b - 48 ≡ i = cc in
     rw (lt-ltb i 10 (omega arith)) (omega arith))
     (λ d.
     by-test (leb 65 b && leb b 70)
     (λ t.
     let l = leb-true 65 b (and_l (leb 65 b) (leb b 70) t) in
-    let q : Is (b - 55) ≡ Is i = rw (d, t) at e in
+    let q : Some (b - 55) ≡ Some i = rw (d, t) at e in
     let n : b - 55 ≡ i = cc in
     rw (le-ltb i 10 (omega arith)) (omega arith))
     (λ t.
-    let q : Wrong ≡ Is i = rw (d, t) at e in
+    let q : None ≡ Some i = rw (d, t) at e in
     let z : ◌≡◌ {A = ℕ} 0 1 = cc in
     absurd (omega arith)))
 
 -- the seat of a digit that was written
-pub seat_back : (i : ℕ) → i < 16 → digit_seat (seat_digit i) ≡ Is i
+pub seat_back : (i : ℕ) → i < 16 → digit_seat (seat_digit i) ≡ Some i
 unfolding digit_seat seat_digit
 seat_back i l =
     by-test (ltb i 10)

@@ -1,5 +1,5 @@
 -- How the steps of writing a page make up its promise. Assumes nothing.
-use Rattle.std.proofs.Common.{◌≡◌, ℕ, ◌+◌, ◌-◌, ◌%◌, ◌<◌, ◌≤◌, true, false, List, length, take, drop, ap, ◌∙◌, append_assoc, arith, length-append, take_at, le-leb}
+use Rattle.std.proofs.Common.{◌≡◌, ℕ, ◌+◌, ◌-◌, ◌%◌, ◌<◌, ◌≤◌, true, false, List, length, take, drop, ap, ◌∙◌, append_assoc, arith, length-append, take_at, le-leb, Ok, Err}
 use borrow.Author.Tests.{lt-leb}
 use Rattle.digits.specs.Text.{codes}
 use Rattle.text.specs.Put.{most_place, Put}
@@ -10,7 +10,7 @@ use Rattle.desk.specs.Desk.{is_desk}
 use Rattle.desk.proofs.ReplayLaws.{Facts, desk_facts, marked}
 use Rattle.desk.proofs.ClauseLaws.{cap_room}
 use Rattle.desk.proofs.ColumnLaws.{legal_keyed}
-use Rattle.page.specs.declared.write.WriteAnswer.TheVariants.{Written, Desk, Room}
+use Rattle.page.specs.declared.write.WriteRefusal.TheVariants.{Desk, Room}
 use Rattle.page.specs.Version.{one, showable}
 use Rattle.page.specs.Sum.{sum_of, sum_modulus}
 use Rattle.page.specs.Page.{first_line, last_line, seat_lines, cell_lines, front, page}
@@ -26,7 +26,7 @@ use Rattle.page.proofs.SizeLaws.{page_length}
 module _ (m : Memory) (out : List ℕ) where
   -- ---- refused
 
-  pub no_desk_case : is_desk m ≡ false → PageWritten one m out Desk out
+  pub no_desk_case : is_desk m ≡ false → PageWritten one m out (Err Desk) out
   unfolding write_tried
   no_desk_case d = let s = one_shows_all.all m ∙ d in record { told = rw s; bytes = rw s }
 
@@ -34,7 +34,7 @@ module _ (m : Memory) (out : List ℕ) where
     shows : showable one m ≡ true
     shows = one_shows_all.all m ∙ d
 
-    pub no_room : (size : ℕ) → size ≡ page_size (seats_in_use m.bits) m.count → length out < size → PageWritten one m out Room out
+    pub no_room : (size : ℕ) → size ≡ page_size (seats_in_use m.bits) m.count → length out < size → PageWritten one m out (Err Room) out
     unfolding write_tried
     no_room size e l =
         let n = page_length m d in
@@ -89,7 +89,7 @@ module _ (m : Memory) (out : List ℕ) where
           ap (λ (l : List ℕ). take (r - 0) l) (put_all out (front one m) r o'' all_but_last (omega (arith, n)))
           ∙ take_at (front one m) (drop (length (front one m)) out) (r - 0) (omega (arith, x))
 
-      pub written_page : (sum end : ℕ) (out' : List ℕ) → sum ≡ sum_of (take (r - 0) o'') % sum_modulus → Put o'' r (last_line m.count sum) end out' → PageWritten one m out (Written size) out'
+      pub written_page : (sum end : ℕ) (out' : List ℕ) → sum ≡ sum_of (take (r - 0) o'') % sum_modulus → Put o'' r (last_line m.count sum) end out' → PageWritten one m out (Ok size) out'
       unfolding write_tried page
       written_page sum end out' s last =
           let t : sum ≡ sum_of (front one m) % sum_modulus = s ∙ ap (λ (l : List ℕ). sum_of l % sum_modulus) summed in

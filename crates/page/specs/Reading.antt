@@ -1,14 +1,13 @@
 -- Reading a page: what is answered, and the state and memory afterwards. All of it is said of desks and their pages.
-use Rattle.std.specs.Prelude.{◌≡◌, ℕ, ◌*◌, ◌/◌, Bool, true, false, ◌&&◌, List, ◌++◌, length, take, drop, ◌==◌, nat_le}
+use Rattle.std.specs.Prelude.{◌≡◌, ℕ, ◌*◌, ◌/◌, Bool, true, false, ◌&&◌, List, ◌++◌, length, take, drop, ◌==◌, nat_le, Result, Ok, Err}
+use Rattle.digits.specs.declared.refusal.Refusal.{Refusal}
 use Rattle.digits.specs.Refusals.{ROOM, PAGE}
 use Rattle.digits.specs.Told.{Told, gives, refuses}
 use Rattle.lines.specs.Demands.{SomePage, FirstLine}
 use Rattle.desk.specs.Limits.{seat_count, cell_size}
 use Rattle.desk.specs.Memory.{Memory}
-use Rattle.page.specs.declared.read.PageCheck.{PageCheck}
-use Rattle.page.specs.declared.read.PageCheck.TheVariants.{Good, Page as not-Good}
-use Rattle.page.specs.declared.read.ReadAnswer.{ReadAnswer}
-use Rattle.page.specs.declared.read.ReadAnswer.TheVariants.{Read, Page, Room}
+use Rattle.page.specs.declared.read.ReadRefusal.{ReadRefusal}
+use Rattle.page.specs.declared.read.ReadRefusal.TheVariants.{Page, Room}
 use Rattle.page.specs.Version.{Version, showable}
 use Rattle.page.specs.Page.{page}
 
@@ -34,15 +33,18 @@ pub record Writes (v : Version) (d : Memory) (text : List ℕ) : Type 0 where
   pub its_page : page v d ≡ text
 
 -- what is promised of the check alone
-pub data PageChecked (v : Version) (text : List ℕ) : PageCheck → Type 0 where
-  a_page : (d : Memory) → Writes v d text → PageChecked v text Good
-  no_page : (n : ℕ) → (SomePage (showable v) (page v) text → ⊥) → FirstLine (showable v) (page v) text n → PageChecked v text (not-Good n)
+pub data PageChecked (v : Version) (text : List ℕ) : Result (Unit {0}) ℕ → Type 0 where
+  a_page : (d : Memory) → Writes v d text → PageChecked v text (Ok tt)
+  no_page : (n : ℕ) → (SomePage (showable v) (page v) text → ⊥) → FirstLine (showable v) (page v) text n → PageChecked v text (Err n)
 
--- what the answers of the code mean
-abbrev pub read_told : ReadAnswer → Told (Unit {0})
-read_told Read = gives tt
-read_told (Page n) = refuses (PAGE n)
-read_told Room = refuses ROOM
+-- what the answers of the code mean, and the number of a refusal in the table
+abbrev pub page_refused : ReadRefusal → Refusal
+page_refused (Page n) = PAGE n
+page_refused Room = ROOM
+
+abbrev pub read_told : Result (Unit {0}) ReadRefusal → Told (Unit {0})
+read_told (Ok u) = gives u
+read_told (Err f) = refuses (page_refused f)
 
 -- what is promised of reading a text into the memory m: the answer, and the memory afterwards
 pub data PageRead (v : Version) (m : Memory) (text : List ℕ) : Told (Unit {0}) → Memory → Type 0 where

@@ -1,7 +1,5 @@
 -- The versions of a page, and which desks a version can show.
-use Rattle.std.specs.Prelude.{◌≡◌, ℕ, ◌+◌, ◌-◌, ◌^◌, ◌≤◌, Bool, true, cond, not, ◌&&◌, ltb, [], ◌∷◌, ◌==◌, nat_le, nat_lt, slice_index}
-use Rattle.digits.specs.declared.Number.{Number}
-use Rattle.digits.specs.declared.Number.TheVariants.{Is, Wrong}
+use Rattle.std.specs.Prelude.{◌≡◌, ℕ, ◌+◌, ◌-◌, ◌^◌, ◌≤◌, Bool, true, cond, not, ◌&&◌, ltb, [], ◌∷◌, ◌==◌, nat_le, nat_lt, slice_index, Option, Some, None}
 use Rattle.digits.specs.Digits.{is_digit}
 use Rattle.digits.specs.Form.{Form, Inverse}
 use Rattle.text.specs.Lines.{LF}
@@ -24,8 +22,8 @@ pub record Version : Type 0 where
 unfoldable pub seat_digit : ℕ → ℕ
 seat_digit n = cond (nat_lt n 10) (48 + n) (55 + n)
 
-unfoldable pub digit_seat : ℕ → Number
-digit_seat b = cond (is_digit b) (Is (b - 48)) (cond (nat_le 65 b && nat_le b 70) (Is (b - 55)) Wrong)
+unfoldable pub digit_seat : ℕ → Option ℕ
+digit_seat b = cond (is_digit b) (Some (b - 48)) (cond (nat_le 65 b && nat_le b 70) (Some (b - 55)) None)
 
 abbrev pub one_digit : Form
 one_digit = record { width = 1; got = λ s p. digit_seat (slice_index s p); put = λ n. seat_digit n ∷ [] }

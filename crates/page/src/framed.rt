@@ -1,26 +1,24 @@
 // What the line of a cell holds: its seat, and a frame without its lead byte and its CR.
-ghost use Rattle.std.specs.Prelude.{◌≡◌, ◌<◌, length};
+ghost use Rattle.std.specs.Prelude.{◌≡◌, ◌<◌, length, IfSome};
 ghost use Rattle.std.proofs.Math.Seq.{slice};
 ghost use Rattle.page.specs.Version.{digit_seat};
-ghost use Rattle.page.specs.inside.Tokens.{value_of};
 ghost use Rattle.page.specs.inside.Machine.{framed};
 
-use digits::put_bytes;
 use frames::reply::{REPLY_LEAD, REPLY_SIZE};
 
 const CR: u8 = b'\r';
 
-// The seat that a digit names; 0 if it names none.
-pub fn seat_value(b: u8) -> usize
-    ensures { (result ≡ value_of (digit_seat b)) × (result < 16) }
+// The seat that a digit names.
+#[tactic(auto, unfolding(crate::specs::Version::digit_seat))]
+pub fn seat_value(b: u8) -> Option<usize>
+    ensures named { result ≡ digit_seat b }
+    ensures within { IfSome result (λ i. i < 16) }
 {
-    if (48 <= b) & (b <= 57) {
-        return (b - 48) as usize;
+    match b {
+        48..=57 => Some((b - 48) as usize),
+        65..=70 => Some((b - 55) as usize),
+        _ => None,
     }
-    if (65 <= b) & (b <= 70) {
-        return (b - 55) as usize;
-    }
-    0
 }
 
 // The frame in the line of a cell.
@@ -30,6 +28,6 @@ pub fn framed(line: &[u8]) -> [u8; REPLY_SIZE]
 {
     let mut frame = [CR; REPLY_SIZE];
     frame[0] = REPLY_LEAD;
-    put_bytes(&mut frame, 1, &line[2..51]);
+    frame[1..50].copy_from_slice(&line[2..51]);
     frame
 }

@@ -4,6 +4,7 @@
 mod framed;
 mod line;
 pub mod read;
+mod sofar;
 mod store;
 mod sum;
 mod take;

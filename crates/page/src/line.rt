@@ -21,6 +21,7 @@ pub const LAST_LINE: usize = 11;
 pub const FIRST: [u8; FIRST_LINE] = *b"page\t1\n";
 
 // 0 to 9, then A to F.
+#[tactic(auto, unfolding(crate::specs::Version::seat_digit))]
 pub fn seat_digit(seat: usize) -> u8
     requires { seat < 16 }
     ensures { result ≡ seat_digit seat }

@@ -7,10 +7,10 @@ use crate::framed::{framed, seat_value};
 use crate::line::CELL_LINE;
 use desk::limits::CELL_SIZE;
 use desk::tally::{clear, count};
-use digits::put_bytes;
 use frames::reply::{LETTERS, STATUSES, field};
 
 // The lines of so many cells, which begin at `from`: each frame goes to its cell and its seat to the mark beside it, and the tally counts them anew.
+#[tactic(auto, unfolding(crate::specs::inside::Stored::stored_cells, crate::specs::inside::Stored::stored_marks, crate::specs::inside::Stored::stored_tally))]
 pub fn store(
     text: &[u8],
     from: usize,
@@ -23,15 +23,13 @@ pub fn store(
     ensures { (cells.new ≡ stored_cells text.now from cells.old held) × ((marks.new ≡ stored_marks text.now from marks.old held) × (tally.new ≡ stored_tally text.now from held)) }
 {
     clear(tally);
-    let mut at = from;
-    let mut j = 0;
-    while j < held {
-        let end = at + CELL_LINE;
-        let frame = framed(&text[at..end]);
-        put_bytes(cells, j * CELL_SIZE, &frame);
-        marks[j] = seat_value(text[at]) as u32;
+    for j in 0..held {
+        let at = from + j * CELL_LINE;
+        let frame = framed(&text[at..at + CELL_LINE]);
+        let a = j * CELL_SIZE;
+        cells[a..a + CELL_SIZE].copy_from_slice(&frame);
+        // On a page each of these digits names a seat; that is not known here.
+        marks[j] = seat_value(text[at]).unwrap_or(0) as u32;
         count(tally, frame[field::INFORMATION], frame[field::STATUS]);
-        at = end;
-        j += 1;
     }
 }

@@ -1,6 +1,4 @@
-pub mod RowLaws
 pub mod LentLaws
-pub mod NumberLaws
 pub mod NameLaws
 pub mod TimingLaws
 pub mod Tells

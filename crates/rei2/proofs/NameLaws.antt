@@ -38,18 +38,6 @@ names_tell = record {
   others = λ n l. get_or-eq_default names (codes "UNKNOWN") l;
 }
 
--- a number that is not one of the first k
-abbrev pub NoneBelow : ℕ → ℕ → Type 0
-NoneBelow zero n = Unit {0}
-NoneBelow (suc k) n = NoneBelow k n × (n ≡ k → ⊥)
-
-pub none_below : (k n : ℕ) → NoneBelow k n → k ≤ n
-none_below zero n h = omega arith
-none_below (suc k) n h =
-    let l : k ≤ n = none_below k n h.0 in
-    let other : n ≡ k → ⊥ = h.1 in
-    omega (arith, l, other)
-
 module _ (n : ℕ) (name out : List ℕ) (a : WrittenAnswer) (out' : List ℕ) where
   pub named : name_of n ≡ name → NamedLent name out a out' → NamedLent (name_of n) out a out'
   named e h = rw e h

@@ -2,12 +2,11 @@
 use mathlib.Core.Path.{◌≡◌, refl, sym, ap, ap₂, ◌∙◌}
 use mathlib.Core.Bool.{Bool, true, false, cond, not, true≢false, false≢true, ◌&&◌, and-eq-true_iff}
 use mathlib.Core.List.{List, ◌++◌, append-nil}
-use Prim.Native.Nat.{ℕ, ◌-◌, ◌≤◌}
+use Prim.Native.Nat.{ℕ, ◌≤◌}
 use native.Mathlib.Omega.{arith}
 use lib.ListN.{length, take, drop}
-use lib.Seq.{take-length, drop-length}
+use lib.Seq.{take-length, drop-length, length-take-le}
 use lib.Dec.{eqb, leb}
-use borrow.Rule.Slice.PartMut.{mid_of, post_of, mid_len}
 use lib.IntN.{ℤ, pos, negsuc}
 use borrow.Author.Tests.{eqb-true, eq-eqb, ne_eqb}
 use Rattle.digits.specs.Refusals.{ROOM}
@@ -17,7 +16,8 @@ use Rattle.frames.specs.declared.timing.TimingKind.TheVariants.{Clock as clock_k
 use Rattle.frames.specs.declared.timing.Timing.{Timing}
 use Rattle.frames.specs.declared.timing.Timing.TheVariants.{Clock, Net, Raw}
 use Rattle.frames.specs.declared.reply.StaticReply.{StaticReply}
-use Rattle.frames.specs.declared.refusals.WriteAnswer.{WriteAnswer}
+use Rattle.std.specs.Prelude.{Result}
+use Rattle.frames.specs.declared.refusals.WriteRefusal.{WriteRefusal}
 use Rattle.frames.specs.Refusals.{write_told}
 use Rattle.frames.specs.Layout.{record_wrong}
 use Rattle.frames.specs.Timing.{timed}
@@ -34,36 +34,13 @@ use Rattle.digits.proofs.Tests.{by-test}
 -- ---- the tests of the code, one after the other
 
 module _ (n : TimingNumbers) where
-  pub as_raw_law : n.kind ≡ RAW → Raw ≡ timing_of n
+  pub as_none : 3 ≤ n.kind → no_time ≡ timing_of n
   unfolding timing_of
-  as_raw_law k = rw (eq-eqb n.kind RAW k)
+  as_none h = rw (ne_eqb n.kind RAW (λ e. omega (arith, e, h)), ne_eqb n.kind CLOCK (λ e. omega (arith, e, h)), ne_eqb n.kind NET (λ e. omega (arith, e, h)))
 
-  pub left_clock : n.kind ≡ CLOCK → not (is_nothing n.net) ≡ left_over n
+  pub left_raw : (n.kind ≡ CLOCK → ⊥) → (n.kind ≡ NET → ⊥) → not (is_nothing n.net && no_date n) ≡ left_over n
   unfolding left_over
-  left_clock k = rw (eq-eqb n.kind CLOCK k)
-
-  module _ (not-raw : n.kind ≡ RAW → ⊥) where
-    pub as_clock_law : n.kind ≡ CLOCK → Clock n.ticks n.day n.month n.year ≡ timing_of n
-    unfolding timing_of
-    as_clock_law k = rw (ne_eqb n.kind RAW not-raw, eq-eqb n.kind CLOCK k)
-
-    module _ (not-clock : n.kind ≡ CLOCK → ⊥) where
-      pub as_net_law : n.kind ≡ NET → Net n.net ≡ timing_of n
-      unfolding timing_of
-      as_net_law k = rw (ne_eqb n.kind RAW not-raw, ne_eqb n.kind CLOCK not-clock, eq-eqb n.kind NET k)
-
-      pub as_none : (n.kind ≡ NET → ⊥) → no_time ≡ timing_of n
-      unfolding timing_of
-      as_none not-net = rw (ne_eqb n.kind RAW not-raw, ne_eqb n.kind CLOCK not-clock, ne_eqb n.kind NET not-net)
-
-  module _ (not-clock : n.kind ≡ CLOCK → ⊥) where
-    pub left_net : n.kind ≡ NET → not (no_date n) ≡ left_over n
-    unfolding left_over
-    left_net k = rw (ne_eqb n.kind CLOCK not-clock, eq-eqb n.kind NET k)
-
-    pub left_raw : (n.kind ≡ NET → ⊥) → not (is_nothing n.net && no_date n) ≡ left_over n
-    unfolding left_over
-    left_raw not-net = rw (ne_eqb n.kind CLOCK not-clock, ne_eqb n.kind NET not-net)
+  left_raw not-clock not-net = rw (ne_eqb n.kind CLOCK not-clock, ne_eqb n.kind NET not-net)
 
 -- ---- there and back
 
@@ -105,12 +82,12 @@ written_all w frame out k e =
 
 -- what is written: nothing without room; with all of the room, what is written to the output
 written_by : (w : ℕ) (frame out : List ℕ) (l : Bool)
-    → output_after (write_tried w 51 (length (mid_of 0 (room_in l (length out) - 0) out))) frame 51 (mid_of 0 (room_in l (length out) - 0) out) ++ post_of 0 (room_in l (length out) - 0) out
+    → output_after (write_tried w 51 (length (take (room_in l (length out)) out))) frame 51 (take (room_in l (length out)) out) ++ drop (room_in l (length out)) out
     ≡ output_after (write_tried (cond (eqb w 0) (cond l left_at 0) w) 51 (length out)) frame 51 out
 unfolding write_tried
 written_by w frame out true = by-test (eqb w 0) (λ t. rw t) (λ t. rw (t, t))
 written_by w frame out false =
-    written_all w frame out (length out - 0) (omega arith) ∙ sym (ap (λ (v : ℕ). output_after (write_tried v 51 (length out)) frame 51 out) (first_then w false refl))
+    written_all w frame out (length out) refl ∙ sym (ap (λ (v : ℕ). output_after (write_tried v 51 (length out)) frame 51 out) (first_then w false refl))
 
 all_fine : (w : ℕ) (l : Bool) → cond (eqb w 0) (cond l left_at 0) w ≡ 0 → (w ≡ 0) × (l ≡ false)
 all_fine w l h =
@@ -122,20 +99,20 @@ within true n = omega arith
 within false n = omega arith
 
 module _ (c : ReplyRecord) (out : List ℕ) (l : Bool) (e : l ≡ left_over c.timing) where
-  pub wrote_reply : (room : ℕ) → room ≡ room_in l (length out) → (a : WriteAnswer) (part : List ℕ) → Wrote reply (record_of c) (mid_of 0 (room - 0) out) a part
-      → WroteReplyLent c out (or_left l (written_answer 51 (write_told a))) (part ++ post_of 0 (room - 0) out)
+  pub wrote_reply : (room : ℕ) → room ≡ room_in l (length out) → (a : Result (Unit {0}) WriteRefusal) (part : List ℕ) → Wrote reply (record_of c) (take room out) a part
+      → WroteReplyLent c out (or_left l (written_answer 51 (write_told a))) (part ++ drop room out)
   unfolding wrong_in_c
   wrote_reply room r a part h =
       let w = wrong_in reply (record_of c) in
       let n = length out in
       let frame = frame_of reply (record_of c) in
       let fits : room_in l n ≤ n = within l n in
-      let size : length (mid_of 0 (room - 0) out) ≡ room_in l n = mid_len 0 room out (rw r fits) ∙ (let z : room - 0 ≡ room = omega arith in z) ∙ r in
+      let size : length (take room out) ≡ room_in l n = length-take-le room out (rw r fits) ∙ r in
       let told : or_left l (written_answer 51 (write_told a)) ≡ written_answer 51 (write_tried (cond (eqb w 0) (cond l left_at 0) w) 51 n) =
       ap (λ (t : Told (Unit {0})). or_left l (written_answer 51 t)) (h.told ∙ ap (λ (k : ℕ). write_tried w 51 k) size) ∙ told_by_law w n l in
-      let bytes : part ++ post_of 0 (room - 0) out ≡ output_after (write_tried (cond (eqb w 0) (cond l left_at 0) w) 51 n) frame 51 out =
-      ap (λ (x : List ℕ). x ++ post_of 0 (room - 0) out) h.bytes
-      ∙ ap (λ (k : ℕ). output_after (write_tried w 51 (length (mid_of 0 (k - 0) out))) frame 51 (mid_of 0 (k - 0) out) ++ post_of 0 (k - 0) out) r
+      let bytes : part ++ drop room out ≡ output_after (write_tried (cond (eqb w 0) (cond l left_at 0) w) 51 n) frame 51 out =
+      ap (λ (x : List ℕ). x ++ drop room out) h.bytes
+      ∙ ap (λ (k : ℕ). output_after (write_tried w 51 (length (take k out))) frame 51 (take k out) ++ drop k out) r
       ∙ written_by w frame out l in
       record {
         told = told ∙ ap (λ (b : Bool). written_answer 51 (write_tried (cond (eqb w 0) (cond b left_at 0) w) 51 n)) e;

@@ -5,10 +5,10 @@ ghost use Rattle.frames.specs.Dynamic.{dynamic};
 ghost use Rattle.rei2.specs.Frames.{dynamic_answer, zero_dynamic, WroteLent};
 
 use crate::request::{WrittenAnswer, written};
-use frames::dynamic::{DYNAMIC_SIZE, DynamicRead, DynamicRequest, read_dynamic, write_dynamic};
-use frames::refusals::of_reading;
+use digits::refusal::Refusal;
+use frames::dynamic::{DYNAMIC_SIZE, DynamicRequest, read_dynamic, write_dynamic};
 
-// The record is all zero if the frame was refused.
+// The record is all zero if the frame was refused: C has neither Result nor generic structs.
 #[repr(C)]
 #[derive(Clone, Copy)]
 pub struct DynamicAnswer {
@@ -24,7 +24,7 @@ pub extern "C" fn rei2_read_dynamic(frame: &[u8]) -> DynamicAnswer
 {
     match read_dynamic(frame) {
         // Copied part by part, as in the static request.
-        DynamicRead::Request(r) => DynamicAnswer {
+        Ok(r) => DynamicAnswer {
             refusal: 0,
             offset: 0,
             spoiled: 0,
@@ -45,8 +45,8 @@ pub extern "C" fn rei2_read_dynamic(frame: &[u8]) -> DynamicAnswer
                 output: r.output,
             },
         },
-        DynamicRead::Refused(refusal) => {
-            let said = of_reading(refusal);
+        Err(why) => {
+            let said = Refusal::from(why);
             DynamicAnswer {
                 refusal: said.number,
                 offset: said.offset,

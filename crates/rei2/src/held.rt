@@ -4,10 +4,10 @@ ghost use Rattle.desk.specs.Memory.{capacity_of};
 ghost use Rattle.desk.specs.Calls.{seats_in_use, next_held};
 ghost use Rattle.rei2.specs.Calls.{cell_answer};
 
-use desk::held::{Held, next_held};
+use desk::held::next_held;
 use desk::state::{Desk, capacity, seats_in_use};
 
-// 1 and the cell, or 0 and 0 if there is none.
+// C has no Option: 1 and the cell, or 0 and 0 if there is none.
 #[repr(C)]
 #[derive(Clone, Copy)]
 pub struct CellAnswer {
@@ -40,7 +40,7 @@ pub extern "C" fn rei2_next_held(
     ensures { result ≡ cell_answer (next_held desk.count cells.now marks.now seat from) }
 {
     match next_held(desk, cells, marks, seat, from) {
-        Held::Cell(cell) => CellAnswer { found: 1, cell },
-        Held::Nothing => CellAnswer { found: 0, cell: 0 },
+        Some(cell) => CellAnswer { found: 1, cell },
+        None => CellAnswer { found: 0, cell: 0 },
     }
 }

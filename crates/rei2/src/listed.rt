@@ -1,10 +1,10 @@
 // The list of a capture.
 ghost use Rattle.rei2.specs.Calls.{ListLent};
 
-use digits::refusal as table;
-use listing::{ListAnswer, list};
+use digits::refusal::Refusal;
+use listing::list;
 
-// The size of the list, 0 if it was not written.
+// C has no Result: the refusal, 0 if there is none, and the size of the list, 0 if it was not written.
 #[repr(C)]
 #[derive(Clone, Copy)]
 pub struct ListedAnswer {
@@ -22,9 +22,9 @@ pub extern "C" fn rei2_list(
     ensures { ListLent cells.old marks.old capture.now out.old result cells.new marks.new out.new }
 {
     match list(capture, cells, marks, out) {
-        ListAnswer::Written(size) => ListedAnswer { refusal: 0, size },
-        ListAnswer::Room => ListedAnswer {
-            refusal: table::ROOM,
+        Ok(size) => ListedAnswer { refusal: 0, size },
+        Err(why) => ListedAnswer {
+            refusal: Refusal::from(why).number,
             size: 0,
         },
     }

@@ -3,11 +3,11 @@ ghost use Rattle.std.specs.Prelude.{◌≡◌};
 ghost use Rattle.desk.specs.Tally.{looks};
 ghost use Rattle.rei2.specs.Look.{look_answer};
 
-use desk::tally::{LookAnswer, look};
-use digits::refusal as table;
+use desk::tally::look;
+use digits::refusal::Refusal;
 use frames::reply::{LETTERS, STATUSES};
 
-// The refusal, 0 if there is such a letter and such a status; and how many records are held with them, 0 if refused.
+// C has no Result: the refusal, 0 if there is such a letter and such a status; and how many records are held with them, 0 if refused.
 #[repr(C)]
 #[derive(Clone, Copy)]
 pub struct LookedAnswer {
@@ -24,9 +24,9 @@ pub extern "C" fn rei2_look(
     ensures { result ≡ look_answer (looks tally.now letter status) }
 {
     match look(tally, letter, status) {
-        LookAnswer::Held(held) => LookedAnswer { refusal: 0, held },
-        LookAnswer::NoSuch => LookedAnswer {
-            refusal: table::NO_SUCH,
+        Ok(held) => LookedAnswer { refusal: 0, held },
+        Err(why) => LookedAnswer {
+            refusal: Refusal::from(why).number,
             held: 0,
         },
     }

@@ -1,8 +1,9 @@
 // The names of refusals.
 ghost use Rattle.rei2.specs.Names.{name_of, NamedLent};
 
-use crate::request::WrittenAnswer;
-use digits::{put_byte, put_bytes, refusal as table};
+use crate::request::{WrittenAnswer, not_written};
+use digits::refusal::plain;
+use digits::{put_all, put_byte, refusal as table};
 
 // An output of so many bytes has room for every name with the zero byte after it.
 pub const NAME_SIZE: usize = 14;
@@ -40,13 +41,9 @@ fn put_name(out: &mut [u8], name: &[u8]) -> WrittenAnswer
 {
     let size = name.len();
     if out.len() <= size {
-        return WrittenAnswer {
-            refusal: table::ROOM,
-            offset: 0,
-            size: 0,
-        };
+        return not_written(plain(table::ROOM));
     }
-    put_bytes(out, 0, name);
+    put_all(out, 0, name);
     put_byte(out, size, 0);
     WrittenAnswer {
         refusal: 0,

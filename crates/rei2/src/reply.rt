@@ -5,9 +5,9 @@ ghost use Rattle.frames.specs.Reply.{reply, zero_reply};
 ghost use Rattle.rei2.specs.Reply.{numbers_of, timing_of, is_nothing, no_date, left_over, shown, record_of, reply_answer, WroteReplyLent};
 ghost use Rattle.rei2.specs.inside.Left.{room_in, or_left};
 
-use crate::request::{WrittenAnswer, written};
+use crate::request::{WrittenAnswer, not_written, written};
 use digits::refusal as table;
-use frames::refusals::{ReadVerdict, of_reading};
+use digits::refusal::{Refusal, placed};
 use frames::reply::{REPLY_SIZE, ReplyHead, StaticReply, field, read_reply, write_reply};
 use frames::timing::Timing;
 
@@ -19,7 +19,7 @@ const CLOCK: u32 = 1;
 const NET: u32 = 2;
 
 // The offset at which a number left over is reported: that of the CR.
-const LEFT_AT: u32 = field::END as u32;
+const LEFT_AT: u8 = field::END as u8;
 
 // A timing in numbers: its code; ticks, day, month and year of a clock; the ticks of a net value. What a kind does not use is 0.
 #[repr(C)]
@@ -43,7 +43,7 @@ pub struct ReplyRecord {
     pub spare: [u8; 2],
 }
 
-// The record is all zero if the frame was refused.
+// The record is all zero if the frame was refused: C has neither Result nor generic structs.
 #[repr(C)]
 #[derive(Clone, Copy)]
 pub struct ReplyAnswer {
@@ -57,18 +57,15 @@ pub struct ReplyAnswer {
 pub extern "C" fn rei2_read_reply(frame: &[u8]) -> ReplyAnswer
     ensures { result ≡ reply_answer (read reply frame.now) }
 {
-    let read = read_reply(frame);
-    let verdict = read.verdict;
-    let record = read.reply;
-    match verdict {
-        ReadVerdict::Read => ReplyAnswer {
+    match read_reply(frame) {
+        Ok(record) => ReplyAnswer {
             refusal: 0,
             offset: 0,
             spoiled: 0,
             reply: shown(record),
         },
-        ReadVerdict::Refused(refusal) => {
-            let said = of_reading(refusal);
+        Err(why) => {
+            let said = Refusal::from(why);
             ReplyAnswer {
                 refusal: said.number,
                 offset: said.offset,
@@ -86,7 +83,7 @@ pub extern "C" fn rei2_write_reply(record: ReplyRecord, out: &mut [u8]) -> Writt
     let timing = record.timing;
     let left = left_over(timing);
     let room = room_in(left, out.len());
-    let answer = write_reply(record_of(record), &mut out[0..room]);
+    let answer = write_reply(record_of(record), &mut out[..room]);
     or_left(left, written(answer, REPLY_SIZE))
 }
 
@@ -94,21 +91,14 @@ pub extern "C" fn rei2_write_reply(record: ReplyRecord, out: &mut [u8]) -> Writt
 fn room_in(left: bool, size: usize) -> usize
     ensures { result ≡ room_in left size }
 {
-    if left {
-        return 0;
-    }
-    size
+    if left { 0 } else { size }
 }
 
 fn or_left(left: bool, answer: WrittenAnswer) -> WrittenAnswer
     ensures { result ≡ or_left left answer }
 {
     if left & (answer.refusal == table::ROOM) {
-        return WrittenAnswer {
-            refusal: table::RECORD,
-            offset: LEFT_AT,
-            size: 0,
-        };
+        return not_written(placed(table::RECORD, LEFT_AT));
     }
     answer
 }
@@ -188,25 +178,21 @@ fn numbers_of(timing: Timing) -> TimingNumbers
 fn timing_of(n: TimingNumbers) -> Timing
     ensures { result ≡ timing_of n }
 {
-    if n.kind == RAW {
-        return Timing::Raw;
-    }
-    if n.kind == CLOCK {
-        return Timing::Clock {
+    match n.kind {
+        RAW => Timing::Raw,
+        CLOCK => Timing::Clock {
             ticks: n.ticks,
             day: n.day,
             month: n.month,
             year: n.year,
-        };
-    }
-    if n.kind == NET {
-        return Timing::Net(n.net);
-    }
-    Timing::Clock {
-        ticks: u32::MAX,
-        day: 0,
-        month: 0,
-        year: 0,
+        },
+        NET => Timing::Net(n.net),
+        _ => Timing::Clock {
+            ticks: u32::MAX,
+            day: 0,
+            month: 0,
+            year: 0,
+        },
     }
 }
 
@@ -216,13 +202,11 @@ fn left_over(n: TimingNumbers) -> bool
 {
     let nothing = is_nothing(n.net);
     let dateless = no_date(n);
-    if n.kind == CLOCK {
-        return !nothing;
+    match n.kind {
+        CLOCK => !nothing,
+        NET => !dateless,
+        _ => !(nothing & dateless),
     }
-    if n.kind == NET {
-        return !dateless;
-    }
-    !(nothing & dateless)
 }
 
 fn is_nothing(v: i64) -> bool

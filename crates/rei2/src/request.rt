@@ -4,11 +4,13 @@ ghost use Rattle.frames.specs.Kind.{read};
 ghost use Rattle.frames.specs.Request.{request};
 ghost use Rattle.frames.specs.Refusals.{write_told};
 ghost use Rattle.rei2.specs.Frames.{request_answer, zero_request, written_answer, WroteLent};
+ghost use Rattle.rei2.specs.inside.Left.{not_written};
 
-use frames::refusals::{WriteAnswer, of_reading, of_writing};
-use frames::request::{REQUEST_SIZE, RequestRead, StaticRequest, read_request, write_request};
+use digits::refusal::Refusal;
+use frames::refusals::WriteRefusal;
+use frames::request::{REQUEST_SIZE, StaticRequest, read_request, write_request};
 
-// The record is all zero if the frame was refused.
+// The record is all zero if the frame was refused: C has neither Result nor generic structs, so each call has an answer of its own.
 #[repr(C)]
 #[derive(Clone, Copy)]
 pub struct RequestAnswer {
@@ -33,7 +35,7 @@ pub extern "C" fn rei2_read_request(frame: &[u8]) -> RequestAnswer
 {
     match read_request(frame) {
         // Copied part by part: a copy of the whole record would have to wait until its parts are stored.
-        RequestRead::Request(r) => RequestAnswer {
+        Ok(r) => RequestAnswer {
             refusal: 0,
             offset: 0,
             spoiled: 0,
@@ -49,8 +51,8 @@ pub extern "C" fn rei2_read_request(frame: &[u8]) -> RequestAnswer
                 output: r.output,
             },
         },
-        RequestRead::Refused(refusal) => {
-            let said = of_reading(refusal);
+        Err(why) => {
+            let said = Refusal::from(why);
             RequestAnswer {
                 refusal: said.number,
                 offset: said.offset,
@@ -69,23 +71,26 @@ pub extern "C" fn rei2_write_request(record: StaticRequest, out: &mut [u8]) -> W
     written(answer, REQUEST_SIZE)
 }
 
-pub(crate) fn written(answer: WriteAnswer, size: usize) -> WrittenAnswer
+pub(crate) fn written(answer: Result<(), WriteRefusal>, size: usize) -> WrittenAnswer
     ensures { result ≡ written_answer size (write_told answer) }
 {
     match answer {
-        WriteAnswer::Written => WrittenAnswer {
+        Ok(()) => WrittenAnswer {
             refusal: 0,
             offset: 0,
             size,
         },
-        WriteAnswer::Refused(refusal) => {
-            let said = of_writing(refusal);
-            WrittenAnswer {
-                refusal: said.number,
-                offset: said.offset,
-                size: 0,
-            }
-        }
+        Err(why) => not_written(Refusal::from(why)),
+    }
+}
+
+pub(crate) fn not_written(why: Refusal) -> WrittenAnswer
+    ensures { result ≡ not_written why }
+{
+    WrittenAnswer {
+        refusal: why.number,
+        offset: why.offset,
+        size: 0,
     }
 }
 

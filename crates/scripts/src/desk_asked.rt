@@ -1,182 +1,139 @@
-// Cases that call the desk of the scripts.
-use crate::desk_told::{Said, done_with, opening_said, reply_said};
-use crate::memory::{MOST_BYTES, MOST_MARKS, changed_bytes, changed_marks, copy_marks, mark_at};
-use crate::script::{Script, with};
-use crate::tally_asked;
-use desk::held::{Held, next_held};
-use desk::limits::SEATS;
-use desk::opening::open;
-use desk::reply::reply;
-use desk::state::{Desk, Seat, reset, seats_in_use};
-use digits::put_bytes;
-use frames::reply::{LETTERS, STATUSES};
-use spelling::told::print_told;
-use spelling::{line, print};
+// Cases that call the desk of the scripts or set a part of it.
+use crate::script::Script;
+use crate::tally_asked::{looking, looking_at_all};
+use desk::held::next_held;
+use desk::state::{Seat, seats_in_use};
+use digits::refusal::Refusal;
+use frames::reply::STATUSES;
+use spelling::line::Words;
+use spelling::print::{Bytes, Numbers};
 use std::io::{self, Write};
 
-// Cells, marks and tally are lent to an opening only to be read: only state and seats can differ.
-pub fn opening<W: Write>(
-    to: &mut W,
-    script: Script,
-    s: &[u8],
-    cells: &[u8],
-    marks: &[u32],
-    tally: &[[u32; STATUSES]; LETTERS],
-) -> io::Result<Script> {
-    let mut frame = [0u8; 100];
-    let n = line::bytes(s, 1, &mut frame);
-    let row = script.row;
-    let a = open(script.desk, row, cells, marks, tally, &frame[0..n]);
-    let answer = a.answer;
-    let desk_after = a.desk;
-    let row_after = a.row;
-    print_said(to, opening_said(answer), desk_after)?;
-    print_seats(to, row, row_after)?;
-    print::end_line(to)?;
-    Ok(with(script, desk_after, row_after))
-}
-
-// Cells and marks are not lent to a reset.
-pub fn resetting<W: Write>(
-    to: &mut W,
-    script: Script,
-    tally: &mut [[u32; STATUSES]; LETTERS],
-) -> io::Result<Script> {
-    let row = script.row;
-    let tally_before = *tally;
-    let a = reset(tally);
-    let desk_after = a.desk;
-    let row_after = a.row;
-    print_said(to, done_with(0), desk_after)?;
-    print_seats(to, row, row_after)?;
-    tally_asked::print_changes(to, tally_before, tally)?;
-    print::end_line(to)?;
-    Ok(with(script, desk_after, row_after))
-}
-
-pub fn replying<W: Write>(
-    to: &mut W,
-    script: Script,
-    s: &[u8],
-    cells: &mut [u8],
-    marks: &mut [u32],
-    tally: &mut [[u32; STATUSES]; LETTERS],
-) -> io::Result<Script> {
-    let mut frame = [0u8; 100];
-    let n = line::bytes(s, 1, &mut frame);
-    let mut cells_before = [0u8; MOST_BYTES];
-    put_bytes(&mut cells_before, 0, cells);
-    let mut marks_before = [0u32; MOST_MARKS];
-    copy_marks(&mut marks_before, marks);
-    let tally_before = *tally;
-    let row = script.row;
-    let a = reply(script.desk, row, cells, marks, tally, &frame[0..n]);
-    let answer = a.answer;
-    let desk_after = a.desk;
-    let row_after = a.row;
-    print_said(to, reply_said(answer), desk_after)?;
-    print_seats(to, row, row_after)?;
-    print_cells(to, &cells_before, cells)?;
-    print_marks(to, &marks_before, marks)?;
-    tally_asked::print_changes(to, tally_before, tally)?;
-    print::end_line(to)?;
-    Ok(with(script, desk_after, row_after))
-}
-
-fn print_said<W: Write>(to: &mut W, said: Said, desk: Desk) -> io::Result<()> {
-    print_told(to, said.told)?;
-    print::space(to)?;
-    print::decimal(to, said.seat as u64)?;
-    print::space(to)?;
-    print::pair(to, desk.bits, desk.count as u64)
-}
-
-fn print_seats<W: Write>(to: &mut W, before: [Seat; SEATS], row: [Seat; SEATS]) -> io::Result<()> {
-    let mut i: usize = 0;
-    while i < SEATS {
-        print_seat(to, i, before[i], row[i])?;
-        i += 1;
-    }
-    Ok(())
-}
-
-fn print_seat<W: Write>(to: &mut W, i: usize, before: Seat, seat: Seat) -> io::Result<()> {
-    if same_seat(before, seat) {
-        return Ok(());
-    }
-    print::text(to, b" seat ")?;
-    print::decimal(to, i as u64)?;
-    print::also(to, seat.address)?;
-    print::also(to, seat.requester)?;
-    print::also(to, seat.number)?;
-    print::also(to, seat.held)?;
-    print::also(to, seat.ended)
-}
-
-fn same_seat(a: Seat, b: Seat) -> bool {
-    (a.address == b.address)
-        & (a.requester == b.requester)
-        & (a.number == b.number)
-        & (a.held == b.held)
-        & (a.ended == b.ended)
-}
-
-fn print_cells<W: Write>(to: &mut W, before: &[u8], cells: &[u8]) -> io::Result<()> {
-    let span = changed_bytes(before, cells);
-    let start = span.start;
-    let end = span.end;
-    if start < end {
-        if end <= cells.len() {
-            print::text(to, b" cells ")?;
-            print::decimal(to, start as u64)?;
-            print::also_bytes(to, &cells[start..end])?;
+impl Script {
+    // The word is the line's first.
+    pub fn answer<W: Write>(
+        &mut self,
+        to: &mut W,
+        word: &[u8],
+        s: &mut Words<'_>,
+    ) -> io::Result<()> {
+        match word {
+            b"open" => self.opening(to, s),
+            b"reply" => self.replying(to, s),
+            b"reset" => self.resetting(to),
+            b"used" => writeln!(to, "{}", seats_in_use(self.desk)),
+            b"held" => self.holding(to, s),
+            b"look" => looking(to, s, &self.tally),
+            b"looks" => looking_at_all(to, &self.tally),
+            _ => self.setting(to, word, s),
         }
     }
-    Ok(())
-}
 
-fn print_marks<W: Write>(to: &mut W, before: &[u32], marks: &[u32]) -> io::Result<()> {
-    let span = changed_marks(before, marks);
-    let start = span.start;
-    let end = span.end;
-    if start < end {
-        if end <= marks.len() {
-            print::text(to, b" marks ")?;
-            print::decimal(to, start as u64)?;
-            also_marks(to, &marks[start..end])?;
+    fn setting<W: Write>(&mut self, to: &mut W, word: &[u8], s: &mut Words<'_>) -> io::Result<()> {
+        match word {
+            b"bits" => self.desk.bits = s.number(),
+            b"count" => self.desk.count = s.small(),
+            b"seat" => self.set_seat(s),
+            b"mark" => self.set_mark(s),
+            b"cell" => self.set_cell(s),
+            b"tally" => self.set_tally(s),
+            _ => return writeln!(to, "no such case"),
+        }
+        writeln!(to, "set")
+    }
+
+    fn opening<W: Write>(&mut self, to: &mut W, s: &mut Words<'_>) -> io::Result<()> {
+        let mut frame = [0u8; 100];
+        let before = self.clone()?;
+        let answer = said(self.open(s.bytes(&mut frame)));
+        self.print_answer(to, answer, &before)
+    }
+
+    fn replying<W: Write>(&mut self, to: &mut W, s: &mut Words<'_>) -> io::Result<()> {
+        let mut frame = [0u8; 100];
+        let before = self.clone()?;
+        let answer = said(self.reply(s.bytes(&mut frame)));
+        self.print_answer(to, answer, &before)
+    }
+
+    fn resetting<W: Write>(&mut self, to: &mut W) -> io::Result<()> {
+        let before = self.clone()?;
+        self.reset();
+        self.print_answer(to, [0; 4], &before)
+    }
+
+    fn holding<W: Write>(&self, to: &mut W, s: &mut Words<'_>) -> io::Result<()> {
+        let seat = s.small();
+        let from = s.small() as usize;
+        match next_held(self.desk, &self.cells, &self.marks, seat, from) {
+            Some(i) => writeln!(to, "{i}"),
+            None => writeln!(to, "none"),
         }
     }
-    Ok(())
-}
 
-fn also_marks<W: Write>(to: &mut W, marks: &[u32]) -> io::Result<()> {
-    let mut i = 0;
-    while i < marks.len() {
-        print::also(to, mark_at(marks, i))?;
-        i += 1;
+    // The line of a call: the answer, the state, and all that is no longer as it was before.
+    fn print_answer<W: Write>(
+        &self,
+        to: &mut W,
+        answer: [u32; 4],
+        before: &Script,
+    ) -> io::Result<()> {
+        let [number, offset, spoiled, seat] = answer;
+        write!(to, "{number} {offset} {spoiled} {seat}")?;
+        write!(to, " {} {}", self.desk.bits, self.desk.count)?;
+        self.print_seats(to, before)?;
+        if let Some((start, cells)) = changed(&before.cells, &self.cells) {
+            write!(to, " cells {start} {}", Bytes(cells))?;
+        }
+        if let Some((start, marks)) = changed(&before.marks, &self.marks) {
+            write!(to, " marks {start}{}", Numbers(marks))?;
+        }
+        self.print_tally(to, before)?;
+        writeln!(to)
     }
-    Ok(())
-}
 
-pub fn used<W: Write>(to: &mut W, script: Script) -> io::Result<Script> {
-    print::decimal(to, seats_in_use(script.desk) as u64)?;
-    print::end_line(to)?;
-    Ok(script)
-}
-
-pub fn holding<W: Write>(
-    to: &mut W,
-    script: Script,
-    s: &[u8],
-    cells: &[u8],
-    marks: &[u32],
-) -> io::Result<Script> {
-    let seat = line::small(s, 1);
-    let from = line::small(s, 2) as usize;
-    match next_held(script.desk, cells, marks, seat, from) {
-        Held::Cell(i) => print::decimal(to, i as u64)?,
-        Held::Nothing => print::text(to, b"none")?,
+    fn print_seats<W: Write>(&self, to: &mut W, before: &Script) -> io::Result<()> {
+        for (i, (was, seat)) in before.row.iter().zip(&self.row).enumerate() {
+            if was != seat {
+                write!(to, " seat {i}{}", Numbers(&numbers_of(*seat)))?;
+            }
+        }
+        Ok(())
     }
-    print::end_line(to)?;
-    Ok(script)
+
+    fn print_tally<W: Write>(&self, to: &mut W, before: &Script) -> io::Result<()> {
+        let was = before.tally.as_flattened();
+        for (i, (was, n)) in was.iter().zip(self.tally.as_flattened()).enumerate() {
+            if was != n {
+                write!(to, " tally {} {} {n}", i / STATUSES, i % STATUSES)?;
+            }
+        }
+        Ok(())
+    }
+}
+
+// The refusal's three numbers, 0 if there is none, and the number that the call returns, 0 if refused.
+pub fn said<E: Into<Refusal>>(answer: Result<u32, E>) -> [u32; 4] {
+    let (told, n) = match answer {
+        Ok(n) => (Refusal::default(), n),
+        Err(refusal) => (refusal.into(), 0),
+    };
+    [told.number, told.offset, told.spoiled, n]
+}
+
+pub fn numbers_of(seat: Seat) -> [u32; 5] {
+    [
+        seat.address,
+        seat.requester,
+        seat.number,
+        seat.held,
+        seat.ended,
+    ]
+}
+
+// The items from the first that differs to the last, and the place of the first.
+fn changed<'a, T: PartialEq>(before: &[T], after: &'a [T]) -> Option<(usize, &'a [T])> {
+    let start = before.iter().zip(after).position(|(a, b)| a != b)?;
+    let last = before.iter().zip(after).rposition(|(a, b)| a != b)?;
+    Some((start, after.get(start..=last)?))
 }

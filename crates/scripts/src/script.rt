@@ -1,143 +1,111 @@
-// The desk of the scripts, which is kept from line to line: what it is at first, and how a script sets its parts.
-use crate::memory::{FRESH_BYTE, FRESH_MARK, fill_bytes, fill_marks, put_mark};
+// The desk of the scripts, which is kept from line to line, with the memory that is lent to it.
+use desk::done::Done;
 use desk::limits::SEATS;
-use desk::state::{Desk, Seat, capacity};
-use digits::put_bytes;
+use desk::opening::{OpenRefusal, open};
+use desk::reply::{ReplyRefusal, reply};
+use desk::state::{Desk, Emptied, Seat, reset};
+use digits::put_all;
 use frames::reply::{LETTERS, STATUSES};
-use spelling::{line, print};
-use std::io::{self, Write};
+use spelling::line::Words;
+use std::alloc::{AllocError, Global};
 
-#[derive(Clone, Copy)]
+// What lent memory holds before a script sets it.
+const FRESH_BYTE: u8 = 238;
+
+const FRESH_MARK: u32 = 4_008_636_142;
+
+#[derive(Clone, Drop)]
 pub struct Script {
     pub desk: Desk,
     pub row: [Seat; SEATS],
-    // How many bytes and how many marks are lent.
-    pub cell_bytes: usize,
-    pub mark_count: usize,
+    pub cells: Vec<u8>,
+    pub marks: Vec<u32>,
+    pub tally: [[u32; STATUSES]; LETTERS],
 }
 
-// All zero, except for how much is lent.
-pub fn empty(cell_bytes: usize, mark_count: usize) -> Script {
-    let zero = Seat {
-        address: 0,
-        requester: 0,
-        number: 0,
-        held: 0,
-        ended: 0,
-    };
-    Script {
-        desk: Desk { bits: 0, count: 0 },
-        row: [zero; SEATS],
-        cell_bytes,
-        mark_count,
+impl Script {
+    // So much fresh memory is lent. All else is zero.
+    pub fn new(alloc: Global, cells: usize, marks: usize) -> Result<Self, AllocError> {
+        Ok(Script {
+            desk: Desk::default(),
+            row: [Seat::default(); SEATS],
+            cells: vec![in alloc; FRESH_BYTE; cells]?,
+            marks: vec![in alloc; FRESH_MARK; marks]?,
+            tally: [[0; STATUSES]; LETTERS],
+        })
     }
-}
 
-pub fn lend(
-    cell_bytes: usize,
-    mark_count: usize,
-    cells: &mut [u8],
-    marks: &mut [u32],
-    tally: &mut [[u32; STATUSES]; LETTERS],
-) -> Script {
-    fill_bytes(cells, FRESH_BYTE);
-    fill_marks(marks, FRESH_MARK);
-    *tally = [[0u32; STATUSES]; LETTERS];
-    empty(cell_bytes, mark_count)
-}
-
-pub fn lending<W: Write>(
-    to: &mut W,
-    s: &[u8],
-    cells: &mut [u8],
-    marks: &mut [u32],
-    tally: &mut [[u32; STATUSES]; LETTERS],
-) -> io::Result<Script> {
-    let cell_bytes = line::small(s, 1) as usize;
-    let mark_count = line::small(s, 2) as usize;
-    print::decimal(to, capacity(cell_bytes, mark_count) as u64)?;
-    print::end_line(to)?;
-    Ok(lend(cell_bytes, mark_count, cells, marks, tally))
-}
-
-// The same memory with another state and other seats.
-pub fn with(script: Script, desk: Desk, row: [Seat; SEATS]) -> Script {
-    Script {
-        desk,
-        row,
-        cell_bytes: script.cell_bytes,
-        mark_count: script.mark_count,
+    pub fn open(&mut self, frame: &[u8]) -> Result<u32, OpenRefusal> {
+        let done = open(
+            self.desk,
+            self.row,
+            &self.cells,
+            &self.marks,
+            &self.tally,
+            frame,
+        );
+        self.kept(done)
     }
-}
 
-pub fn setting_bits<W: Write>(to: &mut W, script: Script, s: &[u8]) -> io::Result<Script> {
-    print::text(to, b"set\n")?;
-    let desk = script.desk;
-    let row = script.row;
-    let changed = Desk {
-        bits: line::number(s, 1),
-        count: desk.count,
-    };
-    Ok(with(script, changed, row))
-}
-
-pub fn setting_count<W: Write>(to: &mut W, script: Script, s: &[u8]) -> io::Result<Script> {
-    print::text(to, b"set\n")?;
-    let desk = script.desk;
-    let row = script.row;
-    let changed = Desk {
-        bits: desk.bits,
-        count: line::small(s, 1),
-    };
-    Ok(with(script, changed, row))
-}
-
-pub fn setting_seat<W: Write>(to: &mut W, script: Script, s: &[u8]) -> io::Result<Script> {
-    print::text(to, b"set\n")?;
-    let seat = Seat {
-        address: line::small(s, 2),
-        requester: line::small(s, 3),
-        number: line::small(s, 4),
-        held: line::small(s, 5),
-        ended: line::small(s, 6),
-    };
-    let row = script.row;
-    Ok(with(
-        script,
-        script.desk,
-        put_seat(row, line::small(s, 1) as usize, seat),
-    ))
-}
-
-fn put_seat(row: [Seat; SEATS], i: usize, seat: Seat) -> [Seat; SEATS] {
-    if i < SEATS {
-        let mut after = row;
-        after[i] = seat;
-        return after;
+    pub fn reply(&mut self, frame: &[u8]) -> Result<u32, ReplyRefusal> {
+        let done = reply(
+            self.desk,
+            self.row,
+            &mut self.cells,
+            &mut self.marks,
+            &mut self.tally,
+            frame,
+        );
+        self.kept(done)
     }
-    row
-}
 
-pub fn setting_mark<W: Write>(
-    to: &mut W,
-    script: Script,
-    s: &[u8],
-    marks: &mut [u32],
-) -> io::Result<Script> {
-    print::text(to, b"set\n")?;
-    put_mark(marks, line::small(s, 1) as usize, line::small(s, 2));
-    Ok(script)
-}
+    pub fn reset(&mut self) {
+        let Emptied { desk, row } = reset(&mut self.tally);
+        self.desk = desk;
+        self.row = row;
+    }
 
-pub fn setting_cell<W: Write>(
-    to: &mut W,
-    script: Script,
-    s: &[u8],
-    cells: &mut [u8],
-) -> io::Result<Script> {
-    print::text(to, b"set\n")?;
-    let mut b = [0u8; 100];
-    let n = line::bytes(s, 2, &mut b);
-    put_bytes(cells, line::small(s, 1) as usize, &b[0..n]);
-    Ok(script)
+    // Keeps the state and the row that a call leaves, and returns its answer.
+    fn kept<A>(&mut self, done: Done<A>) -> A {
+        let Done { answer, desk, row } = done;
+        self.desk = desk;
+        self.row = row;
+        answer
+    }
+
+    pub fn set_mark(&mut self, s: &mut Words<'_>) {
+        let at = s.small() as usize;
+        if let Some(mark) = self.marks.get_mut(at) {
+            *mark = s.small();
+        }
+    }
+
+    pub fn set_cell(&mut self, s: &mut Words<'_>) {
+        let at = s.small() as usize;
+        let mut b = [0u8; 100];
+        put_all(&mut self.cells, at, s.bytes(&mut b));
+    }
+
+    pub fn set_seat(&mut self, s: &mut Words<'_>) {
+        let at = s.small() as usize;
+        if let Some(seat) = self.row.get_mut(at) {
+            *seat = Seat {
+                address: s.small(),
+                requester: s.small(),
+                number: s.small(),
+                held: s.small(),
+                ended: s.small(),
+            };
+        }
+    }
+
+    pub fn set_tally(&mut self, s: &mut Words<'_>) {
+        let row = s.small() as usize;
+        let column = s.small() as usize;
+        if let Some(row) = self.tally.get_mut(row) {
+            if let Some(n) = row.get_mut(column) {
+                *n = s.small();
+            }
+        }
+    }
 }

@@ -3,4 +3,3 @@
 
 pub mod line;
 pub mod print;
-pub mod told;

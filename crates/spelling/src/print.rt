@@ -1,50 +1,74 @@
-// Answers, to the writer that they are given.
-use digits::byte_at;
-use std::io::{self, Write};
-
-pub fn text<W: Write>(to: &mut W, t: &[u8]) -> io::Result<()> {
-    to.write_all(t)
-}
-
-pub fn space<W: Write>(to: &mut W) -> io::Result<()> {
-    text(to, b" ")
-}
-
-pub fn end_line<W: Write>(to: &mut W) -> io::Result<()> {
-    text(to, b"\n")
-}
-
-pub fn decimal<W: Write>(to: &mut W, n: u64) -> io::Result<()> {
-    write!(to, "{n}")
-}
-
-pub fn pair<W: Write>(to: &mut W, a: u64, b: u64) -> io::Result<()> {
-    decimal(to, a)?;
-    space(to)?;
-    decimal(to, b)
-}
-
-// A space, and then a number or bytes.
-pub fn also<W: Write>(to: &mut W, n: u32) -> io::Result<()> {
-    space(to)?;
-    decimal(to, n as u64)
-}
-
-pub fn also_bytes<W: Write>(to: &mut W, s: &[u8]) -> io::Result<()> {
-    space(to)?;
-    bytes(to, s)
-}
+// How answers are spelled.
+use digits::refusal::Refusal;
+use std::fmt;
 
 // Two hex digits for each byte, or a dash if there are no bytes.
-pub fn bytes<W: Write>(to: &mut W, s: &[u8]) -> io::Result<()> {
-    if s.len() == 0 {
-        return text(to, b"-");
+#[derive(Clone, Copy)]
+pub struct Bytes<'a>(pub &'a [u8]);
+
+impl fmt::Display for Bytes<'_> {
+    fn fmt<W: fmt::Write>(&self, f: &mut fmt::Formatter<W>) -> fmt::Result {
+        if self.0.is_empty() {
+            return write!(f, "-");
+        }
+        for b in self.0 {
+            write!(f, "{b:02x}")?;
+        }
+        Ok(())
     }
-    let mut i = 0;
-    while i < s.len() {
-        let b = byte_at(s, i);
-        write!(to, "{b:02x}")?;
-        i += 1;
+}
+
+// A space before each number.
+#[derive(Clone, Copy)]
+pub struct Numbers<'a>(pub &'a [u32]);
+
+impl fmt::Display for Numbers<'_> {
+    fn fmt<W: fmt::Write>(&self, f: &mut fmt::Formatter<W>) -> fmt::Result {
+        for n in self.0 {
+            write!(f, " {n}")?;
+        }
+        Ok(())
     }
-    Ok(())
+}
+
+// The runs of neighbours that are equal: a space, how many there are, a star, and the answer.
+#[derive(Drop)]
+pub struct Runs<'a, T>(pub &'a [T]);
+
+impl<T: PartialEq + fmt::Display> fmt::Display for Runs<'_, T> {
+    fn fmt<W: fmt::Write>(&self, f: &mut fmt::Formatter<W>) -> fmt::Result {
+        for run in self.0.chunk_by(|a, b| a == b) {
+            if let [answer, ..] = run {
+                write!(f, " {}*{answer}", run.len())?;
+            }
+        }
+        Ok(())
+    }
+}
+
+// The three numbers of a refusal; the default is none.
+#[derive(Clone, Copy)]
+pub struct Told(pub Refusal);
+
+impl fmt::Display for Told {
+    fn fmt<W: fmt::Write>(&self, f: &mut fmt::Formatter<W>) -> fmt::Result {
+        let t = self.0;
+        write!(f, "{} {} {}", t.number, t.offset, t.spoiled)
+    }
+}
+
+// Numbers with a dot between them.
+#[derive(Clone, Copy, PartialEq)]
+pub struct Dotted<const N: usize>(pub [u32; N]);
+
+impl<const N: usize> fmt::Display for Dotted<N> {
+    fn fmt<W: fmt::Write>(&self, f: &mut fmt::Formatter<W>) -> fmt::Result {
+        for (i, n) in self.0.iter().enumerate() {
+            if i > 0 {
+                write!(f, ".")?;
+            }
+            write!(f, "{n}")?;
+        }
+        Ok(())
+    }
 }

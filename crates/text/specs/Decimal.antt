@@ -1,6 +1,5 @@
 -- Numbers in decimal, without leading zeros.
-use Rattle.std.specs.Prelude.{ℕ, zero, suc, ◌/◌, ◌^◌, ◌≤◌, ◌<◌, List, [], ◌∷◌, cond, ◌≡◌, ltb, length, get_or}
-use Rattle.digits.specs.declared.Number.TheVariants.{Is}
+use Rattle.std.specs.Prelude.{ℕ, zero, suc, ◌/◌, ◌^◌, ◌≤◌, ◌<◌, List, [], ◌∷◌, cond, ◌≡◌, ltb, length, get_or, Some}
 use Rattle.digits.specs.Digits.{digits, number_from}
 
 -- how many digits a number has, given that it has at most k + 1
@@ -18,7 +17,7 @@ decimal n = digits (width n) n
 -- a number is shown whole: there is at least one digit, the digits read as the number, and only the number 0 begins with 0
 pub record Whole (n : ℕ) : Type 0 where
   pub some : 1 ≤ length (decimal n)
-  pub reads : number_from (decimal n) 0 (length (decimal n)) 0 ≡ Is n
+  pub reads : number_from (decimal n) 0 (length (decimal n)) 0 ≡ Some n
   pub plain : get_or (decimal n) 0 0 ≡ 48 → decimal n ≡ 48 ∷ []
 
 -- every number of at most twenty digits is shown whole

@@ -1,5 +1,6 @@
 // Puts bytes one after the other on an output. A call takes output, place and what to put, and returns the place after it.
 // Bytes that have no room are dropped but still counted. So the same calls can measure a text.
+// Output and place stay two parameters: a struct that held both would need one more clause for each call, that it still holds the same output.
 #![tactic(auto)]
 
 ghost use Rattle.std.specs.Prelude.{◌≡◌, [], ◌∷◌};
@@ -7,7 +8,7 @@ ghost use Rattle.text.specs.Put.{place_after, Put};
 ghost use Rattle.text.specs.Decimal.{width, decimal};
 ghost use Rattle.text.specs.Address.{address_shown};
 
-use digits::{put_byte, put_bytes, put_number};
+use digits::{put_all, put_byte, put_number};
 
 pub const TAB: u8 = 9;
 
@@ -16,7 +17,7 @@ pub const LF: u8 = 10;
 pub fn put_text(out: &mut [u8], at: usize, text: &[u8]) -> usize
     ensures { Put out.old at text.now result out.new }
 {
-    put_bytes(out, at, text);
+    put_all(out, at, text);
     place_after(at, text.len())
 }
 
@@ -36,14 +37,14 @@ pub fn put_decimal(out: &mut [u8], at: usize, n: u64) -> usize
     place_after(at, w)
 }
 
-// How many digits a number has.
+// How many digits a number has. The loop counts no index: it ends when no digit is left.
 pub fn width_of(n: u64) -> usize
     ensures { result ≡ width n }
 {
     let mut m = n;
-    let mut w: usize = 1;
+    let mut w = 1;
     while 9 < m {
-        m = m / 10;
+        m /= 10;
         w += 1;
     }
     w
@@ -53,11 +54,7 @@ pub fn width_of(n: u64) -> usize
 pub fn place_after(at: usize, n: usize) -> usize
     ensures { result ≡ place_after at n }
 {
-    if n < usize::MAX - at {
-        at + n
-    } else {
-        usize::MAX
-    }
+    at.saturating_add(n)
 }
 
 // An address that is a space is shown as a minus sign.

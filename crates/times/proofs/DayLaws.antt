@@ -1,10 +1,11 @@
 -- What is known of a real day. Assumes nothing.
-use Prim.Native.Nat.{ℕ, ◌≤◌}
+use Prim.Native.Nat.{ℕ, ◌≤◌, ◌<◌}
+use mathlib.Core.Logic.{◌⊎◌, inl, inr}
 use mathlib.Core.Path.{◌≡◌, refl}
 use mathlib.Core.Bool.{Bool, true, false, cond, ◌&&◌, ◌||◌, and-eq-true_iff}
 use native.Mathlib.Omega.{arith}
 use lib.Dec.{leb, eqb}
-use borrow.Author.Tests.{leb-true}
+use borrow.Author.Tests.{leb-true, le-leb, lt-leb}
 use Rattle.times.specs.Day.{leap, month_length, real_day, CalendarWorked}
 
 -- no month is longer than 31 days
@@ -17,6 +18,22 @@ month_most m y = by_cases (eqb m 2) (leap y) (eqb m 4 || eqb m 6 || eqb m 9 || e
     by_cases true false c = omega arith
     by_cases false b true = omega arith
     by_cases false b false = omega arith
+
+-- the months of 30 days
+pub thirty : (m y : ℕ) → (m ≡ 4) ⊎ ((m ≡ 6) ⊎ ((m ≡ 9) ⊎ (m ≡ 11))) → 30 ≡ month_length m y
+unfolding month_length
+thirty m y (inl e) = rw e
+thirty m y (inr (inl e)) = rw e
+thirty m y (inr (inr (inl e))) = rw e
+thirty m y (inr (inr (inr e))) = rw e
+
+-- what is left out by year and month
+pub no_day : (d m y : ℕ) → (y < 2000) ⊎ (((2000 ≤ y) × (2099 < y)) ⊎ (((2000 ≤ y) × (y ≤ 2099) × (m < 1)) ⊎ ((2000 ≤ y) × (y ≤ 2099) × (1 ≤ m) × (12 < m)))) → false ≡ real_day d m y
+unfolding real_day
+no_day d m y (inl e) = rw (lt-leb 2000 y e)
+no_day d m y (inr (inl e)) = rw (le-leb 2000 y e.0, lt-leb y 2099 e.1)
+no_day d m y (inr (inr (inl e))) = rw (le-leb 2000 y e.0, le-leb y 2099 e.1, lt-leb 1 m e.2)
+no_day d m y (inr (inr (inr e))) = rw (le-leb 2000 y e.0, le-leb y 2099 e.1, le-leb 1 m e.2, lt-leb m 12 e.3)
 
 -- the highest day and month, and the least and the highest year
 pub record Bounds (d m y : ℕ) : Type 0 where

@@ -8,7 +8,7 @@ use lib.IntN.{ℤ, pos, negsuc, neg_ℤ, nat_abs, sub_ℕ}
 use borrow.Author.Tests.{leb-true, le-leb, lt-leb, ne_eqb, not-true}
 use Rattle.digits.proofs.Tests.{by_less}
 use Rattle.times.specs.declared.net.NetParts.{NetParts}
-use Rattle.times.specs.declared.net.NetValue.TheVariants.{Is, Wrong as no_value}
+use Rattle.std.specs.Prelude.{Some, None}
 use Rattle.times.specs.Clock.{a_day, last_tick}
 use Rattle.times.specs.Net.{is_below, is_net, net_sum, net_value, net_parts, NetInverse, NetRange, parts, NetWorked}
 use Rattle.times.proofs.SignedLaws.{sub_none, neg_sub}
@@ -33,18 +33,18 @@ parts_of_sum false d t h q = ap₂ (λ (x y : ℕ). parts false x y) (omega arit
 -- ---- `net_value`
 
 module _ (p : NetParts) where
-  pub value_wrong : is_net p ≡ false → no_value ≡ net_value p
+  pub value_wrong : is_net p ≡ false → None ≡ net_value p
   unfolding net_value
   value_wrong e = rw e
 
   module _ (good : is_net p ≡ true) (z : ℤ) where
-    pub value_minus : p.minus ≡ true → z ≡ sub_ℕ 0 (p.days * a_day + p.time) → Is z ≡ net_value p
+    pub value_minus : p.minus ≡ true → z ≡ sub_ℕ 0 (p.days * a_day + p.time) → Some z ≡ net_value p
     unfolding net_value
-    value_minus m e = rw (good, m) (ap Is (e ∙ sym (neg_sub (p.days * a_day + p.time))))
+    value_minus m e = rw (good, m) (ap Some (e ∙ sym (neg_sub (p.days * a_day + p.time))))
 
-    pub value_plus : p.minus ≡ false → z ≡ sub_ℕ (p.days * a_day + p.time) 0 → Is z ≡ net_value p
+    pub value_plus : p.minus ≡ false → z ≡ sub_ℕ (p.days * a_day + p.time) 0 → Some z ≡ net_value p
     unfolding net_value
-    value_plus m e = rw (good, m) (ap Is (e ∙ sub_none (p.days * a_day + p.time)))
+    value_plus m e = rw (good, m) (ap Some (e ∙ sub_none (p.days * a_day + p.time)))
 
 -- ---- both ways
 

@@ -5,7 +5,8 @@ use Prim.Native.Nat.{ℕ, ◌+◌, ◌*◌}
 use lib.IntN.{ℤ, pos, neg_ℤ, sub_ℕ, ◌+ℤ◌, ◌-ℤ◌, neg_ℤ-+ℤ, neg_ℤ-neg_ℤ, +ℤ_assoc, +ℤ_comm}
 use borrow.Author.Tests.{eq-eqb, ne_eqb}
 use Rattle.digits.specs.Told.{gives}
-use Rattle.times.specs.declared.running.Running.TheVariants.{Time}
+use Rattle.std.specs.Prelude.{Err}
+use Rattle.times.specs.declared.running.RunningRefusal.TheVariants.{Time}
 use Rattle.times.specs.declared.running.RunningOf.{RunningOf}
 use Rattle.times.specs.Clock.{a_day}
 use Rattle.times.specs.Running.{in_range, running_time, running_told, RunningWorked}
@@ -22,7 +23,7 @@ take_minus n e m =
     ∙ sym (+ℤ_assoc (pos n) (pos m) (neg_ℤ (pos e))) ∙ pos_pos (n + m) e
 
 module _ (o : RunningOf) where
-  pub out_of_range : in_range o ≡ false → running_told Time ≡ running_time o
+  pub out_of_range : in_range o ≡ false → running_told (Err Time) ≡ running_time o
   unfolding running_time
   out_of_range e = rw e
 

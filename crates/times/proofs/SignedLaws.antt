@@ -11,7 +11,6 @@ use mir.Syntax.{w64}
 use mir.Val.{Fits, SFits, to_z, of_z}
 use mir.ValLaws.{to_z_pos, to_z-of_z}
 use borrow.Author.Tests.{lt-ltb, le-ltb, ltb-true}
-use Rattle.times.specs.inside.Signed.{apart_of}
 
 -- ---- differences
 
@@ -47,17 +46,17 @@ module _ (a b : ℕ) (ha : a < 2 ^ 63) (hb : b < 2 ^ 63) where
       subst (λ (z : ℤ). SFits w64 z) (sym machine_sub)
       (record { sfits = omega (arith, mag_pick (ltb a b) (negsuc (b - suc a)) (pos (a - b)) 9223372036854775807 (omega arith) (omega arith)) })
 
--- ---- `apart`: a signed number without its sign, and whether the sign is a minus
+-- ---- a signed number without its sign, as it is turned and cast
 
 not_below_zero : (n : ℕ) {X : Type 0} → ltb n 0 ≡ true → X
 not_below_zero n t = absurd (not-suc-le-zero (ltb-true n 0 t))
 
-neg_size : (v : ℤ) → lt_z v (pos 0) ≡ true → (negsuc 0 -ℤ v ≡ pos (mag v)) × (record { minus = true; size = mag v + 1 } ≡ apart_of v)
+neg_size : (v : ℤ) → lt_z v (pos 0) ≡ true → negsuc 0 -ℤ v ≡ pos (mag v)
 neg_size (pos n) t = not_below_zero n t
-neg_size (negsuc n) t = let e : n + 1 ≡ suc n = omega arith in (sub_pos (suc n) 1 n (omega arith), rw e)
+neg_size (negsuc n) t = sub_pos (suc n) 1 n (omega arith)
 
-pos_size : (v : ℤ) → lt_z v (pos 0) ≡ false → (T (non_neg v)) × (nat_abs v ≡ mag v) × (record { minus = false; size = nat_abs v } ≡ apart_of v)
-pos_size (pos n) t = (tt, refl, refl)
+pos_size : (v : ℤ) → lt_z v (pos 0) ≡ false → (T (non_neg v)) × (nat_abs v ≡ mag v)
+pos_size (pos n) t = (tt, refl)
 pos_size (negsuc n) t = absurd (subst T t tt)
 
 module _ (v : ℤ) (s : SFits w64 v) where
@@ -68,15 +67,12 @@ module _ (v : ℤ) (s : SFits w64 v) where
   mag_fits : Fits w64 (mag v)
   mag_fits = let h = s.sfits in record { fits = omega arith }
 
-  pub size_fits : Fits w64 (mag v + 1)
-  size_fits = let h = s.sfits in record { fits = omega arith }
-
   module _ (t : lt_z (to_z w64 (of_z w64 v)) (pos 0) ≡ true) where
     below_zero : lt_z v (pos 0) ≡ true
     below_zero = subst (λ (z : ℤ). lt_z z (pos 0) ≡ true) held t
 
     turned_is : negsuc 0 -ℤ to_z w64 (of_z w64 v) ≡ pos (mag v)
-    turned_is = ap (λ (z : ℤ). negsuc 0 -ℤ z) held ∙ (neg_size v below_zero).0
+    turned_is = ap (λ (z : ℤ). negsuc 0 -ℤ z) held ∙ neg_size v below_zero
 
     pub turned_fits : SFits w64 (negsuc 0 -ℤ to_z w64 (of_z w64 v))
     turned_fits = let h = s.sfits in subst (λ (z : ℤ). SFits w64 z) (sym turned_is) (record { sfits = h })
@@ -87,15 +83,9 @@ module _ (v : ℤ) (s : SFits w64 v) where
     pub neg_casts : T (non_neg (pos (mag v))) × Fits w64 (nat_abs (pos (mag v)))
     neg_casts = (tt, mag_fits)
 
-    pub neg_apart : record { minus = true; size = mag v + 1 } ≡ apart_of v
-    neg_apart = (neg_size v below_zero).1
-
   module _ (t : lt_z (to_z w64 (of_z w64 v)) (pos 0) ≡ false) where
     not_below : lt_z v (pos 0) ≡ false
     not_below = subst (λ (z : ℤ). lt_z z (pos 0) ≡ false) held t
 
     pub pos_casts : T (non_neg v) × Fits w64 (nat_abs v)
     pos_casts = let r = pos_size v not_below in (r.0, subst (λ (n : ℕ). Fits w64 n) (sym r.1) mag_fits)
-
-    pub pos_apart : record { minus = false; size = nat_abs v } ≡ apart_of v
-    pos_apart = (pos_size v not_below).2

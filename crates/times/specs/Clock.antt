@@ -1,7 +1,5 @@
 -- A time of day, HHMMSSdddd, in ticks of a ten-thousandth of a second.
-use Rattle.std.specs.Prelude.{ℕ, ◌+◌, ◌-◌, ◌*◌, ◌/◌, ◌%◌, Bool, cond, ◌&&◌, leb}
-use Rattle.digits.specs.declared.Number.{Number}
-use Rattle.digits.specs.declared.Number.TheVariants.{Is, Wrong}
+use Rattle.std.specs.Prelude.{ℕ, ◌+◌, ◌-◌, ◌*◌, ◌/◌, ◌%◌, Bool, cond, ◌&&◌, leb, Option, Some, None}
 use Rattle.digits.specs.Form.{Form, number, renamed, Inverse}
 
 -- how many ticks a day has
@@ -32,12 +30,12 @@ is_hour h = leb h 23
 abbrev pub is_sixtieth : ℕ → Bool
 is_sixtieth m = leb m 59
 
--- the ticks of the time HHMMSSdddd, or Wrong if it is no time of day
-unfoldable pub ticks_of : ℕ → Number
+-- the ticks of the time HHMMSSdddd, or None if it is no time of day
+unfoldable pub ticks_of : ℕ → Option ℕ
 ticks_of n =
     cond (is_hour (hours n) && is_sixtieth (minutes n) && is_sixtieth (seconds n))
-    (Is (((hours n * 60 + minutes n) * 60 + seconds n) * 10000 + fraction n))
-    Wrong
+    (Some (((hours n * 60 + minutes n) * 60 + seconds n) * 10000 + fraction n))
+    None
 
 -- ticks as the number HHMMSSdddd
 unfoldable pub clock_number : ℕ → ℕ

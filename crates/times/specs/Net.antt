@@ -1,8 +1,6 @@
 -- Net times: a sign, days and a time of day, as one signed value in ticks.
-use Rattle.std.specs.Prelude.{ℕ, ◌+◌, ◌*◌, ◌/◌, ◌%◌, Bool, true, false, cond, not, ◌&&◌, ◌≡◌, eqb, leb, ℤ, pos, negsuc, neg_ℤ, nat_abs}
+use Rattle.std.specs.Prelude.{ℕ, ◌+◌, ◌*◌, ◌/◌, ◌%◌, Bool, true, false, cond, not, ◌&&◌, ◌≡◌, eqb, leb, ℤ, pos, negsuc, neg_ℤ, nat_abs, Option, Some, None}
 use Rattle.times.specs.declared.net.NetParts.{NetParts}
-use Rattle.times.specs.declared.net.NetValue.{NetValue}
-use Rattle.times.specs.declared.net.NetValue.TheVariants.{Is, Wrong as no_value}
 use Rattle.times.specs.Clock.{a_day, last_tick}
 
 -- n, or -n if the flag is true
@@ -24,8 +22,8 @@ abbrev pub net_sum : NetParts → ℤ
 net_sum p = signed p.minus (p.days * a_day + p.time)
 
 -- the value of a net time; parts that are no net time have none
-unfoldable pub net_value : NetParts → NetValue
-net_value p = cond (is_net p) (Is (net_sum p)) no_value
+unfoldable pub net_value : NetParts → Option ℤ
+net_value p = cond (is_net p) (Some (net_sum p)) None
 
 -- the parts of a value: its sign, and the whole days and the time of the value without its sign
 abbrev pub net_parts : ℤ → NetParts
@@ -48,11 +46,11 @@ abbrev pub parts : Bool → ℕ → ℕ → NetParts
 parts minus days time = record { minus = minus; days = days; time = time }
 
 pub record NetWorked : Type 0 where
-  pub plus : net_value (parts false 0 725400) ≡ Is (pos 725400)
-  pub minus_second : net_value (parts true 0 10000) ≡ Is (negsuc 9999)
-  pub minus_day : net_value (parts true 1 863990000) ≡ Is (negsuc 1727989999)
-  pub plus_zero : net_value (parts false 0 0) ≡ Is (pos 0)
-  pub minus_zero : net_value (parts true 0 0) ≡ no_value
+  pub plus : net_value (parts false 0 725400) ≡ Some (pos 725400)
+  pub minus_second : net_value (parts true 0 10000) ≡ Some (negsuc 9999)
+  pub minus_day : net_value (parts true 1 863990000) ≡ Some (negsuc 1727989999)
+  pub plus_zero : net_value (parts false 0 0) ≡ Some (pos 0)
+  pub minus_zero : net_value (parts true 0 0) ≡ None
   pub of_plus : net_parts (pos 864000001) ≡ parts false 1 1
   pub of_minus_second : net_parts (negsuc 9999) ≡ parts true 0 10000
   pub of_minus_day : net_parts (negsuc 1727989999) ≡ parts true 1 863990000

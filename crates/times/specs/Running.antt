@@ -1,9 +1,10 @@
 -- Running time: Tnow - Tev - Taux in ticks, signed.
-use Rattle.std.specs.Prelude.{◌+◌, ◌*◌, Bool, not, ◌&&◌, ◌||◌, ◌≡◌, eqb, leb, ℤ, pos, negsuc, ◌-ℤ◌}
+use Rattle.std.specs.Prelude.{◌+◌, ◌*◌, Bool, not, ◌&&◌, ◌||◌, ◌≡◌, eqb, leb, ℤ, pos, negsuc, ◌-ℤ◌, Result, Ok, Err}
+use Rattle.digits.specs.declared.refusal.Refusal.{Refusal}
 use Rattle.digits.specs.Refusals.{plain, TIME}
 use Rattle.digits.specs.Told.{Told, gives, refuses, tried}
-use Rattle.times.specs.declared.running.Running.{Running}
-use Rattle.times.specs.declared.running.Running.TheVariants.{Ticks, Time}
+use Rattle.times.specs.declared.running.RunningRefusal.{RunningRefusal}
+use Rattle.times.specs.declared.running.RunningRefusal.TheVariants.{Time}
 use Rattle.times.specs.declared.running.RunningOf.{RunningOf}
 use Rattle.times.specs.Clock.{a_day, last_tick}
 use Rattle.times.specs.Net.{signed}
@@ -22,12 +23,16 @@ taux o = signed (eqb o.sign 1) (o.days * a_day + o.time)
 unfoldable pub running_time : RunningOf → Told ℤ
 running_time o = tried (in_range o) TIME (gives ((pos o.tnow -ℤ pos o.tev) -ℤ taux o))
 
-abbrev pub running_told : Running → Told ℤ
-running_told (Ticks v) = gives v
-running_told Time = refuses TIME
+-- the refusal by number
+abbrev pub running_refused : RunningRefusal → Refusal
+running_refused Time = TIME
+
+abbrev pub running_told : Result ℤ RunningRefusal → Told ℤ
+running_told (Ok v) = gives v
+running_told (Err why) = refuses (running_refused why)
 
 -- what is promised of the answer: it means the running time of these numbers
-abbrev pub RunningAs : RunningOf → Running → Type 0
+abbrev pub RunningAs : RunningOf → Result ℤ RunningRefusal → Type 0
 RunningAs of r = running_told r ≡ running_time of
 
 -- worked cases: a minus covers days and time, also without days and with bib 0; a minus in front of zero is good; each number out of range is refused with 8

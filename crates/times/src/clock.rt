@@ -1,30 +1,28 @@
 // A time of day, HHMMSSdddd, in ticks of a ten-thousandth of a second.
 ghost use Rattle.std.specs.Prelude.{◌≡◌, ◌+◌, ◌≤◌, ◌<◌, ◌^◌, leb, length};
 ghost use Rattle.std.proofs.lemmas.List.Edits.{sets};
-ghost use Rattle.digits.specs.Digits.{number_at};
 ghost use Rattle.times.specs.Clock.{clock_number, clock};
-ghost use Rattle.times.specs.inside.Clock.{part_of, ticks_from};
+ghost use Rattle.times.specs.inside.Clock.{ticks_from};
 
-use digits::{Number, number_at, put_number};
+use digits::{number_at, put_number};
 
 // How many ticks a day has, and its last tick, 23:59:59.9999.
 pub const DAY_TICKS: u64 = 864_000_000;
 
 pub const LAST_TICK: u32 = (DAY_TICKS - 1) as u32;
 
-// The ticks of the time at a place; Wrong if there are no ten digits of a time. The four parts are read separately, so that none waits for another.
-pub fn clock_at(s: &[u8], at: usize) -> Number
+// The ticks of the time at a place; None if there are no ten digits of a time. The four parts are read separately, so that none waits for another.
+pub fn clock_at(s: &[u8], at: usize) -> Option<u64>
     ensures { result ≡ clock.got s.now at }
 {
-    if has_room(s.len(), at) {
-        let hours = part_at(s, at, 2);
-        let minutes = part_at(s, at + 2, 2);
-        let seconds = part_at(s, at + 4, 2);
-        let fraction = part_at(s, at + 6, 4);
-        ticks_of(hours, minutes, seconds, fraction)
-    } else {
-        Number::Wrong
+    if !has_room(s.len(), at) {
+        return None;
     }
+    let hours = number_at(s, at, 2);
+    let minutes = number_at(s, at + 2, 2);
+    let seconds = number_at(s, at + 4, 2);
+    let fraction = number_at(s, at + 6, 4);
+    ticks_of(hours?, minutes?, seconds?, fraction?)
 }
 
 // Stores a time from a place on; past the end nothing. If the ticks are no time of day, it stores the last ten digits of the same sum.
@@ -42,41 +40,18 @@ pub fn put_clock(out: &mut [u8], at: usize, ticks: u32)
 fn has_room(len: usize, at: usize) -> bool
     ensures { result ≡ leb (at + 10) len }
 {
-    if len < 10 {
-        return false;
-    }
-    if len - 10 < at {
-        return false;
-    }
-    true
+    10 <= len && at <= len - 10
 }
 
-// The number at a place. If there is none: 10,000, which no part of a time can be.
-fn part_at(s: &[u8], at: usize, width: usize) -> u64
-    ensures { result ≡ part_of (number_at s.now at width) }
-{
-    match number_at(s, at, width) {
-        Number::Is(v) => v,
-        Number::Wrong => 10_000,
-    }
-}
-
-fn ticks_of(hours: u64, minutes: u64, seconds: u64, fraction: u64) -> Number
+fn ticks_of(hours: u64, minutes: u64, seconds: u64, fraction: u64) -> Option<u64>
+    requires { fraction ≤ 9999 }
     ensures { result ≡ ticks_from hours minutes seconds fraction }
 {
-    if 23 < hours {
-        return Number::Wrong;
+    if hours <= 23 && minutes <= 59 && seconds <= 59 {
+        Some(((hours * 60 + minutes) * 60 + seconds) * 10_000 + fraction)
+    } else {
+        None
     }
-    if 59 < minutes {
-        return Number::Wrong;
-    }
-    if 59 < seconds {
-        return Number::Wrong;
-    }
-    if 9_999 < fraction {
-        return Number::Wrong;
-    }
-    Number::Is(((hours * 60 + minutes) * 60 + seconds) * 10_000 + fraction)
 }
 
 fn put_parts(out: &mut [u8], at: usize, ticks: u64)
@@ -89,6 +64,7 @@ fn put_parts(out: &mut [u8], at: usize, ticks: u64)
     put_number(out, at + 6, 4, ticks % 10_000);
 }
 
+#[tactic(auto, unfolding(crate::specs::Clock::clock_number))]
 fn clock_number(ticks: u64) -> u64
     requires { ticks < 2 ^ 32 }
     ensures { result ≡ clock_number ticks }

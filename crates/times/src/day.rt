@@ -6,34 +6,19 @@ ghost use Rattle.times.specs.Day.{real_day, month_length, february_length, leap}
 pub fn is_day(day: u32, month: u32, year: u32) -> bool
     ensures { result ≡ real_day day month year }
 {
-    if year < 2000 {
+    if year < 2000 || 2099 < year || month < 1 || 12 < month {
         return false;
     }
-    if 2099 < year {
-        return false;
-    }
-    if month < 1 {
-        return false;
-    }
-    if 12 < month {
-        return false;
-    }
-    if day < 1 {
-        return false;
-    }
-    day <= month_length(month, year)
+    1 <= day && day <= month_length(month, year)
 }
 
 fn month_length(month: u32, year: u32) -> u32
     ensures { result ≡ month_length month year }
 {
-    if month == 2 {
-        return february(year);
-    }
-    if (month == 4) | (month == 6) | (month == 9) | (month == 11) {
-        30
-    } else {
-        31
+    match month {
+        2 => february(year),
+        4 | 6 | 9 | 11 => 30,
+        _ => 31,
     }
 }
 
@@ -43,6 +28,7 @@ fn february(year: u32) -> u32
     if is_leap(year) { 29 } else { 28 }
 }
 
+#[tactic(auto, unfolding(crate::specs::Day::leap))]
 fn is_leap(year: u32) -> bool
     ensures { result ≡ leap year }
 {

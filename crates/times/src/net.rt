@@ -6,20 +6,15 @@ use crate::clock::{DAY_TICKS, LAST_TICK};
 use crate::signed::{apart, diff};
 
 // A sign, days, and a time in ticks. They are a net time if is_net takes them.
-#[derive(Clone, Copy)]
+#[derive(Clone, Copy, Debug, PartialEq, Eq)]
 pub struct NetParts {
     pub minus: bool,
     pub days: u64,
     pub time: u32,
 }
 
-#[derive(Clone, Copy)]
-pub enum NetValue {
-    Is(i64),
-    Wrong,
-}
-
 // Whether a net reply can show these parts. Zero has no minus.
+#[tactic(auto, unfolding(crate::specs::Net::is_net))]
 pub fn is_net(parts: NetParts) -> bool
     ensures { result ≡ is_net parts }
 {
@@ -27,19 +22,19 @@ pub fn is_net(parts: NetParts) -> bool
     (parts.days <= 9_999_999) & (parts.time <= LAST_TICK) & !(parts.minus & zero)
 }
 
-// The value of a net time; Wrong if the parts are no net time. The minus covers days and time together.
-pub fn net_value(parts: NetParts) -> NetValue
+// The value of a net time; None if the parts are no net time. The minus covers days and time together.
+pub fn net_value(parts: NetParts) -> Option<i64>
     ensures { result ≡ net_value parts }
 {
     if !is_net(parts) {
-        return NetValue::Wrong;
+        return None;
     }
     let days = parts.days * DAY_TICKS;
     let time = parts.time as u64;
     if parts.minus {
-        NetValue::Is(diff(0, days + time))
+        Some(diff(0, days + time))
     } else {
-        NetValue::Is(diff(days + time, 0))
+        Some(diff(days + time, 0))
     }
 }
 

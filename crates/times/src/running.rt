@@ -1,19 +1,31 @@
 // Running time: Tnow - Tev - Taux in ticks.
 ghost use Rattle.std.specs.Prelude.{◌≡◌};
-ghost use Rattle.times.specs.Running.{in_range, RunningAs};
+ghost use Rattle.times.specs.Running.{in_range, running_refused, RunningAs};
 
 use crate::clock::{DAY_TICKS, LAST_TICK};
 use crate::signed::diff;
+use digits::refusal::{self, Refusal};
 
-#[derive(Clone, Copy)]
-pub enum Running {
-    Ticks(i64),
+// Why there is no running time: a number is out of range.
+#[derive(Clone, Copy, Debug, PartialEq, Eq)]
+pub enum RunningRefusal {
     Time,
 }
 
+impl From<RunningRefusal> for Refusal {
+    ghost from_gives = { λ why f. f ≡ running_refused why };
+
+    fn from(why: RunningRefusal) -> Refusal {
+        match why {
+            RunningRefusal::Time => refusal::plain(refusal::TIME),
+        }
+    }
+}
+
 // The numbers from which running time is computed. Taux is its sign (0 plus, 1 minus), days and time.
+// The layout is that of the C interface, so the sign is a number.
 #[repr(C)]
-#[derive(Clone, Copy)]
+#[derive(Clone, Copy, Debug, PartialEq, Eq)]
 pub struct RunningOf {
     pub bib: u32,
     pub tnow: u32,
@@ -23,22 +35,23 @@ pub struct RunningOf {
     pub time: u32,
 }
 
-pub fn running_time(of: RunningOf) -> Running
+pub fn running_time(of: RunningOf) -> Result<i64, RunningRefusal>
     ensures { RunningAs of result }
 {
     if !in_range(of) {
-        return Running::Time;
+        return Err(RunningRefusal::Time);
     }
     let taux = of.days as u64 * DAY_TICKS + of.time as u64;
     let tnow = of.tnow as u64;
     let tev = of.tev as u64;
     if of.sign == 1 {
-        Running::Ticks(diff(tnow + taux, tev))
+        Ok(diff(tnow + taux, tev))
     } else {
-        Running::Ticks(diff(tnow, tev + taux))
+        Ok(diff(tnow, tev + taux))
     }
 }
 
+#[tactic(auto, unfolding(crate::specs::Running::in_range))]
 fn in_range(of: RunningOf) -> bool
     ensures { result ≡ in_range of }
 {

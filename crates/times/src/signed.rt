@@ -4,26 +4,18 @@ ghost use Rattle.std.proofs.Math.IntN.{sub_ℕ};
 ghost use Rattle.times.specs.inside.Signed.{apart_of};
 
 // A number without its sign, and whether the sign is a minus.
-#[derive(Clone, Copy)]
+#[derive(Clone, Copy, Debug, PartialEq, Eq)]
 pub struct SignAndSize {
     pub minus: bool,
     pub size: u64,
 }
 
-// For a number below zero, -1 - v never wraps. So every i64 is taken.
 pub fn apart(v: i64) -> SignAndSize
     ensures { result ≡ apart_of v }
 {
-    if v < 0 {
-        SignAndSize {
-            minus: true,
-            size: (-1 - v) as u64 + 1,
-        }
-    } else {
-        SignAndSize {
-            minus: false,
-            size: v as u64,
-        }
+    SignAndSize {
+        minus: v < 0,
+        size: v.unsigned_abs(),
     }
 }
 

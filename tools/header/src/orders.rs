@@ -37,7 +37,7 @@ fn defined<'a>(header: &'a str, name: &str) -> Option<&'a str> {
     rest.strip_prefix(" \"")?.strip_suffix('"')
 }
 
-/// The letters of the arms `LETTER => PLACE,` of a function, if their places are 0, 1, 2 and so on. The arm for all others,
+/// The letters of the arms `LETTER => Some(PLACE),` of a function, if their places are 0, 1, 2 and so on. The arm for all others,
 /// `_ => ..`, comes after them.
 fn placed(source: &str, function: &str) -> Option<String> {
     let (_, rest) = source.split_once(&format!("fn {function}("))?;
@@ -46,7 +46,7 @@ fn placed(source: &str, function: &str) -> Option<String> {
     let letters: Option<String> = arms
         .take_while(|(pattern, _)| *pattern != "_")
         .enumerate()
-        .map(|(i, (pattern, place))| letter(source, pattern).filter(|_| place == i.to_string()))
+        .map(|(i, (pattern, place))| letter(source, pattern).filter(|_| place == format!("Some({i})")))
         .collect();
     letters.filter(|letters| !letters.is_empty())
 }

@@ -82,11 +82,13 @@ impl Spec {
         lex::number(word).or_else(|| self.number(word))
     }
 
-    /// For each clause `NAME (CONSTRUCTOR ..) = record { .. }`: the constructor and the number of the field `wanted`.
+    /// For each clause `NAME (CONSTRUCTOR ..) = record { .. }`: the constructor and the number of the field `wanted`. In
+    /// `NAME (Some (CONSTRUCTOR ..))` it is the inner one, and `NAME None` is for nothing.
     pub fn clauses(&self, name: &str, wanted: &str) -> Vec<(String, Option<u64>)> {
         let clause = |item: Vec<&str>| {
             let (first, rest) = item.split_first()?;
-            let constructor = rest.iter().find(|word| **word != "(").filter(|_| *first == name)?;
+            let found = rest.iter().find(|word| !["(", "Some"].contains(word)).filter(|_| *first == name)?;
+            let constructor = if *found == "None" { "Nothing" } else { found };
             Some((constructor.to_string(), field(&item, wanted).and_then(|word| self.value(word))))
         };
         self.items().filter_map(clause).collect()

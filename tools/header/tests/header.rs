@@ -58,23 +58,23 @@ pub const STATUSES: usize = 2;
 pub const STATUS_R: u8 = b'R';
 pub const STATUS_E: u8 = b'E';
 
-pub fn letter_place(letter: u8) -> usize
-    ensures { result ≡ letter_place letter }
+pub fn letter_place(letter: u8) -> Option<usize>
+    ensures { result ≡ letter_found letter }
 {
     match letter {
-        b'0' => 0,
-        b'X' => 1,
-        b'a' => 2,
-        b'A' => 3,
-        _ => LETTERS,
+        b'0' => Some(0),
+        b'X' => Some(1),
+        b'a' => Some(2),
+        b'A' => Some(3),
+        _ => None,
     }
 }
 
-pub fn status_place(status: u8) -> usize {
+pub fn status_place(status: u8) -> Option<usize> {
     match status {
-        STATUS_R => 0,
-        STATUS_E => 1,
-        _ => STATUSES,
+        STATUS_R => Some(0),
+        STATUS_E => Some(1),
+        _ => None,
     }
 }
 ";
@@ -159,8 +159,8 @@ pub mod field {
 }
 ";
 
-const FOUND: &str = "frame_answer (OnTheWay start) = record { kind = 1; start = start }
-frame_answer Nothing = record { start = 0; kind = 0 }
+const FOUND: &str = "frame_answer (Some (OnTheWay start)) = record { kind = 1; start = start }
+frame_answer None = record { start = 0; kind = 0 }
 ";
 
 const NUMBERS: &str = "abbrev pub numbers_of : Timing → TimingNumbers
@@ -607,9 +607,9 @@ fn an_order_that_is_not_read_is_told() {
     let wanted =
         ["REI2_LETTER_ORDER: no letters with the places 0, 1, 2 and so on in frames/src/reply.rt (letter_place)"];
     for (old, new) in [
-        ("b'a' => 2", "b'a' => 3"),
-        ("b'a' => 2", "b'a' | b'b' => 2"),
-        ("b'a' => 2", "LETTER => 2"),
+        ("b'a' => Some(2)", "b'a' => Some(3)"),
+        ("b'a' => Some(2)", "b'a' | b'b' => Some(2)"),
+        ("b'a' => Some(2)", "LETTER => Some(2)"),
         ("fn letter_place(", "fn letter_index("),
     ] {
         differs_in("crates/frames/src/reply.rt", old, new, &wanted);
@@ -975,7 +975,7 @@ fn a_kind_is_only_on_one_side() {
     let wanted = ["REI2_MARK: enum rei2_timing of the header lacks this constant"];
     differs_in("crates/rei2/specs/Reply.antt", more.lines().next().expect("a line"), more, &wanted);
     let wanted = ["REI2_NOTHING: not compared: no number is known that it stands for"];
-    differs_in("crates/rei2/specs/Calls.antt", "frame_answer Nothing", "answer Nothing", &wanted);
+    differs_in("crates/rei2/specs/Calls.antt", "frame_answer None", "answer None", &wanted);
 }
 
 #[test]

@@ -1,7 +1,7 @@
 //! Finds what the contract of a public function lacks, and which form its promise has.
 
 use crate::lex;
-use crate::parse::Function;
+use crate::parse::{Function, Implements};
 
 /// The marks between claims. A text with one of them outside parentheses is more than one equation or one predicate.
 const BETWEEN_CLAIMS: [&str; 6] = ["≡", "≢", "×", "→", "⊎", "↔"];
@@ -21,8 +21,13 @@ pub enum Promise {
     Neither,
 }
 
-/// What the contract lacks. For a function that is only for tests, the only fault is a `requires`.
-pub fn faults(function: &Function, for_tests: bool) -> Vec<String> {
+/// The traits of std whose functions have nothing to say: no contract speaks of what is shown to people.
+const SHOWING: [&str; 1] = ["Display"];
+
+/// What the contract lacks. For a function that is only for tests, the only fault is a `requires`. In an `impl` of one of the
+/// traits `own`, which the repository declares, a function has the contract of its declaration there. In an `impl` of any
+/// other trait a ghost member must say what it does.
+pub fn faults(function: &Function, for_tests: bool, own: &[String]) -> Vec<String> {
     let mut found = Vec::new();
     if clauses(function, "requires").next().is_some() {
         found.push("has a `requires`".to_string());
@@ -31,6 +36,13 @@ pub fn faults(function: &Function, for_tests: bool) -> Vec<String> {
         return found;
     }
     let ensures = || clauses(function, "ensures");
+    if let Some(Implements { name, says }) = &function.implements {
+        let said = *says || ensures().next().is_some() || SHOWING.contains(&name.as_str());
+        if !said && !own.contains(name) {
+            found.push(format!("is of the trait {name}, and no ghost member of the `impl` says what it does"));
+        }
+        return found;
+    }
     if ensures().next().is_none() {
         found.push("has no `ensures`".to_string());
     } else if function.gives && !ensures().any(|text| names(text, RESULT)) {
@@ -46,8 +58,12 @@ pub fn faults(function: &Function, for_tests: bool) -> Vec<String> {
 
 /// The form of the function's promise; none if it has no `ensures`. Of several `ensures` one that leaves no second outcome
 /// is enough, since the others can only add to it. So an equation counts first, and then the first predicate. With a `ghost`
-/// value it is neither, since the promise then holds only of what the caller picks for it.
+/// value it is neither, since the promise then holds only of what the caller picks for it. A function in an `impl` of a trait
+/// has none of its own.
 pub fn promise(function: &Function) -> Option<Promise> {
+    if function.implements.is_some() {
+        return None;
+    }
     let ghost = clauses(function, "ghost").next().is_some();
     let form = |text| if ghost { Promise::Neither } else { form(function, text) };
     let forms = clauses(function, "ensures").map(form);

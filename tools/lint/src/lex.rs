@@ -170,7 +170,7 @@ impl Lexer {
         let star = after.first() == Some(&"*");
         let end = match (text, ghost, after.as_slice()) {
             ("use", true, []) => ';',
-            ("{", true, [_, ":"]) | ("{", false, [] | [_] | ["*", _]) => '}',
+            ("{", true, [_, ":" | "="]) | ("{", false, [] | [_] | ["*", _]) => '}',
             _ => return None,
         };
         self.tokens.truncate(self.tokens.len() - back); // drops a clause's star and name

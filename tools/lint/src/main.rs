@@ -9,11 +9,15 @@
 //! `pub record OneOutcome`, a field with the function's name that says `Once` of `P`. Each field must belong to such a
 //! function, and a file of the crate's proofs must prove the record (a line `pub NAME : OneOutcome`).
 //!
+//! The functions of a public trait are public. An `impl` of a trait of this repository has their contracts; in one of any other
+//! trait, as `From`, a ghost member must say what the functions do.
+//!
 //! Each fault is printed as a line, and the last line has the counts. `--list` prints each public function first. Exit
 //! status: 0 if there are public functions and no fault, 1 otherwise, and 2 if it could not be run.
 //!
-//! `--tests NAME,..` names libraries that are only for tests. No contract can say what they print or read, so their
-//! functions need no `ensures`. No other library may depend on them. ROOT/crates.txt says which crate depends on which.
+//! `--tests NAME,..` names libraries that are only for tests, and `--edge NAME,..` those at the edge of programs. No contract can
+//! say what they print or read, so their functions need no `ensures`. No other library may depend on them. ROOT/crates.txt says
+//! which crate depends on which.
 
 mod contract;
 mod lex;
@@ -31,7 +35,7 @@ use unique::Unique;
 fn main() -> ExitCode {
     let words = std::env::args_os().skip(1).map(|word| word.to_string_lossy().into_owned());
     let Some(Asked { root, list, tests }) = asked(words) else {
-        return refuse("usage: lint ROOT [--list] [--tests NAME,..]");
+        return refuse("usage: lint ROOT [--list] [--tests NAME,..] [--edge NAME,..]");
     };
     let listed = listed::faults(&root, &tests);
     match listed.and_then(|listed| Ok((read(&root, &tests)?, listed))) {
@@ -44,7 +48,7 @@ fn main() -> ExitCode {
 struct Asked {
     root: PathBuf,
     list: bool,
-    /// The libraries that are only for tests.
+    /// The libraries that are only for tests, or at the edge of programs.
     tests: Vec<String>,
 }
 
@@ -54,7 +58,7 @@ fn asked(mut words: impl Iterator<Item = String>) -> Option<Asked> {
     while let Some(word) = words.next() {
         match word.as_str() {
             "--list" => list = true,
-            "--tests" => tests.extend(words.next()?.split(',').map(String::from)),
+            "--tests" | "--edge" => tests.extend(words.next()?.split(',').map(String::from)),
             flag if flag.starts_with('-') => return None,
             _ => roots.push(word),
         }
@@ -112,15 +116,20 @@ fn report(read: &Read, listed: &[String], list: bool) -> ExitCode {
 /// Reads all library crates. Those of `tests` are only for tests.
 fn read(root: &Path, tests: &[String]) -> Result<Read, String> {
     let mut found = Read::default();
+    let mut crates = Vec::new();
     for folder in libraries(root)? {
-        let for_tests = tests.iter().any(|name| folder == Path::new("crates").join(name));
-        let mut unique = if for_tests { None } else { Some(Unique::read(root, &folder)?) };
         let mut krate = Crate::default();
         krate.read(root, &folder.join("src/lib.rt"), &folder.join("src"), None)?;
+        crates.push((folder, krate));
+    }
+    let own: Vec<String> = crates.iter().flat_map(|(_, krate)| krate.traits().map(String::from)).collect();
+    for (folder, krate) in crates {
+        let for_tests = tests.iter().any(|name| folder == Path::new("crates").join(name));
+        let mut unique = if for_tests { None } else { Some(Unique::read(root, &folder)?) };
         for (item, reached) in krate.items.iter().zip(reach::reached(&krate)) {
             if let (Kind::Function(function), true) = (&item.kind, reached) {
                 let file = krate.modules[item.module].file.clone();
-                let mut faults = contract::faults(function, for_tests);
+                let mut faults = contract::faults(function, for_tests, &own);
                 faults.extend(unique.as_mut().and_then(|unique| second_outcome(unique, &item.name, function)));
                 found.functions.push(Public { file, line: item.line, name: item.name.clone(), faults });
             }

@@ -32,6 +32,8 @@ pub struct Item {
     pub line: usize,
     /// Is it `pub`? `pub(crate)` and the like are not.
     pub public: bool,
+    /// Is it the declaration of a trait?
+    pub declares_trait: bool,
     pub kind: Kind,
     /// The paths in its signature or declaration. Among them are the types of the values that it returns or contains.
     pub mentions: Vec<Names>,
@@ -41,14 +43,16 @@ pub enum Kind {
     Module(usize),
     /// A `use` of a path, or a `type` that stands for it.
     Use(Names),
-    /// A struct, an enum or a constant.
+    /// A struct, an enum, a trait or a constant.
     Data,
     Function(Function),
 }
 
 pub struct Function {
-    /// The type whose `impl` block it is in.
+    /// The type whose `impl` block it is in, or the trait that it is declared in.
     pub owner: Option<Names>,
+    /// The trait whose `impl` block it is in.
+    pub implements: Option<Implements>,
     /// The parameters that are `&mut ..`.
     pub lent: Vec<String>,
     /// Does it return a value?
@@ -57,7 +61,21 @@ pub struct Function {
     pub clauses: Vec<(String, Vec<String>)>,
 }
 
+/// An `impl` of a trait for a type. Its functions have the contracts of the trait.
+#[derive(Clone)]
+pub struct Implements {
+    /// The trait's name, without its path.
+    pub name: String,
+    /// Does the block define a ghost member? If the trait is one of std's, such members say what its functions do.
+    pub says: bool,
+}
+
 impl Crate {
+    /// The names of the traits that it declares.
+    pub fn traits(&self) -> impl Iterator<Item = &str> {
+        self.items.iter().filter(|item| item.declares_trait).map(|item| item.name.as_str())
+    }
+
     /// Reads the module in the file `root/file`. The files of its own modules are in `folder`. Returns its number.
     pub fn read(&mut self, root: &Path, file: &Path, folder: &Path, parent: Option<usize>) -> Result<usize, String> {
         let shown = file.display();
@@ -65,7 +83,8 @@ impl Crate {
         let tokens = lex::tokens(&text).map_err(|(line, what)| format!("{shown}:{line}: {what}"))?;
         let module = self.modules.len();
         self.modules.push(Module { file: file.to_path_buf(), parent });
-        let mut parser = Parser { found: self, root, file, folder, tokens, at: 0, module, owner: None };
+        let around = Around::default();
+        let mut parser = Parser { found: self, root, file, folder, tokens, at: 0, module, around, ghosts: 0 };
         while parser.at < parser.tokens.len() {
             parser.item()?;
         }
@@ -86,8 +105,20 @@ struct Parser<'a> {
     at: usize,
     /// The module that is being read.
     module: usize,
-    /// The type whose `impl` block is being read.
+    around: Around,
+    /// How many ghost members were read.
+    ghosts: usize,
+}
+
+/// What an item is in, beside its module.
+#[derive(Clone, Default)]
+struct Around {
+    /// The type whose `impl` block is being read, or the trait whose declaration is.
     owner: Option<Names>,
+    /// The trait whose `impl` block is being read.
+    implements: Option<Implements>,
+    /// In a trait or an `impl` of one no function has a `pub`: are they public?
+    public: bool,
 }
 
 impl Parser<'_> {
@@ -176,8 +207,8 @@ impl Parser<'_> {
                 return Ok(());
             }
         }
-        let mut public = self.take("pub");
-        if public && self.peek() == "(" {
+        let mut public = self.take("pub") || self.around.public;
+        if self.tokens[self.at.saturating_sub(1)].text == "pub" && self.peek() == "(" {
             self.group()?;
             public = false;
         }
@@ -188,38 +219,43 @@ impl Parser<'_> {
                 "use" => return self.imports(public),
                 "impl" => return self.methods(),
                 "struct" | "enum" => return self.data(public, &["{", ";"]),
+                "trait" => return self.declaration(public),
                 "const" if !["fn", "extern"].contains(&self.peek()) => return self.data(public, &[";"]),
                 "type" => return self.alias(public),
-                "extern" if self.peek() == "{" => return self.block(self.module, None),
+                "extern" if self.peek() == "{" => return self.block(self.module, Around::default()),
                 "const" | "extern" => {}
-                "ghost" if self.tokens[self.at - 1].clause.is_some() => return Ok(()), // `ghost use ..;`
+                "ghost" if self.tokens[self.at - 1].clause.is_some() => {
+                    self.ghosts += usize::from(self.take(";")); // after a `ghost use` the `;` is part of the clause
+                    return Ok(());
+                }
                 other => return self.error(&format!("the lint cannot read an item that begins with `{other}`")),
             }
         }
     }
 
-    /// Reads the items of a block in braces, which are in `module` and in the `impl` block of `owner`.
-    fn block(&mut self, module: usize, owner: Option<Names>) -> Result<(), String> {
-        let around = (mem::replace(&mut self.module, module), mem::replace(&mut self.owner, owner));
+    /// Reads the items of a block in braces, which are in `module` and in what is `around` them.
+    fn block(&mut self, module: usize, around: Around) -> Result<(), String> {
+        let outer = (mem::replace(&mut self.module, module), mem::replace(&mut self.around, around));
         if !self.take("{") {
             return self.error("expected a `{` after this");
         }
         while !self.take("}") {
             self.item()?;
         }
-        (self.module, self.owner) = around;
+        (self.module, self.around) = outer;
         Ok(())
     }
 
     /// Adds an item to the module that is being read.
     fn push(&mut self, name: String, line: usize, public: bool, kind: Kind, mentions: Vec<Names>) {
-        self.found.items.push(Item { name, module: self.module, line, public, kind, mentions });
+        let declares_trait = false;
+        self.found.items.push(Item { name, module: self.module, line, public, declares_trait, kind, mentions });
     }
 
     /// Reads a function, from its name on.
     fn function(&mut self, public: bool) -> Result<(), String> {
         let (mut name, line) = (self.next()?, self.line());
-        if let Some(owner) = &self.owner {
+        if let Some(owner) = &self.around.owner {
             name = format!("{}::{name}", owner.join("::"));
         }
         let mut mentions = paths(self.generics()?);
@@ -232,7 +268,8 @@ impl Parser<'_> {
         let gives = rest.first().is_some_and(|t| t.text == "-"); // the arrow
         let clauses = rest.iter().filter_map(|t| Some((t.text.clone(), t.clause.clone()?))).collect();
         self.group()?;
-        let function = Function { owner: self.owner.clone(), lent, gives, clauses };
+        let Around { owner, implements, .. } = self.around.clone();
+        let function = Function { owner, implements, lent, gives, clauses };
         self.push(name, line, public, Kind::Function(function), mentions);
         Ok(())
     }
@@ -247,7 +284,7 @@ impl Parser<'_> {
         } else {
             self.found.modules.push(Module { file: self.file.to_path_buf(), parent });
             let module = self.found.modules.len() - 1;
-            self.block(module, None)?;
+            self.block(module, Around::default())?;
             module
         };
         self.push(name, line, public, Kind::Module(module), Vec::new());
@@ -269,11 +306,33 @@ impl Parser<'_> {
     fn methods(&mut self) -> Result<(), String> {
         self.generics()?;
         let head = self.until(&["{"])?;
-        let (owner, of_trait) = (paths(head).into_iter().next(), head.iter().any(|t| t.text == "for"));
-        if of_trait {
-            return self.error("the lint cannot read an `impl` of a trait: its functions are public without a `pub`");
+        let of_trait = head.iter().position(|t| t.text == "for");
+        let owner = paths(&head[of_trait.map_or(0, |at| at + 1)..]).into_iter().next();
+        let Some(at) = of_trait else {
+            return self.block(self.module, Around { owner, ..Around::default() });
+        };
+        let name = paths(&head[..at]).first().and_then(|path| path.last()).cloned().unwrap_or_default();
+        let implements = Some(Implements { name, says: false });
+        let (first, ghosts) = (self.found.items.len(), self.ghosts);
+        self.block(self.module, Around { owner, implements, public: true })?;
+        // Its ghost members may stand after its functions.
+        let says = self.ghosts > ghosts;
+        for item in &mut self.found.items[first..] {
+            if let Kind::Function(Function { implements: Some(implements), .. }) = &mut item.kind {
+                implements.says = says;
+            }
         }
-        self.block(self.module, owner)
+        Ok(())
+    }
+
+    /// Reads the declaration of a trait, from its name on.
+    fn declaration(&mut self, public: bool) -> Result<(), String> {
+        let (name, line) = (self.next()?, self.line());
+        let mut mentions = paths(self.generics()?);
+        mentions.extend(paths(self.until(&["{"])?));
+        self.push(name.clone(), line, public, Kind::Data, mentions);
+        self.found.items.last_mut().into_iter().for_each(|item| item.declares_trait = true);
+        self.block(self.module, Around { owner: Some(vec![name]), implements: None, public })
     }
 
     /// Reads a struct, an enum or a constant, from its name on. One of `ends` is its last token or opens its last group.

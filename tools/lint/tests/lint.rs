@@ -806,7 +806,7 @@ fn missing_file_is_refused() {
 #[test]
 fn text_that_cannot_be_read_is_refused() {
     for (text, error) in [
-        ("\npub trait T {}", "2: the lint cannot read an item that begins with `trait`"),
+        ("\npub union T {}", "2: the lint cannot read an item that begins with `union`"),
         ("pub fn f() {\n", "1: the file ends inside an item"),
         ("pub fn f() ensures { a {}\n", "2: the file ends too early"),
         ("/* a", "1: the file ends too early"),
@@ -814,10 +814,8 @@ fn text_that_cannot_be_read_is_refused() {
         ("mod m { fn f() {} ", "1: the file ends inside an item"),
         ("mod m fn f() {} ", "1: expected a `{` after this"),
         ("pub fn f<T(a: T) {}", "1: the file ends inside an item"),
-        (
-            "impl<T> Show for S<T> { fn f(&self) {} }",
-            "1: the lint cannot read an `impl` of a trait: its functions are public without a `pub`",
-        ),
+        ("impl<T> Show for S<T> { fn f(&self) {}", "1: the file ends inside an item"),
+        ("pub trait T { static A: u8 = 1; }", "1: the lint cannot read an item that begins with `static`"),
         ("pub fn f(a: u8", "1: the file ends inside an item"),
         ("const A: u8 = 1)\n;", "1: nothing opens what closes here"),
         ("mod m {}\npub use m::*;", "2: a glob in a `pub use`: name what it passes on"),
@@ -831,8 +829,59 @@ fn text_that_cannot_be_read_is_refused() {
 }
 
 #[test]
+fn functions_of_a_public_trait_are_public() {
+    reaches("pub trait T: Copy { const N: u8; type A; fn f(self); fn g(self) {} }", &["T::f", "T::g"]);
+    reaches("trait T { fn f(self); } mod m { pub trait U { fn g(self); } }", &[]);
+    let text = "pub trait T {\n    ghost p: { ℕ };\n    fn f(self)\n        requires { p ≡ 1 };\n\n    ghost law: { p ≡ 1 };\n}\n";
+    finds(text, 1, 1, &["3: T::f: has a `requires`", "3: T::f: has no `ensures`"]);
+    finds("pub trait T { fn f(self) -> u8 ensures { result ≡ 1 }; }", 1, 0, &[]);
+    let faults = "1: T::f: no statement that no second outcome meets its promise (f in specs/Unique.antt)";
+    finds("pub trait T { fn f(self) -> u8 ensures { P result }; }", 1, 1, &[faults]);
+}
+
+#[test]
+fn an_impl_of_a_trait_of_std_says_what_its_functions_do() {
+    let faults =
+        |name: &str| format!("1: S::f: is of the trait {name}, and no ghost member of the `impl` says what it does");
+    finds("pub struct S; impl From<u8> for S { fn f(a: u8) -> S { S } }", 1, 1, &[&faults("From")]);
+    finds("pub struct S; impl<'a> m::Into<u8> for S { fn f(self) -> u8 { 1 } }", 1, 1, &[&faults("Into")]);
+    finds(
+        "pub struct S; impl From<u8> for S { ghost f_gives = { λ a r. r ≡ g a }; fn f(a: u8) -> S { S } }",
+        1,
+        0,
+        &[],
+    );
+    finds(
+        "pub struct S; impl From<u8> for S { fn f(a: u8) -> S { S } ghost f_gives = { λ a r. r ≡ g a }; }",
+        1,
+        0,
+        &[],
+    );
+    finds("pub struct S; impl From<u8> for S { fn f(a: u8) -> S ensures { result ≡ g a } { S } }", 1, 0, &[]);
+    finds("pub struct S; impl fmt::Display for S { fn f(&self) {} }", 1, 0, &[]);
+    finds(
+        "pub struct S; impl From<u8> for S { fn f(a: u8) -> S requires { a ≡ 1 } { S } }",
+        1,
+        1,
+        &["1: S::f: has a `requires`", &faults("From")],
+    );
+    // one member for one impl
+    let two = "pub struct S; impl A for S { ghost p = { 1 }; fn g(self) {} } impl B for S { fn f(self) {} }";
+    finds(two, 2, 1, &[&faults("B")]);
+}
+
+#[test]
+fn an_impl_of_a_trait_of_the_repository_has_its_contracts() {
+    let b = ("crates/b/src/lib.rt", "pub trait T { fn f(self) -> u8 ensures { result ≡ 1 }; }");
+    let a = ("crates/a/src/lib.rt", "use b::T; pub struct S; impl T for S { fn f(self) -> u8 { 1 } }");
+    finds_in(&[a, b], 2, 0, &[]);
+    let hidden = ("crates/a/src/lib.rt", "mod m { use b::T; struct S; impl T for S { fn f(self) -> u8 { 1 } } }");
+    finds_in(&[hidden, b], 1, 0, &[]);
+}
+
+#[test]
 fn bad_usage_is_refused() {
-    let usage = (2, String::new(), "lint: usage: lint ROOT [--list] [--tests NAME,..]\n".to_string());
+    let usage = (2, String::new(), "lint: usage: lint ROOT [--list] [--tests NAME,..] [--edge NAME,..]\n".to_string());
     let repo = Repo::new(&[("crates/a/src/lib.rt", "pub fn f() ensures { result ≡ 1 } {}")]);
     assert_eq!(run(&mut Command::new(env!("CARGO_BIN_EXE_lint"))), usage);
     assert_eq!(repo.lint(&["--lst"]), usage);

@@ -1,10 +1,9 @@
 -- The clauses of a desk, as the code computes them.
-use Rattle.std.specs.Prelude.{ℕ, ◌<◌, List, Bool, true, false, cond, ◌&&◌, ◌≡◌, eqb, ltb, length, get_or}
+use Rattle.std.specs.Prelude.{ℕ, ◌<◌, List, Bool, true, false, cond, ◌&&◌, ◌≡◌, eqb, ltb, length, get_or, Option, Some, None}
 use Rattle.digits.specs.Told.{Told, gives, refuses}
 use Rattle.frames.specs.declared.reply.ReplyLabel.{ReplyLabel}
 use Rattle.desk.specs.declared.state.Seat.{Seat}
 use Rattle.desk.specs.declared.step.Progress.{Progress}
-use Rattle.desk.specs.declared.clauses.Turn.{Turn}
 use Rattle.desk.specs.Limits.{seat_count}
 use Rattle.desk.specs.Key.{key_in, seat_key, is_key}
 use Rattle.desk.specs.Hearing.{heard, status_in}
@@ -27,9 +26,9 @@ abbrev pub has_number : ℕ → Told ReplyLabel → Bool
 has_number key (gives l) = eqb key (key_number (key_in l))
 has_number key (refuses f) = false
 
--- one more row of a seat: good if it is a reply with the seat's key that the seat takes
-unfoldable pub turn_of : Progress → ℕ → Told ReplyLabel → Turn
-turn_of p key got = record { good = has_number key got && goes (step p true (status_in got)); progress = advanced p (status_in got) }
+-- one more row of a seat: how far the seat comes with it, if it is a reply with the seat's key that the seat takes
+unfoldable pub turn_of : Progress → ℕ → Told ReplyLabel → Option Progress
+turn_of p key got = cond (has_number key got && goes (step p true (status_in got))) (Some (advanced p (status_in got))) None
 
 -- row i, with the keys as a column: a seat that is not in use has the key 0, which no reply has
 abbrev pub row_taken : List ℕ → List ℕ → List ℕ → ℕ → Bool

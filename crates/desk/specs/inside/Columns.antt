@@ -1,7 +1,8 @@
 -- The seats as the code holds them during a call: a column of keys, one of records held, and one of `ended`.
-use Rattle.std.specs.Prelude.{ℕ, ◌+◌, ◌*◌, ◌/◌, ◌%◌, ◌<◌, List, [], ◌∷◌, Bool, true, cond, ◌≡◌, eqb, length, get_or}
+use Rattle.std.specs.Prelude.{ℕ, ◌+◌, ◌*◌, ◌/◌, ◌%◌, ◌<◌, List, [], ◌∷◌, Bool, true, cond, ◌≡◌, eqb, ltb, length, get_or, Option, Some, None}
 use Rattle.desk.specs.declared.state.Seat.{Seat}
 use Rattle.desk.specs.declared.key.Key.{Key}
+use Rattle.desk.specs.declared.step.Progress.{Progress}
 use Rattle.desk.specs.Limits.{seat_count}
 use Rattle.desk.specs.Below.{count_below}
 
@@ -32,7 +33,15 @@ pub record Sized (keys held ended : List ℕ) : Type 0 where
   pub all_held : length held ≡ seat_count
   pub all_ended : length ended ≡ seat_count
 
+-- how far the request at a seat has come
+abbrev pub progress_at : List ℕ → List ℕ → ℕ → Progress
+progress_at held ended i = record { held = get_or held i 0; ended = get_or ended i 0 }
+
 -- ---- tests of a column
+
+-- the seat that a search found, if it found one
+abbrev pub found_seat : ℕ → Option ℕ
+found_seat n = cond (ltb n seat_count) (Some n) None
 
 abbrev pub key_is : List ℕ → ℕ → ℕ → Bool
 key_is keys key i = eqb (get_or keys i 0) key

@@ -1,11 +1,15 @@
 -- The tally during the test of a desk: each row takes one from a copy, and nothing may be left of it.
-use Rattle.std.specs.Prelude.{ℕ, ◌+◌, ◌-◌, ◌<◌, List, [], Bool, ◌&&◌, ◌≡◌, length, get_or, set, eqb, ltb}
-use Rattle.frames.specs.Reply.{letters, letter_place}
-use Rattle.frames.specs.Status.{statuses, status_place}
+use Rattle.std.specs.Prelude.{ℕ, ◌+◌, ◌-◌, ◌<◌, List, [], Bool, ◌&&◌, ◌≡◌, length, get_or, set, eqb, ltb, cond, Option, Some, None}
+use Rattle.frames.specs.Reply.{letters, is_letter, letter_place}
+use Rattle.frames.specs.Status.{statuses, is_status, status_place}
 use Rattle.desk.specs.Below.{all_below}
 use Rattle.desk.specs.Memory.{cell_at}
 use Rattle.desk.specs.Tally.{letter_count, status_count, Table, entry_at, entry_of, letter_at, status_at, held_of}
 use Rattle.desk.specs.inside.Clauses.{row_taken}
+
+-- where a letter and a status are counted
+abbrev pub entry_found : ℕ → ℕ → Option (ℕ × ℕ)
+entry_found letter status = cond (is_letter letter && is_status status) (Some (letter_place letter, status_place status)) None
 
 -- one less at a letter and a status
 abbrev pub uncounted : Table → ℕ → ℕ → Table

@@ -1,28 +1,35 @@
 -- A frame of a capture: given to the desk, and counted.
-use Rattle.std.specs.Prelude.{◌+◌, List, ◌≡◌}
-use Rattle.desk.specs.declared.state.Seat.{Seat}
+use Rattle.std.specs.Prelude.{ℕ, ◌+◌, List, true, ◌≡◌}
 use Rattle.desk.specs.declared.state.Desk.{Desk}
-use Rattle.desk.specs.declared.capture.CaptureDone.{CaptureDone}
-use Rattle.desk.specs.declared.capture.CaptureAnswer.TheVariants.{NoDesk}
+use Rattle.desk.specs.declared.columns.Columns.{Columns}
 use Rattle.desk.specs.declared.capture.Fate.{Fate}
 use Rattle.desk.specs.declared.capture.Fate.TheVariants.{Opened, Collected, Dynamic, Refused}
 use Rattle.desk.specs.declared.capture.Counts.{Counts}
-use Rattle.desk.specs.declared.capture.Met.{Met}
-use Rattle.desk.specs.Memory.{Memory}
-use Rattle.desk.specs.Calls.{Outcome}
+use Rattle.desk.specs.Memory.{Memory, memory}
+use Rattle.desk.specs.Desk.{is_desk}
+use Rattle.desk.specs.Calls.{Outcome, opens}
 use Rattle.desk.specs.Capture.{Step, fate_by}
+use Rattle.desk.specs.inside.Shown.{shown}
 
--- what is returned if there is no desk
-abbrev pub takes_nothing : Desk → List Seat → CaptureDone
-takes_nothing d row = record { answer = NoDesk; desk = d; row = row }
-
-pub record Meets (o : Step) (r : Met) (m' : Memory) : Type 0 where
-  pub fate : r.fate ≡ o.fate
+pub record Meets (o : Step) (r : Fate) (m' : Memory) : Type 0 where
+  pub fate : r ≡ o.fate
   pub after : m' ≡ o.after
 
 -- by the outcome of a call
-abbrev pub MeetsBy : Fate → Outcome → Met → Memory → Type 0
+abbrev pub MeetsBy : Fate → Outcome → Fate → Memory → Type 0
 MeetsBy good o = Meets (record { fate = fate_by good o.answer; after = o.after })
+
+-- state and columns are those of a desk, with some cells, marks and tally
+pub record OnDesk (d : Desk) (c : Columns) : Type 0 where
+  pub cells : List ℕ
+  pub marks : List ℕ
+  pub tally : List (List ℕ)
+  pub desk : is_desk (memory d (shown c) cells marks tally) ≡ true
+
+-- an opening on such a desk; cells, marks and tally stay
+abbrev pub MeetsRequest : Desk → Columns → List ℕ → Fate → Desk → Columns → Type 0
+MeetsRequest d c f r d' c' =
+    (cells marks : List ℕ) (tally : List (List ℕ)) → is_desk (memory d (shown c) cells marks tally) ≡ true → MeetsBy Opened (opens (memory d (shown c) cells marks tally) f) r (memory d' (shown c') cells marks tally)
 
 abbrev pub one_more : Counts → Fate → Counts
 one_more c Opened = record { opened = c.opened + 1; collected = c.collected; dynamic = c.dynamic; refused = c.refused }

@@ -1,60 +1,41 @@
 -- What a call finds before it changes anything.
-use Rattle.std.specs.Prelude.{ℕ, ◌+◌, ◌*◌, ◌<◌, ◌≤◌, List, Bool, true, false, not, ◌≡◌, eqb, leb, ltb, length, get_or, set}
+use Rattle.std.specs.Prelude.{ℕ, ◌+◌, ◌*◌, ◌<◌, ◌≤◌, List, Bool, not, ◌≡◌, eqb, leb, ltb, length, get_or, set, Result, Ok, Err}
+use Rattle.digits.specs.declared.refusal.Refusal.{Refusal}
 use Rattle.digits.specs.Refusals.{NO_ANSWER_DUE, IN_USE, NO_SEAT, STRAY, ENDED, OUT_OF_PLACE, FULL}
 use Rattle.digits.specs.Told.{Told, gives, refuses, tried}
 use Rattle.frames.specs.declared.request.StaticRequest.{StaticRequest}
 use Rattle.frames.specs.declared.reply.ReplyLabel.{ReplyLabel}
 use Rattle.desk.specs.declared.state.Desk.{Desk}
-use Rattle.desk.specs.declared.opening.OpenStep.{OpenStep}
 use Rattle.desk.specs.declared.opening.OpenRefusal.{OpenRefusal}
-use Rattle.desk.specs.declared.opening.OpenAnswer.TheVariants.{Refused as not_opened_law}
-use Rattle.desk.specs.declared.reply.ReplyStep.{ReplyStep}
 use Rattle.desk.specs.declared.reply.ReplyRefusal.{ReplyRefusal}
-use Rattle.desk.specs.declared.reply.ReplyAnswer.TheVariants.{Refused as not_taken_law}
 use Rattle.desk.specs.declared.key.Key.{Key}
 use Rattle.desk.specs.declared.opening.Opening.{Opening}
-use Rattle.desk.specs.declared.opening.OpenJudged.{OpenJudged}
-use Rattle.desk.specs.declared.opening.OpenJudged.TheVariants.{Opens, Refuses as Opens-not}
 use Rattle.desk.specs.declared.reply.Taking.{Taking}
-use Rattle.desk.specs.declared.reply.ReplyJudged.{ReplyJudged}
-use Rattle.desk.specs.declared.reply.ReplyJudged.TheVariants.{Takes, Refuses}
 use Rattle.desk.specs.declared.step.Progress.{Progress}
-use Rattle.desk.specs.declared.step.Stepped.{Stepped}
-use Rattle.desk.specs.declared.step.Stepped.TheVariants.{Ended, OutOfPlace, Full, Taken}
+use Rattle.desk.specs.declared.step.StepRefusal.{StepRefusal}
+use Rattle.desk.specs.declared.step.StepRefusal.TheVariants.{Ended, OutOfPlace, Full}
 use Rattle.desk.specs.Limits.{seat_count, most_cells, cell_size}
 use Rattle.desk.specs.Below.{first}
 use Rattle.desk.specs.Key.{request_key, key_in}
 use Rattle.desk.specs.Step.{advanced, step}
-use Rattle.desk.specs.Seats.{zero_seat, lowest_clear}
-use Rattle.desk.specs.Calls.{what_is_given, letter_q, with_cell, open_refused, reply_refused}
+use Rattle.desk.specs.Seats.{lowest_clear}
+use Rattle.desk.specs.Calls.{what_is_given, letter_q, with_cell, open_refused, reply_refused, result_told}
 use Rattle.desk.specs.inside.Columns.{key_number, key_is}
 
--- what a step returns if it is refused
-abbrev pub not_opened : Desk → OpenRefusal → OpenStep
-not_opened d f = record { answer = not_opened_law f; desk = d; at = seat_count; seat = zero_seat }
+abbrev pub open_judged : Result Opening OpenRefusal → Told Opening
+open_judged = result_told open_refused
 
-abbrev pub not_taken : Desk → ReplyRefusal → ReplyStep
-not_taken d f = record { answer = not_taken_law f; desk = d; at = seat_count; seat = zero_seat }
+abbrev pub reply_judged : Result Taking ReplyRefusal → Told Taking
+reply_judged = result_told reply_refused
 
-abbrev pub open_judged : OpenJudged → Told Opening
-open_judged (Opens o) = gives o
-open_judged (Opens-not f) = refuses (open_refused f)
+abbrev pub step_refused : StepRefusal → Refusal
+step_refused Ended = ENDED
+step_refused OutOfPlace = OUT_OF_PLACE
+step_refused Full = FULL
 
-abbrev pub reply_judged : ReplyJudged → Told Taking
-reply_judged (Takes t) = gives t
-reply_judged (Refuses f) = refuses (reply_refused f)
-
-abbrev pub step_told : Progress → ℕ → Stepped → Told Progress
-step_told p status Ended = refuses ENDED
-step_told p status OutOfPlace = refuses OUT_OF_PLACE
-step_told p status Full = refuses FULL
-step_told p status Taken = gives (advanced p status)
-
-abbrev pub is_taken : Stepped → Bool
-is_taken Ended = false
-is_taken OutOfPlace = false
-is_taken Full = false
-is_taken Taken = true
+abbrev pub step_told : Progress → ℕ → Result (Unit {0}) StepRefusal → Told Progress
+step_told p status (Ok taken) = gives (advanced p status)
+step_told p status (Err f) = refuses (step_refused f)
 
 -- ---- the tests of a call, over columns
 

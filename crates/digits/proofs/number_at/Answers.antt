@@ -1,57 +1,49 @@
 -- `digits::number_at` meets its contract: each turn is one step of `number_from`.
 use native.Mathlib.Omega.{arith}
-use mathlib.Core.Path.{sym, ◌∙◌}
-use Rattle.digits.proofs.Reading.{some_width, none_width, over_width, no_room, step_low, step_high, step_on, step_done, some_room, nine_digits, grown}
+use mathlib.Core.Path.{◌≡◌, sym, ◌∙◌}
+use native.Mathlib.Nat.{add-zero, sub-zero, add_assoc, sub-add-eq}
+use Prim.Native.Nat.{◌+◌, ◌<◌}
+use lib.ListN.{get_or}
+use Rattle.digits.proofs.Reading.{some_width, no_width, no_room, of_part, step_off, step_on, step_done, grown}
 use Rattle.digits.proofs.number_at.Goals as goal
 
 pub returns-then-width-lt1 : goal.returns-then-width-lt1
-returns-then-width-lt1 c = sym (none_width _ _ _ c.if-width-lt1.true)
+returns-then-width-lt1 c = no_width _ _ _ c.then-width-lt1.either
 
-pub returns-then-width-gt10 : goal.returns-then-width-gt10
-returns-then-width-gt10 c = sym (over_width _ _ _ c.if-width-gt10.true)
+pub returns-in_err-get : goal.returns-in_err-get
+returns-in_err-get c = c.from_residual.ensures ∙ sym (no_room _ _ _ (omega arith) (omega arith) (omega (arith, c.in_err-get.ensures.lookup)))
 
-pub returns-then-s-width : goal.returns-then-s-width
-returns-then-s-width c = sym (no_room _ _ _ (omega arith) (omega arith) (omega arith))
+pub returns-in_err-b-items : goal.returns-in_err-b-items
+returns-in_err-b-items c =
+    c.from_residual-in_err-b-items.ensures
+    ∙ sym (no_room _ _ _ (omega arith) (omega arith) (omega (arith, c.in_ok-get.ensures.lookup, c.in_err-b-items.ensures.lookup)))
 
-pub returns-then-s-width-2 : goal.returns-then-s-width-2
-returns-then-s-width-2 c = sym (no_room _ _ _ (omega arith) (omega arith) (omega arith))
+pub loop-b-init : goal.loop-b-init
+loop-b-init c = record { read = rw (add-zero c.args.at, sub-zero c.args.width) (some_width _ _ _ (omega arith) (omega arith)); small = omega arith }
 
-pub loop-left-init : goal.loop-left-init
-loop-left-init c = (some_width _ _ _ (omega arith) (omega arith), some_room _, omega arith, omega arith)
+pub returns-then-not-is_ascii_digit : goal.returns-then-not-is_ascii_digit
+returns-then-not-is_ascii_digit c =
+    let a = c.args in
+    let i = c.loop-b.b-index in
+    let b = c.in_ok-b-items.b-items.now in
+    let l : i < a.width = omega (arith, c.in_ok-b-items.ensures.lookup) in
+    let e : get_or b i 0 ≡ get_or a.s.now (a.at + i) 0 =
+    of_part a.s.now c.in_ok-get.field-0.now b a.at a.width i c.in_ok-get.ensures.lookup.0.2 c.in_ok-b-items.ensures.lookup.0.2 l in
+    sym (c.loop-b.invariant.read ∙ step_off _ _ _ _ _ (omega arith) e (sym c.if-not-is_ascii_digit.ensures.value))
 
-pub returns-then-b-lt48 : goal.returns-then-b-lt48
-returns-then-b-lt48 c =
-    sym (c.loop-left.invariant.0 ∙ step_low _ _ _ _ _ c.loop-left-test.true c.wide-b.ensures c.if-b-lt48.true)
-
-pub returns-then-b-gt57 : goal.returns-then-b-gt57
-returns-then-b-gt57 c =
-    sym (c.loop-left.invariant.0 ∙ step_high _ _ _ _ _ c.loop-left-test.true c.wide-b.ensures c.if-b-gt57.true)
-
-pub overflow_mul-v : goal.overflow_mul-v
-overflow_mul-v c =
-    let h = nine_digits _ _ c.loop-left-test.true c.loop-left.invariant.1 in omega arith
-
-pub overflow_add-v : goal.overflow_add-v
-overflow_add-v c =
-    let h = nine_digits _ _ c.loop-left-test.true c.loop-left.invariant.1 in omega arith
-
-pub overflow_add-p : goal.overflow_add-p
-overflow_add-p c = omega arith
-
-pub overflow_sub-left : goal.overflow_sub-left
-overflow_sub-left c = omega arith
-
-pub loop-left-smaller : goal.loop-left-smaller
-loop-left-smaller c = omega arith
-
-pub loop-left-preserved : goal.loop-left-preserved
-loop-left-preserved c =
-    let l = c.loop-left in (
-      l.invariant.0 ∙ step_on _ _ _ _ _ c.loop-left-test.true c.wide-b.ensures c.if-b-lt48.false c.if-b-gt57.false,
-      grown l.v l.left _ (omega arith) (omega arith) (omega arith) l.invariant.1,
-      omega arith,
-      omega arith,
-    )
+pub loop-b-preserved : goal.loop-b-preserved
+loop-b-preserved c =
+    let a = c.args in
+    let i = c.loop-b.b-index in
+    let b = c.in_ok-b-items.b-items.now in
+    let l : i < a.width = omega (arith, c.in_ok-b-items.ensures.lookup) in
+    let e : get_or b i 0 ≡ get_or a.s.now (a.at + i) 0 =
+    of_part a.s.now c.in_ok-get.field-0.now b a.at a.width i c.in_ok-get.ensures.lookup.0.2 c.in_ok-b-items.ensures.lookup.0.2 l in
+    let d = c.if-not-is_ascii_digit.ensures.cases in
+    record {
+      read = rw (← add_assoc a.at i 1, sub-add-eq a.width i 1) (c.loop-b.invariant.read ∙ step_on _ _ _ _ _ (omega arith) e (omega (arith, d)) (omega (arith, d)));
+      small = grown c.loop-b.v i _ (omega (arith, d)) c.loop-b.invariant.small;
+    }
 
 pub returns : goal.returns
-returns c = sym (c.loop-left.invariant.0 ∙ step_done _ _ _ _ c.loop-left-test.false)
+returns c = sym (c.loop-b.invariant.read ∙ step_done _ _ _ _ (omega (arith, c.in_ok-b-items.ensures.lookup)))

@@ -7,14 +7,12 @@ use Rattle.finder.proofs.Quiet.{empty, one, joined}
 use Rattle.finder.proofs.any_stop.Goals as goal
 
 pub loop-i-init : goal.loop-i-init
-loop-i-init c = (omega arith, λ e. empty)
+loop-i-init c = λ e. empty
 
 pub loop-i-preserved : goal.loop-i-preserved
-loop-i-preserved c = (
-  omega arith,
-  λ e. let o = or_false c.loop-i.any c.is_stop-any.result e in
-      joined (c.loop-i.invariant.1 o.0) (one (omega arith) (sym c.is_stop-any.ensures ∙ o.1)),
-)
+loop-i-preserved c =
+    λ e. let o = or_false c.loop-i.any c.is_stop-any.result e in
+    joined (c.loop-i.invariant o.0) (one (omega arith) (sym c.is_stop-any.ensures ∙ o.1))
 
 pub returns : goal.returns
-returns c = λ e. let m : c.loop-i.i ≡ block_size = omega arith in rw m at (c.loop-i.invariant.1 e)
+returns c = λ e. let m : c.loop-i.i ≡ block_size = omega arith in rw m at (c.loop-i.invariant e)

@@ -1,5 +1,5 @@
 -- `finder::frame_at` meets its contract: the answer is the same, seen from each byte that was passed.
-use Prim.Native.Nat.{◌-◌, ◌≤◌, ◌<◌}
+use Prim.Native.Nat.{◌≤◌, ◌<◌}
 use mathlib.Core.Path.{◌≡◌}
 use lib.ListN.{length}
 use Rattle.finder.specs.Pieces.{found_from}
@@ -8,6 +8,3 @@ use Rattle.finder.proofs.frame_at.Given as goal
 
 abbrev pub invariant-loop-i : goal.invariant-loop-i
 invariant-loop-i l = (l.start < l.i) × (l.i ≤ length l.s) × (found_from l.s l.start ≡ answer_at l.s l.start l.i)
-
-abbrev pub decreases-loop-i : goal.decreases-loop-i
-decreases-loop-i l = length l.s - l.i

@@ -1,7 +1,5 @@
 -- The values of a frame's fields as the code holds them, wrong or not.
-use Rattle.std.specs.Prelude.{ℕ, List, get_or}
-use Rattle.digits.specs.declared.Number.{Number}
-use Rattle.digits.specs.declared.Number.TheVariants.{Is, Wrong}
+use Rattle.std.specs.Prelude.{ℕ, List, get_or, Option, Some, None}
 use Rattle.digits.specs.Digits.{number_at}
 use Rattle.times.specs.Clock.{clock}
 use Rattle.frames.specs.declared.request.StaticRequest.{StaticRequest}
@@ -11,9 +9,9 @@ use Rattle.frames.specs.declared.dynamic.DynamicRequest.{DynamicRequest}
 abbrev pub no_number : ℕ
 no_number = 4294967295
 
-abbrev pub or_none : Number → ℕ
-or_none (Is v) = v
-or_none Wrong = no_number
+abbrev pub or_none : Option ℕ → ℕ
+or_none (Some v) = v
+or_none None = no_number
 
 abbrev pub request_at : List ℕ → StaticRequest
 request_at s =

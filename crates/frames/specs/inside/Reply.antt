@@ -1,17 +1,10 @@
 -- A reply as the code reads, checks and stores it.
-use Rattle.std.specs.Prelude.{ℕ, List, [], ◌∷◌, ◌++◌, cond, eqb, get_or}
+use Rattle.std.specs.Prelude.{ℕ, List, [], ◌∷◌, ◌++◌, get_or}
 use Rattle.digits.specs.Digits.{digits, number_at}
-use Rattle.digits.specs.Refusals.{FIELD}
-use Rattle.digits.specs.Told.{Told, gives, tried}
-use Rattle.frames.specs.declared.refusals.Place.{Place}
-use Rattle.frames.specs.declared.refusals.ReadRefusal.{ReadRefusal}
-use Rattle.frames.specs.declared.refusals.ReadRefusal.TheVariants.{Field}
-use Rattle.frames.specs.declared.refusals.ReadVerdict.TheVariants.{Read, Refused}
 use Rattle.frames.specs.declared.reply.ReplyHead.{ReplyHead}
 use Rattle.frames.specs.declared.reply.StaticReply.{StaticReply}
-use Rattle.frames.specs.declared.reply.ReplyRead.{ReplyRead}
-use Rattle.frames.specs.declared.reply.ReplyLabel.{ReplyLabel}
 use Rattle.frames.specs.declared.timing.TimingKind.{TimingKind}
+use Rattle.frames.specs.declared.timing.RawBytes.{RawBytes}
 use Rattle.frames.specs.declared.timing.Seen.{Seen}
 use Rattle.frames.specs.Rules.{between, up_to, is_raw, is_requester}
 use Rattle.frames.specs.Status.{is_status}
@@ -19,27 +12,21 @@ use Rattle.frames.specs.Shape.{bytes_of}
 use Rattle.frames.specs.Layout.{wrong_unless}
 use Rattle.frames.specs.Kind.{letter_r, CR}
 use Rattle.frames.specs.Timing.{timing_kind}
-use Rattle.frames.specs.Reply.{is_letter, is_reply_channel, least_run, zero_reply, label_of}
+use Rattle.frames.specs.Reply.{is_letter, is_reply_channel, least_run}
 use Rattle.frames.specs.inside.Held.{or_none}
 use Rattle.frames.specs.inside.Timing.{seen_of, timing_text}
 use Rattle.frames.specs.inside.Spoiled.{reply_byte}
-
-abbrev pub refused_by : ReadRefusal → ReplyRead
-refused_by f = record { verdict = Refused f; reply = zero_reply }
-
-abbrev pub wrong_place : ℕ → ℕ → Place
-wrong_place wrong spoiled = record { field = wrong; spoiled = spoiled }
-
-unfoldable pub judged_as : StaticReply → ℕ → ℕ → ReplyRead
-judged_as r wrong spoiled = cond (eqb wrong 0) (record { verdict = Read; reply = r }) (refused_by (Field (wrong_place wrong spoiled)))
 
 -- the parts before time and date, as they are in a frame
 abbrev pub head_at : List ℕ → ReplyHead
 head_at s =
     record { address = get_or s 2 0; program = get_or s 3 0; mode = get_or s 4 0; status = get_or s 5 0; requester = get_or s 6 0; number = or_none (number_at s 7 5); bib = or_none (number_at s 12 5); group = or_none (number_at s 17 3); run = or_none (number_at s 20 3); physical = or_none (number_at s 23 3); channel = or_none (number_at s 26 3); information = get_or s 29 0 }
 
+abbrev pub raw_of : StaticReply → RawBytes
+raw_of r = record { time = r.raw_time; date = r.raw_date }
+
 abbrev pub reply_of : ReplyHead → Seen → List ℕ → StaticReply
-reply_of h seen spare = record { head = h; timing = seen.timing; raw_time = seen.raw_time; raw_date = seen.raw_date; spare = spare }
+reply_of h seen spare = record { head = h; timing = seen.timing; raw_time = seen.raw.time; raw_date = seen.raw.date; spare = spare }
 
 unfoldable pub head_wrong : ReplyHead → ℕ → ℕ
 head_wrong h rest =
@@ -63,12 +50,6 @@ wrong_at s = head_wrong (head_at s) (seen_in s).wrong
 
 abbrev pub spoiled_byte : List ℕ → ℕ
 spoiled_byte s = reply_byte (kind_at s) s (wrong_at s)
-
-unfoldable pub fields_read : List ℕ → ReplyRead
-fields_read s = judged_as (reply_at s) (wrong_at s) (spoiled_byte s)
-
-unfoldable pub fields_checked : List ℕ → Told ReplyLabel
-fields_checked s = tried (eqb (wrong_at s) 0) (FIELD (wrong_at s) (spoiled_byte s)) (gives (label_of (reply_at s)))
 
 abbrev pub head_text : ReplyHead → List ℕ
 head_text h =

@@ -1,9 +1,7 @@
 -- The tests of a reply's time and date, what a frame holds of them, and how they are stored.
-use Rattle.std.specs.Prelude.{ℕ, List, ◌∷◌, ◌++◌, ◌&&◌, ℤ, get_or, replicate}
+use Rattle.std.specs.Prelude.{ℕ, List, ◌∷◌, ◌++◌, ◌&&◌, ℤ, get_or, replicate, Option, Some, None}
 use Rattle.digits.specs.Digits.{digits, number_at}
 use Rattle.times.specs.declared.net.NetParts.{NetParts}
-use Rattle.times.specs.declared.net.NetValue.{NetValue}
-use Rattle.times.specs.declared.net.NetValue.TheVariants.{Is, Wrong}
 use Rattle.times.specs.Clock.{clock, is_time}
 use Rattle.times.specs.Day.{real_day}
 use Rattle.times.specs.Net.{is_net, net_parts, net_value}
@@ -11,6 +9,7 @@ use Rattle.frames.specs.declared.timing.TimingKind.{TimingKind}
 use Rattle.frames.specs.declared.timing.TimingKind.TheVariants.{Clock as clock_kind, Net as net_kind, Raw as raw_kind}
 use Rattle.frames.specs.declared.timing.Timing.{Timing}
 use Rattle.frames.specs.declared.timing.Timing.TheVariants.{Clock, Net, Raw}
+use Rattle.frames.specs.declared.timing.RawBytes.{RawBytes}
 use Rattle.frames.specs.declared.timing.Seen.{Seen}
 use Rattle.frames.specs.Shape.{bytes_of}
 use Rattle.frames.specs.Layout.{wrong_unless}
@@ -60,17 +59,20 @@ timing_wrong raw_kind timing raw_time raw_date spare = as_raw timing (raw_wrong 
 
 -- ---- a frame's time and date
 
+abbrev pub raw_at : List ℕ → RawBytes
+raw_at s = record { time = bytes_of s 30 10; date = bytes_of s 40 8 }
+
 unfoldable pub seen_clock : List ℕ → Seen
 seen_clock s =
     let ticks = or_none (clock.got s 30) in
     let day = or_none (number_at s 40 2) in
     let month = or_none (number_at s 42 2) in
     let year = or_none (number_at s 44 4) in
-    record { timing = Clock ticks day month year; raw_time = replicate 10 0; raw_date = replicate 8 0; wrong = clock_wrong ticks day month year (spare_wrong (bytes_of s 48 2) 0) }
+    record { timing = Clock ticks day month year; raw = record { time = replicate 10 0; date = replicate 8 0 }; wrong = clock_wrong ticks day month year (spare_wrong (bytes_of s 48 2) 0) }
 
-abbrev pub valued : NetValue → Timing
-valued (Is value) = Net value
-valued Wrong = Raw
+abbrev pub valued : Option ℤ → Timing
+valued (Some value) = Net value
+valued None = Raw
 
 abbrev pub net_timing : NetParts → Timing
 net_timing p = valued (net_value p)
@@ -80,11 +82,11 @@ seen_net s =
     let time = or_none (clock.got s 30) in
     let sign = get_or s 40 0 in
     let days = or_none (number_at s 41 7) in
-    record { timing = net_timing (net_of time sign days); raw_time = replicate 10 0; raw_date = replicate 8 0; wrong = net_wrong time sign days (spare_wrong (bytes_of s 48 2) 0) }
+    record { timing = net_timing (net_of time sign days); raw = record { time = replicate 10 0; date = replicate 8 0 }; wrong = net_wrong time sign days (spare_wrong (bytes_of s 48 2) 0) }
 
 unfoldable pub seen_raw : List ℕ → Seen
 seen_raw s =
-    record { timing = Raw; raw_time = bytes_of s 30 10; raw_date = bytes_of s 40 8; wrong = raw_wrong (bytes_of s 30 10) (bytes_of s 40 8) (spare_wrong (bytes_of s 48 2) 0) }
+    record { timing = Raw; raw = raw_at s; wrong = raw_wrong (bytes_of s 30 10) (bytes_of s 40 8) (spare_wrong (bytes_of s 48 2) 0) }
 
 abbrev pub seen_of : TimingKind → List ℕ → Seen
 seen_of clock_kind s = seen_clock s

@@ -1,5 +1,5 @@
 -- `lines::next_line` meets its contract: the line ends where the line from the byte at i on ends.
-use Prim.Native.Nat.{◌-◌}
+use Prim.Native.Nat.{◌≤◌, max}
 use mathlib.Core.Path.{◌≡◌}
 use lib.ListN.{length}
 use Rattle.lines.specs.Places.{line_at}
@@ -7,7 +7,4 @@ use Rattle.lines.proofs.PlaceLaws.{begun_at}
 use Rattle.lines.proofs.next_line.Given as goal
 
 abbrev pub invariant-loop-i : goal.invariant-loop-i
-invariant-loop-i l = line_at l.s l.at ≡ begun_at l.at (line_at l.s l.i)
-
-abbrev pub decreases-loop-i : goal.decreases-loop-i
-decreases-loop-i l = length l.s - l.i
+invariant-loop-i l = (l.i ≤ max l.at (length l.s)) × (line_at l.s l.at ≡ begun_at l.at (line_at l.s l.i))

@@ -1,8 +1,6 @@
 -- The lines of a page as tokens: what each line says, how it is written, and which line would say it.
-use Rattle.std.specs.Prelude.{ℕ, zero, suc, ◌+◌, ◌-◌, ◌%◌, Bool, true, cond, ◌&&◌, List, [], ◌∷◌, ◌++◌, length, ◌==◌, nat_le, nat_lt, slice_index}
+use Rattle.std.specs.Prelude.{ℕ, zero, suc, ◌+◌, ◌-◌, ◌%◌, Bool, true, cond, ◌&&◌, List, [], ◌∷◌, ◌++◌, length, ◌==◌, nat_le, nat_lt, slice_index, Option, unwrap_or}
 use Rattle.std.proofs.Math.Seq.{slice}
-use Rattle.digits.specs.declared.Number.{Number}
-use Rattle.digits.specs.declared.Number.TheVariants.{Is, Wrong}
 use Rattle.digits.specs.Digits.{number_at}
 use Rattle.text.specs.Address.{shown_address}
 use Rattle.lines.specs.Lines.{Line, every}
@@ -28,9 +26,9 @@ pub data Token : Type 0 where
 abbrev pub middle_size : ℕ
 middle_size = 49
 
-abbrev pub value_of : Number → ℕ
-value_of (Is n) = n
-value_of Wrong = 0
+-- what is guessed of what may be no number
+abbrev pub value_of : Option ℕ → ℕ
+value_of n = unwrap_or n 0
 
 module _ (v : Version) where
   abbrev pub write : Token → Line

@@ -3,8 +3,8 @@ use Rattle.desk.specs.Capture.{dynamic_fate}
 use mathlib.Core.Path.{ap}
 use Rattle.desk.proofs.capture.dynamic_fate.Goals as goal
 
-pub returns-in-Request : goal.returns-in-Request
-returns-in-Request c = ap dynamic_fate (rw c.in-Request.is at c.read_dynamic.ensures)
+pub returns-in-Ok : goal.returns-in-Ok
+returns-in-Ok c = ap dynamic_fate (rw c.in-Ok.is at c.read_dynamic.ensures)
 
-pub returns-in-Refused : goal.returns-in-Refused
-returns-in-Refused c = ap dynamic_fate (rw c.in-Refused.is at c.read_dynamic.ensures)
+pub returns-in-Err : goal.returns-in-Err
+returns-in-Err c = ap dynamic_fate (rw c.in-Err.is at c.read_dynamic.ensures)

@@ -14,24 +14,24 @@ loop-i-init c =
     let a = c.args in
     let e = c.least-limit.ensures in
     let f = c.capacity.ensures in
-    (rw (e, f) (omega arith), (omega arith, from_none a.marks.now a.seat a.from))
+    (rw (e, f) (omega arith), from_none a.marks.now a.seat a.from)
 
 pub returns-then-marks-i : goal.returns-then-marks-i
 unfolding next_held
 returns-then-marks-i c =
     let a = c.args in
     found_cell a.marks.now a.seat a.from (held_cells a.desk.count a.cells.now a.marks.now) c.least-limit.result
-    (c.least-limit.ensures ∙ ap (min a.desk.count) c.capacity.ensures) c.loop-i.i (search rules) c.loop-i.invariant.1.0 c.loop-i.invariant.1.1 c.if-marks-i.true
+    (c.least-limit.ensures ∙ ap (min a.desk.count) c.capacity.ensures) c.loop-i.i (search rules) (search rules) c.loop-i.invariant.1 c.if-marks-i.true
 
 pub loop-i-preserved : goal.loop-i-preserved
 loop-i-preserved c =
     let a = c.args in
     let v = c.loop-i.invariant in
-    (v.0, (search rules, not_here a.marks.now a.seat a.from c.loop-i.i v.1.1 c.if-marks-i.false))
+    (v.0, not_here a.marks.now a.seat a.from c.loop-i.i v.1 c.if-marks-i.false)
 
 pub returns : goal.returns
 unfolding next_held
 returns c =
     let a = c.args in
     none_found a.marks.now a.seat a.from (held_cells a.desk.count a.cells.now a.marks.now) c.least-limit.result
-    (c.least-limit.ensures ∙ ap (min a.desk.count) c.capacity.ensures) c.loop-i.i (search rules) c.loop-i.invariant.1.1
+    (c.least-limit.ensures ∙ ap (min a.desk.count) c.capacity.ensures) c.loop-i.i (search rules) c.loop-i.invariant.1

@@ -2,4 +2,4 @@
 use Rattle.desk.proofs.opening.open.Goals as goal
 
 pub returns : goal.returns
-returns c = rw c.with_seat.ensures c.open_step-step.ensures.1
+returns c = rw c.on.ensures c.open_step.ensures.1

@@ -9,4 +9,4 @@ pub returns : goal.returns
 returns c =
     let a = c.args in
     let p = c.requires in
-    record { bits = refl; count = refl; cells = c.put_bytes.ensures ∙ with_cell_law a.cells.now (a.desk.count * cell_size) a.frame.now p.cell p.frame; marks = refl }
+    record { bits = refl; count = refl; cells = c.put_all.ensures ∙ with_cell_law a.cells.now (a.desk.count * cell_size) a.frame.now p.cell p.frame; marks = refl }

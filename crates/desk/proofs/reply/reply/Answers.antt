@@ -2,4 +2,4 @@
 use Rattle.desk.proofs.reply.reply.Goals as goal
 
 pub returns : goal.returns
-returns c = rw c.with_seat.ensures c.reply_step-step.ensures.1
+returns c = rw c.on.ensures c.reply_step.ensures.1

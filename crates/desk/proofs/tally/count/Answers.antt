@@ -1,40 +1,38 @@
 -- `desk::tally::count` meets its contract.
+use mathlib.Core.Path.{sym, ◌∙◌}
 use native.Mathlib.Omega.{arith}
-use lib.Dec.{ltb}
-use borrow.Author.Tests.{ltb-true}
-use Rattle.digits.proofs.Tests.{and_l, and_r}
-use Rattle.desk.proofs.TallyLaws.{counts, counts_no_more, counts_nothing}
+use Rattle.desk.proofs.TallyLaws.{counts, counts_no_more, counts_nothing, row_below, column_below}
 use Rattle.desk.proofs.tally.count.Goals as goal
 
 pub offset_bounds-tally-row : goal.offset_bounds-tally-row
-offset_bounds-tally-row c = omega (arith, ltb-true c.letter_place-row.result 33 (and_l (ltb c.letter_place-row.result 33) (ltb c.status_place-column.result 3) c.if-row-column.true))
+offset_bounds-tally-row c = let h = row_below c.args.tally.now c.args.letter c.args.status c.in-Some.row c.in-Some.column (sym c.entry.ensures ∙ c.in-Some.is) in omega (arith, h)
 
 pub offset_bounds-tally-column : goal.offset_bounds-tally-column
-offset_bounds-tally-column c = omega (arith, ltb-true c.status_place-column.result 3 (and_r (ltb c.letter_place-row.result 33) (ltb c.status_place-column.result 3) c.if-row-column.true))
+offset_bounds-tally-column c = let h = column_below c.args.tally.now c.args.letter c.args.status c.in-Some.row c.in-Some.column (sym c.entry.ensures ∙ c.in-Some.is) in omega (arith, h)
 
 pub bounds-tally-row : goal.bounds-tally-row
-bounds-tally-row c = ltb-true c.letter_place-row.result 33 (and_l (ltb c.letter_place-row.result 33) (ltb c.status_place-column.result 3) c.if-row-column.true)
+bounds-tally-row c = let h = row_below c.args.tally.now c.args.letter c.args.status c.in-Some.row c.in-Some.column (sym c.entry.ensures ∙ c.in-Some.is) in omega (arith, h)
 
 pub bounds-tally-column : goal.bounds-tally-column
-bounds-tally-column c = ltb-true c.status_place-column.result 3 (and_r (ltb c.letter_place-row.result 33) (ltb c.status_place-column.result 3) c.if-row-column.true)
+bounds-tally-column c = let h = column_below c.args.tally.now c.args.letter c.args.status c.in-Some.row c.in-Some.column (sym c.entry.ensures ∙ c.in-Some.is) in omega (arith, h)
 
 pub offset_bounds-tally-row-then-n-lt4294967295 : goal.offset_bounds-tally-row-then-n-lt4294967295
-offset_bounds-tally-row-then-n-lt4294967295 c = omega (arith, ltb-true c.letter_place-row.result 33 (and_l (ltb c.letter_place-row.result 33) (ltb c.status_place-column.result 3) c.if-row-column.true))
+offset_bounds-tally-row-then-n-lt4294967295 c = let h = row_below c.args.tally.now c.args.letter c.args.status c.in-Some.row c.in-Some.column (sym c.entry.ensures ∙ c.in-Some.is) in omega (arith, h)
 
 pub offset_bounds-tally-column-then-n-lt4294967295 : goal.offset_bounds-tally-column-then-n-lt4294967295
-offset_bounds-tally-column-then-n-lt4294967295 c = omega (arith, ltb-true c.status_place-column.result 3 (and_r (ltb c.letter_place-row.result 33) (ltb c.status_place-column.result 3) c.if-row-column.true))
+offset_bounds-tally-column-then-n-lt4294967295 c = let h = column_below c.args.tally.now c.args.letter c.args.status c.in-Some.row c.in-Some.column (sym c.entry.ensures ∙ c.in-Some.is) in omega (arith, h)
 
 pub bounds-tally-row-then-n-lt4294967295 : goal.bounds-tally-row-then-n-lt4294967295
-bounds-tally-row-then-n-lt4294967295 c = ltb-true c.letter_place-row.result 33 (and_l (ltb c.letter_place-row.result 33) (ltb c.status_place-column.result 3) c.if-row-column.true)
+bounds-tally-row-then-n-lt4294967295 c = let h = row_below c.args.tally.now c.args.letter c.args.status c.in-Some.row c.in-Some.column (sym c.entry.ensures ∙ c.in-Some.is) in omega (arith, h)
 
 pub bounds-tally-column-then-n-lt4294967295 : goal.bounds-tally-column-then-n-lt4294967295
-bounds-tally-column-then-n-lt4294967295 c = ltb-true c.status_place-column.result 3 (and_r (ltb c.letter_place-row.result 33) (ltb c.status_place-column.result 3) c.if-row-column.true)
+bounds-tally-column-then-n-lt4294967295 c = let h = column_below c.args.tally.now c.args.letter c.args.status c.in-Some.row c.in-Some.column (sym c.entry.ensures ∙ c.in-Some.is) in omega (arith, h)
 
 pub returns-then-n-lt4294967295 : goal.returns-then-n-lt4294967295
-returns-then-n-lt4294967295 c = counts _ _ _ _ _ c.letter_place-row.ensures c.status_place-column.ensures c.if-row-column.true (omega arith)
+returns-then-n-lt4294967295 c = counts c.args.tally.now c.args.letter c.args.status _ _ (sym c.entry.ensures ∙ c.in-Some.is) (omega arith)
 
 pub returns-else-n-lt4294967295 : goal.returns-else-n-lt4294967295
-returns-else-n-lt4294967295 c = counts_no_more _ _ _ _ _ c.letter_place-row.ensures c.status_place-column.ensures (omega arith)
+returns-else-n-lt4294967295 c = counts_no_more c.args.tally.now c.args.letter c.args.status _ _ (sym c.entry.ensures ∙ c.in-Some.is) (omega arith)
 
-pub returns-else-row-column : goal.returns-else-row-column
-returns-else-row-column c = counts_nothing _ _ _ _ _ c.letter_place-row.ensures c.status_place-column.ensures c.if-row-column.false
+pub returns-in_default : goal.returns-in_default
+returns-in_default c = counts_nothing c.args.tally.now c.args.letter c.args.status (sym c.entry.ensures ∙ c.in_default.is)

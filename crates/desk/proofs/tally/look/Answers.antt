@@ -1,25 +1,23 @@
 -- `desk::tally::look` meets its contract.
+use mathlib.Core.Path.{sym, ◌∙◌}
 use native.Mathlib.Omega.{arith}
-use lib.Dec.{ltb}
-use borrow.Author.Tests.{ltb-true}
-use Rattle.digits.proofs.Tests.{and_l, and_r}
-use Rattle.desk.proofs.TallyLaws.{looked, not_looked}
+use Rattle.desk.proofs.TallyLaws.{looked, not_looked, row_below, column_below}
 use Rattle.desk.proofs.tally.look.Goals as goal
 
 pub offset_bounds-tally-i : goal.offset_bounds-tally-i
-offset_bounds-tally-i c = omega (arith, ltb-true c.letter_place-i.result 33 (and_l (ltb c.letter_place-i.result 33) (ltb c.status_place-j.result 3) c.if-i-j.true))
+offset_bounds-tally-i c = let h = row_below c.args.tally.now c.args.letter c.args.status c.in-Some.i c.in-Some.j (sym c.entry.ensures ∙ c.in-Some.is) in omega (arith, h)
 
 pub offset_bounds-tally-j : goal.offset_bounds-tally-j
-offset_bounds-tally-j c = omega (arith, ltb-true c.status_place-j.result 3 (and_r (ltb c.letter_place-i.result 33) (ltb c.status_place-j.result 3) c.if-i-j.true))
+offset_bounds-tally-j c = let h = column_below c.args.tally.now c.args.letter c.args.status c.in-Some.i c.in-Some.j (sym c.entry.ensures ∙ c.in-Some.is) in omega (arith, h)
 
 pub bounds-tally-i : goal.bounds-tally-i
-bounds-tally-i c = ltb-true _ _ (and_l (ltb c.letter_place-i.result 33) (ltb c.status_place-j.result 3) c.if-i-j.true)
+bounds-tally-i c = let h = row_below c.args.tally.now c.args.letter c.args.status c.in-Some.i c.in-Some.j (sym c.entry.ensures ∙ c.in-Some.is) in omega (arith, h)
 
 pub bounds-tally-j : goal.bounds-tally-j
-bounds-tally-j c = ltb-true _ _ (and_r (ltb c.letter_place-i.result 33) (ltb c.status_place-j.result 3) c.if-i-j.true)
+bounds-tally-j c = let h = column_below c.args.tally.now c.args.letter c.args.status c.in-Some.i c.in-Some.j (sym c.entry.ensures ∙ c.in-Some.is) in omega (arith, h)
 
-pub returns-then-i-j : goal.returns-then-i-j
-returns-then-i-j c = looked _ _ _ _ _ c.letter_place-i.ensures c.status_place-j.ensures c.if-i-j.true
+pub returns-in-Some : goal.returns-in-Some
+returns-in-Some c = looked c.args.tally.now c.args.letter c.args.status c.in-Some.i c.in-Some.j (sym c.entry.ensures ∙ c.in-Some.is)
 
-pub returns-else-i-j : goal.returns-else-i-j
-returns-else-i-j c = not_looked _ _ _ _ _ c.letter_place-i.ensures c.status_place-j.ensures c.if-i-j.false
+pub returns-in-None : goal.returns-in-None
+returns-in-None c = not_looked c.args.tally.now c.args.letter c.args.status (sym c.entry.ensures ∙ c.in-None.is)

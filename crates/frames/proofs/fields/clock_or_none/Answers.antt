@@ -1,16 +1,9 @@
 -- `frames::fields::clock_or_none` meets its contract: the ticks of a day fit in 32 bits.
-use mathlib.Core.Path.{sym, ap, ◌∙◌}
-use borrow.Author.Rules.{rules}
+use mathlib.Core.Path.{◌∙◌, sym}
+use native.Mathlib.Omega.{arith}
 use Rattle.times.proofs.ClockLaws.{time_below}
-use Rattle.frames.specs.inside.Held.{or_none}
+use Rattle.frames.proofs.RuleLaws.{if_found}
 use Rattle.frames.proofs.fields.clock_or_none.Goals as goal
 
-pub overflow_cast-result : goal.overflow_cast-result
-overflow_cast-result c =
-    let h = time_below _ _ _ (sym c.clock_at.ensures ∙ c.in-Is.is) in search rules
-
-pub returns-in-Is : goal.returns-in-Is
-returns-in-Is c = ap or_none (sym c.in-Is.is ∙ c.clock_at.ensures)
-
-pub returns-in-Wrong : goal.returns-in-Wrong
-returns-in-Wrong c = ap or_none (sym c.in-Wrong.is ∙ c.clock_at.ensures)
+pub or_none-requires : goal.or_none-requires
+or_none-requires c = if_found _ (λ v e. let h = time_below _ _ _ (sym c.clock_at.ensures ∙ e) in omega (arith, h))

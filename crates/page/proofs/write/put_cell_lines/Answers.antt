@@ -1,14 +1,8 @@
 -- `page::write::put_cell_lines` meets its contract.
-use Rattle.std.proofs.Common.{◌≡◌, refl, ◌∙◌, arith, rules}
-use Rattle.text.proofs.PutLaws.{put_none}
+use Rattle.std.proofs.Common.{arith, rules}
 use Rattle.desk.proofs.ClauseLaws.{part_cell}
-use Rattle.page.specs.Page.{cell_lines}
 use Rattle.page.proofs.RowLaws.{cell_long, cells_more}
 use Rattle.page.proofs.write.put_cell_lines.Goals as goal
-
-pub loop-j-init : goal.loop-j-init
-unfolding cell_lines
-loop-j-init c = (search rules, (refl, put_none c.args.out.now c.args.at (omega arith)))
 
 pub overflow_cast-marks : goal.overflow_cast-marks
 overflow_cast-marks c = let h = c.requires.seats c.loop-j.j (search rules) in omega (arith, h)
@@ -21,13 +15,5 @@ put_cell_line-p-requires c =
 pub loop-j-preserved : goal.loop-j-preserved
 loop-j-preserved c =
     let a = c.args in
-    let l = c.loop-j in (
-      search rules,
-      (
-        c.put_cell_line-p.auto.out ∙ l.invariant.1.0,
-        cells_more a.out.now a.at l.p _ _ _ (omega arith) a.cells.now a.marks.now l.j l.invariant.1.1 c.put_cell_line-p.ensures,
-      ),
-    )
-
-pub returns : goal.returns
-returns c = let e : c.loop-j.j ≡ c.args.count = search rules in rw e at c.loop-j.invariant.1.1
+    let l = c.loop-j in
+    cells_more a.out.now a.at l.p _ _ _ (omega arith) a.cells.now a.marks.now l.j l.invariant c.put_cell_line-p.ensures

@@ -1,18 +1,8 @@
--- A row that does not have sixteen seats is no desk; otherwise it is the call by value, stored back.
-use Rattle.std.proofs.Common.{List, subst, ne_eqb}
-use Rattle.desk.specs.declared.state.Seat.{Seat}
-use Rattle.rei2.specs.inside.Core.{CoreOpen}
-use Rattle.rei2.proofs.LentLaws.{done_open, refused_open}
+-- A row that does not have sixteen seats is no desk.
+use Rattle.rei2.proofs.LentLaws.{no_opening}
 use Rattle.rei2.proofs.lent.rei2_open.Goals as goal
 
-pub returns-then-seats-ne-SEATS : goal.returns-then-seats-ne-SEATS
-returns-then-seats-ne-SEATS c =
+pub returns-in_default : goal.returns-in_default
+returns-in_default c =
     let a = c.args in
-    rw c.no_desk.ensures (refused_open a.seats.now a.desk a.cells.now a.marks.now a.tally.now a.frame.now (ne_eqb _ _ c.if-seats-ne-SEATS.true))
-
-pub returns : goal.returns
-returns c =
-    let a = c.args in
-    rw c.put_seat.ensures
-    (done_open a.seats.now a.desk a.cells.now a.marks.now a.tally.now a.frame.now c.open_seat-out.result
-    (subst (λ (row : List Seat). CoreOpen row a.desk a.cells.now a.marks.now a.tally.now a.frame.now c.open_seat-out.result) c.load-row.ensures c.open_seat-out.ensures))
+    rw (c.refused.ensures, c.plain.ensures) (no_opening a.seats.now a.desk c.in_default.ensures.1 a.cells.now a.marks.now a.tally.now a.frame.now)

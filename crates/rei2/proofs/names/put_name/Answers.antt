@@ -11,11 +11,11 @@ pub returns-then-out-size : goal.returns-then-out-size
 returns-then-out-size c =
     let a = c.args in
     let l : length a.out.now ≤ length a.name.now = search rules in
-    no_room a.name.now a.out.now l
+    rw (c.not_written.ensures, c.plain.ensures) (no_room a.name.now a.out.now l)
 
 pub returns : goal.returns
 returns c =
     let a = c.args in
     let l : length a.name.now < length a.out.now = search rules in
     put_whole a.name.now a.out.now l _
-    (c.put_byte.ensures ∙ ap (λ (x : List ℕ). set x (length a.name.now) 0) c.put_bytes.ensures)
+    (c.put_byte.ensures ∙ ap (λ (x : List ℕ). set x (length a.name.now) 0) c.put_all.ensures)

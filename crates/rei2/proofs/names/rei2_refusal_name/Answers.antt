@@ -1,7 +1,8 @@
 -- `rei2::names::rei2_refusal_name` meets its contract.
 use mathlib.Core.Path.{ap, ◌∙◌}
 use Rattle.rei2.specs.Names.{name_of}
-use Rattle.rei2.proofs.NameLaws.{names_tell, none_below, named}
+use native.Mathlib.Omega.{arith}
+use Rattle.rei2.proofs.NameLaws.{names_tell, named}
 use Rattle.rei2.proofs.names.rei2_refusal_name.Goals as goal
 
 pub returns-in-0 : goal.returns-in-0
@@ -61,4 +62,4 @@ returns-in-17 c = named _ _ _ _ _ (ap name_of c.in-17.is ∙ names_tell.no_such)
 pub returns-in_default : goal.returns-in_default
 returns-in_default c =
     let n = c.args.refusal in
-    named _ _ _ _ _ (names_tell.others n (none_below 18 n c.in_default.in_default-own.rest)) c.put_name-in_default.ensures
+    named _ _ _ _ _ (names_tell.others n (omega arith)) c.put_name-in_default.ensures

@@ -3,22 +3,25 @@ use mir.Syntax.{w64}
 use mir.Val.{to_z, of_z}
 use mathlib.Core.Bool.{not, ◌&&◌}
 use mathlib.Core.Path.{◌≡◌, ap, ap₂, ◌∙◌}
+use native.Mathlib.Omega.{arith}
 use borrow.Author.Rules.{rules}
-use Rattle.rei2.specs.Reply.{is_nothing}
-use Rattle.rei2.proofs.TimingLaws.{left_clock, left_net, left_raw}
+use Rattle.rei2.specs.Reply.{is_nothing, left_over}
+use Rattle.rei2.proofs.TimingLaws.{left_raw}
 use Rattle.rei2.proofs.reply.left_over.Goals as goal
 
-pub returns-then-n-eq-CLOCK : goal.returns-then-n-eq-CLOCK
-returns-then-n-eq-CLOCK c =
+pub returns-in-1 : goal.returns-in-1
+unfolding left_over
+returns-in-1 c =
     let a = c.args.n in
     let r : to_z w64 (of_z w64 a.net) ≡ a.net = search rules in
-    ap not (c.is_nothing-nothing.ensures ∙ ap is_nothing r) ∙ left_clock a c.if-n-eq-CLOCK.true
+    ap not (c.is_nothing-nothing.ensures ∙ ap is_nothing r) ∙ rw c.in-1.is
 
-pub returns-then-n-eq-NET : goal.returns-then-n-eq-NET
-returns-then-n-eq-NET c = ap not c.no_date-dateless.ensures ∙ left_net _ c.if-n-eq-CLOCK.false c.if-n-eq-NET.true
+pub returns-in-2 : goal.returns-in-2
+unfolding left_over
+returns-in-2 c = rw (c.no_date-dateless.ensures, c.in-2.is)
 
-pub returns : goal.returns
-returns c =
+pub returns-in_default : goal.returns-in_default
+returns-in_default c =
     let a = c.args.n in
     let r : to_z w64 (of_z w64 a.net) ≡ a.net = search rules in
-    ap not (ap₂ ◌&&◌ (c.is_nothing-nothing.ensures ∙ ap is_nothing r) c.no_date-dateless.ensures) ∙ left_raw a c.if-n-eq-CLOCK.false c.if-n-eq-NET.false
+    ap not (ap₂ ◌&&◌ (c.is_nothing-nothing.ensures ∙ ap is_nothing r) c.no_date-dateless.ensures) ∙ left_raw a (λ e. omega (arith, e)) (λ e. omega (arith, e))

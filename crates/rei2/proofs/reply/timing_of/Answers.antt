@@ -2,22 +2,24 @@
 use mir.Syntax.{w64}
 use mir.Val.{to_z, of_z}
 use mathlib.Core.Path.{◌≡◌, ap, ◌∙◌}
+use native.Mathlib.Omega.{arith}
 use borrow.Author.Rules.{rules}
 use Rattle.frames.specs.declared.timing.Timing.TheVariants.{Net}
-use Rattle.rei2.proofs.TimingLaws.{as_raw_law, as_clock_law, as_net_law, as_none}
+use Rattle.rei2.specs.Reply.{timing_of}
+use Rattle.rei2.proofs.TimingLaws.{as_none}
 use Rattle.rei2.proofs.reply.timing_of.Goals as goal
 
-pub returns-then-n-eq-RAW : goal.returns-then-n-eq-RAW
-returns-then-n-eq-RAW c = as_raw_law _ c.if-n-eq-RAW.true
+pub returns-in-0 : goal.returns-in-0
+unfolding timing_of
+returns-in-0 c = rw c.in-0.is
 
-pub returns-then-n-eq-CLOCK : goal.returns-then-n-eq-CLOCK
-returns-then-n-eq-CLOCK c = as_clock_law _ c.if-n-eq-RAW.false c.if-n-eq-CLOCK.true
+pub returns-in-1 : goal.returns-in-1
+unfolding timing_of
+returns-in-1 c = rw c.in-1.is
 
-pub returns-then-n-eq-NET : goal.returns-then-n-eq-NET
-returns-then-n-eq-NET c =
-    let a = c.args.n in
-    let r : to_z w64 (of_z w64 a.net) ≡ a.net = search rules in
-    ap Net r ∙ as_net_law a c.if-n-eq-RAW.false c.if-n-eq-CLOCK.false c.if-n-eq-NET.true
+pub returns-in-2 : goal.returns-in-2
+unfolding timing_of
+returns-in-2 c = let r : to_z w64 (of_z w64 c.args.n.net) ≡ c.args.n.net = search rules in ap Net r ∙ rw c.in-2.is
 
-pub returns : goal.returns
-returns c = as_none _ c.if-n-eq-RAW.false c.if-n-eq-CLOCK.false c.if-n-eq-NET.false
+pub returns-in_default : goal.returns-in_default
+returns-in_default c = as_none c.args.n (omega arith)

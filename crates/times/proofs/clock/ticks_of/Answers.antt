@@ -1,24 +1,12 @@
 -- `times::clock::ticks_of` meets its contract.
+use borrow.Author.Tests.{le-leb}
+use Rattle.times.proofs.ClockLaws.{no_ticks}
 use Rattle.times.specs.inside.Clock.{ticks_from}
-use borrow.Author.Tests.{le-leb, lt-leb}
 use Rattle.times.proofs.clock.ticks_of.Goals as goal
 
-pub returns-then-hours-gt23 : goal.returns-then-hours-gt23
+pub returns-then-seconds-le59 : goal.returns-then-seconds-le59
 unfolding ticks_from
-returns-then-hours-gt23 c = rw (lt-leb _ _ c.if-hours-gt23.true)
+returns-then-seconds-le59 c = rw (le-leb _ _ c.if-hours-le23.true, le-leb _ _ c.if-minutes-le59.true, le-leb _ _ c.if-seconds-le59.true)
 
-pub returns-then-minutes-gt59 : goal.returns-then-minutes-gt59
-unfolding ticks_from
-returns-then-minutes-gt59 c = rw (le-leb _ _ c.if-hours-gt23.false, lt-leb _ _ c.if-minutes-gt59.true)
-
-pub returns-then-seconds-gt59 : goal.returns-then-seconds-gt59
-unfolding ticks_from
-returns-then-seconds-gt59 c = rw (le-leb _ _ c.if-hours-gt23.false, le-leb _ _ c.if-minutes-gt59.false, lt-leb _ _ c.if-seconds-gt59.true)
-
-pub returns-then-fraction-gt9999 : goal.returns-then-fraction-gt9999
-unfolding ticks_from
-returns-then-fraction-gt9999 c = rw (le-leb _ _ c.if-hours-gt23.false, le-leb _ _ c.if-minutes-gt59.false, le-leb _ _ c.if-seconds-gt59.false, lt-leb _ _ c.if-fraction-gt9999.true)
-
-pub returns : goal.returns
-unfolding ticks_from
-returns c = rw (le-leb _ _ c.if-hours-gt23.false, le-leb _ _ c.if-minutes-gt59.false, le-leb _ _ c.if-seconds-gt59.false, le-leb _ _ c.if-fraction-gt9999.false)
+pub returns-else-hours-le23 : goal.returns-else-hours-le23
+returns-else-hours-le23 c = no_ticks _ _ _ _ c.else-hours-le23.either

@@ -1,31 +1,21 @@
 -- `times::day::is_day` meets its contract.
+use native.Mathlib.Omega.{arith}
 use borrow.Author.Tests.{le-leb, lt-leb}
+use Rattle.times.proofs.DayLaws.{no_day}
 use Rattle.times.specs.Day.{real_day}
 use Rattle.times.proofs.day.is_day.Goals as goal
 
+pub returns-then-day-ge1 : goal.returns-then-day-ge1
+unfolding real_day
+returns-then-day-ge1 c =
+    let a = c.args in
+    rw (le-leb 2000 a.year (omega arith), le-leb a.year 2099 (omega arith), le-leb 1 a.month (omega arith), le-leb a.month 12 (omega arith), le-leb 1 a.day (omega arith), c.month_length.ensures)
+
+pub returns-else-day-ge1 : goal.returns-else-day-ge1
+unfolding real_day
+returns-else-day-ge1 c =
+    let a = c.args in
+    rw (le-leb 2000 a.year (omega arith), le-leb a.year 2099 (omega arith), le-leb 1 a.month (omega arith), le-leb a.month 12 (omega arith), lt-leb 1 a.day (omega arith))
+
 pub returns-then-year-lt2000 : goal.returns-then-year-lt2000
-unfolding real_day
-returns-then-year-lt2000 c = rw (lt-leb _ _ c.if-year-lt2000.true)
-
-pub returns-then-year-gt2099 : goal.returns-then-year-gt2099
-unfolding real_day
-returns-then-year-gt2099 c = rw (le-leb _ _ c.if-year-lt2000.false, lt-leb _ _ c.if-year-gt2099.true)
-
-pub returns-then-month-lt1 : goal.returns-then-month-lt1
-unfolding real_day
-returns-then-month-lt1 c = rw (le-leb _ _ c.if-year-lt2000.false, le-leb _ _ c.if-year-gt2099.false, lt-leb _ _ c.if-month-lt1.true)
-
-pub returns-then-month-gt12 : goal.returns-then-month-gt12
-unfolding real_day
-returns-then-month-gt12 c =
-    rw (le-leb _ _ c.if-year-lt2000.false, le-leb _ _ c.if-year-gt2099.false, le-leb _ _ c.if-month-lt1.false, lt-leb _ _ c.if-month-gt12.true)
-
-pub returns-then-day-lt1 : goal.returns-then-day-lt1
-unfolding real_day
-returns-then-day-lt1 c =
-    rw (le-leb _ _ c.if-year-lt2000.false, le-leb _ _ c.if-year-gt2099.false, le-leb _ _ c.if-month-lt1.false, le-leb _ _ c.if-month-gt12.false, lt-leb _ _ c.if-day-lt1.true)
-
-pub returns : goal.returns
-unfolding real_day
-returns c =
-    rw (le-leb _ _ c.if-year-lt2000.false, le-leb _ _ c.if-year-gt2099.false, le-leb _ _ c.if-month-lt1.false, le-leb _ _ c.if-month-gt12.false, le-leb _ _ c.if-day-lt1.false, c.month_length.ensures)
+returns-then-year-lt2000 c = no_day _ _ _ c.then-year-lt2000.either

@@ -1,16 +1,19 @@
 -- `times::day::month_length` meets its contract.
-use borrow.Author.Tests.{eq-eqb, ne_eqb}
+use borrow.Author.Rules.{rules}
+use borrow.Author.Tests.{ne_eqb}
+use Rattle.times.proofs.DayLaws.{thirty}
 use Rattle.times.specs.Day.{month_length}
 use Rattle.times.proofs.day.month_length.Goals as goal
 
-pub returns-then-month-eq2 : goal.returns-then-month-eq2
+pub returns-in-2 : goal.returns-in-2
 unfolding month_length
-returns-then-month-eq2 c = rw (eq-eqb c.args.month 2 c.if-month-eq2.true) c.february.ensures
+returns-in-2 c = rw c.in-2.is c.february.ensures
 
-pub returns-then-month : goal.returns-then-month
-unfolding month_length
-returns-then-month c = rw (ne_eqb c.args.month 2 c.if-month-eq2.false, c.if-month.true)
+pub returns-in-4 : goal.returns-in-4
+returns-in-4 c = thirty _ _ c.in-4.is
 
-pub returns-else-month : goal.returns-else-month
+pub returns-in_default : goal.returns-in_default
 unfolding month_length
-returns-else-month c = rw (ne_eqb c.args.month 2 c.if-month-eq2.false, c.if-month.false)
+returns-in_default c =
+    let m = c.args.month in
+    rw (ne_eqb m 2 (λ e. search rules), ne_eqb m 4 (λ e. search rules), ne_eqb m 6 (λ e. search rules), ne_eqb m 9 (λ e. search rules), ne_eqb m 11 (λ e. search rules))

@@ -1,8 +1,0 @@
--- `frames::timing::of_net` meets its contract.
-use Rattle.digits.specs.Text.{one_of}
-use mathlib.Core.Bool.{or_assoc, or-false}
-use Rattle.frames.proofs.timing.of_net.Goals as goal
-
-pub returns : goal.returns
-unfolding one_of
-returns c = simp (or_assoc, or-false)
