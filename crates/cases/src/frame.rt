@@ -2,7 +2,7 @@
 use digits::refusal::Refusal;
 use frames::refusals::{ReadRefusal, WriteRefusal};
 use spelling::line::Words;
-use spelling::print::{Bytes, Dotted, Runs, Told};
+use spelling::print::{Bytes, Dotted, Run, Told};
 use std::io::{self, Write};
 
 // A record that a frame holds, as the cases read, write, spell and print it.
@@ -58,13 +58,23 @@ pub fn damage<R: Record, W: Write>(to: &mut W, s: &mut Words<'_>) -> io::Result<
     let frame = s.bytes(&mut frame);
     for place in 0..frame.len() {
         let own = frame[place];
-        let mut answers = [Dotted([0; 3]); 256];
-        for (answer, value) in answers.iter_mut().zip(0..=255) {
+        write!(to, "{place}")?;
+        frame[place] = 0;
+        let mut answer = answer_to::<R>(frame);
+        let mut count = 1;
+        for value in 1..=255 {
             frame[place] = value;
-            *answer = answer_to::<R>(frame);
+            let next = answer_to::<R>(frame);
+            if next == answer {
+                count = count % 256 + 1;
+            } else {
+                write!(to, "{}", Run { answer, count })?;
+                answer = next;
+                count = 1;
+            }
         }
+        writeln!(to, "{}", Run { answer, count })?;
         frame[place] = own;
-        writeln!(to, "{place}{}", Runs(&answers))?;
     }
     Ok(())
 }

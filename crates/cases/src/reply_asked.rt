@@ -46,10 +46,8 @@ pub fn reading_value<W: Write>(to: &mut W, s: &mut Words<'_>) -> io::Result<()> 
 }
 
 pub fn writing_value<W: Write>(to: &mut W, s: &mut Words<'_>) -> io::Result<()> {
-    match write_reply_value(StaticReply::asked(s)) {
-        Ok(frame) => print_written(to, Ok(()), &frame),
-        Err(refusal) => print_written(to, Err(refusal), &[0; 51]),
-    }
+    let written = write_reply_value(StaticReply::asked(s));
+    print_written(to, written.answer, &written.frame)
 }
 
 fn print_head<W: Write>(to: &mut W, r: ReplyHead) -> io::Result<()> {

@@ -15,12 +15,15 @@ use Rattle.frames.specs.Request.{request}
 use Rattle.desk.specs.declared.state.Seat.{Seat}
 use Rattle.desk.specs.declared.opening.Opening.{Opening}
 use Rattle.desk.specs.declared.reply.Taking.{Taking}
+use Rattle.desk.specs.declared.step.StepRefusal.{StepRefusal}
+use Rattle.desk.specs.declared.step.StepRefusal.TheVariants.{Ended, OutOfPlace, Full}
 use Rattle.desk.specs.Hearing.{heard}
 use Rattle.desk.specs.Limits.{seat_count}
 use Rattle.desk.specs.Seats.{zero_seat, seat_at}
 use Rattle.desk.specs.Memory.{Memory, capacity}
 use Rattle.desk.specs.Desk.{is_desk}
-use Rattle.desk.specs.Calls.{Outcome, what_is_given, request_tried, open_tried, label_tried, reply_tried, opens, opened, replies, taken, result_told, change_in, Did, Changed}
+use Rattle.desk.specs.Calls.{Outcome, what_is_given, request_tried, open_tried, label_tried, reply_tried, opens, opened, replies, taken, result_told, reply_refused, of_step, change_in, Did, Changed}
+use Rattle.desk.specs.inside.Judging.{step_refused}
 
 -- ---- further tests of an answer that is known
 
@@ -34,6 +37,12 @@ module _ {A R : Type 0} where
   pub handed_on : (refused : R → Refusal) (P : R → Type 0) (why : Refusal) → ((g : R) → P g → refused g ≡ why) → (r : Result A R) → IsErrAnd r P → result_told refused r ≡ refuses why
   handed_on refused P why e (Ok a) is = absurd is
   handed_on refused P why e (Err g) is = ap (λ (f : Refusal). refuses f) (e g is)
+
+-- a refusal of the step has the same number as the reply's
+pub of_step_told : (f : StepRefusal) → reply_refused (of_step f) ≡ step_refused f
+of_step_told Ended = refl
+of_step_told OutOfPlace = refl
+of_step_told Full = refl
 
 -- ---- DESK is tested first
 

@@ -21,6 +21,8 @@ use Rattle.desk.specs.declared.done.Step.{Step}
 use Rattle.desk.specs.declared.reply.Taking.{Taking}
 use Rattle.desk.specs.declared.reply.ReplyRefusal.{ReplyRefusal}
 use Rattle.desk.specs.declared.reply.ReplyRefusal.TheVariants.{Desk as no_desk_case, Frame, Stray, Ended, OutOfPlace, Full}
+use Rattle.desk.specs.declared.step.StepRefusal.{StepRefusal}
+use Rattle.desk.specs.declared.step.StepRefusal.TheVariants.{Ended as step_ended, OutOfPlace as step_out_of_place, Full as step_full}
 use Rattle.desk.specs.Limits.{seat_count, cell_size}
 use Rattle.desk.specs.Below.{first, count_below}
 use Rattle.desk.specs.Key.{request_key, key_in}
@@ -183,6 +185,12 @@ reply_refused Stray = STRAY
 reply_refused Ended = ENDED
 reply_refused OutOfPlace = OUT_OF_PLACE
 reply_refused Full = FULL
+
+-- a refusal of the step is the reply's
+abbrev pub of_step : StepRefusal → ReplyRefusal
+of_step step_ended = Ended
+of_step step_out_of_place = OutOfPlace
+of_step step_full = Full
 
 module _ {A R : Type 0} where
   -- a result, with its refusals in the table

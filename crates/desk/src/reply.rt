@@ -2,12 +2,12 @@
 ghost use Rattle.std.specs.Prelude.{◌≡◌, ◌<◌, length};
 ghost use Rattle.desk.specs.Limits.{seat_count, most_cells};
 ghost use Rattle.desk.specs.Memory.{memory};
-ghost use Rattle.desk.specs.Calls.{what_is_given, grown, reply_tried, reply_refused, ReplyDid, ReplyStepDid};
+ghost use Rattle.desk.specs.Calls.{what_is_given, grown, reply_tried, reply_refused, of_step, ReplyDid, ReplyStepDid};
 ghost use Rattle.desk.specs.Key.{key_in};
 ghost use Rattle.desk.specs.Hearing.{heard};
 ghost use Rattle.desk.specs.declared.reply.ReplyRefusal.TheVariants.{Frame};
 ghost use Rattle.desk.specs.inside.Columns.{Short, Sized};
-ghost use Rattle.desk.specs.inside.Judging.{reply_judged, step_refused, column_tried, RoomFor, PutReply};
+ghost use Rattle.desk.specs.inside.Judging.{reply_judged, column_tried, RoomFor, PutReply};
 
 use crate::clauses::shows_desk;
 use crate::columns::{Columns, key_number};
@@ -43,7 +43,7 @@ impl From<ReadRefusal> for ReplyRefusal {
 }
 
 impl From<StepRefusal> for ReplyRefusal {
-    ghost from_gives = { λ refusal r. reply_refused r ≡ step_refused refusal };
+    ghost from_gives = { λ refusal r. r ≡ of_step refusal };
 
     fn from(refusal: StepRefusal) -> ReplyRefusal {
         match refusal {

@@ -27,10 +27,12 @@ sets_beyond l i [] h = refl
 sets_beyond l i (b ∷ vs) h = rw (set_out l i b h) (sets_beyond l (suc i) vs (omega arith))
 
 -- a run that is one item longer
-pub run_more : (l : List ℕ) (at : ℕ) (vs : List ℕ) (i : ℕ) → i < length vs → set (sets l at (take i vs)) (at + i) (get_or vs i 0) ≡ sets l at (take (i + 1) vs)
-run_more l at vs i h =
+pub run_more : {A : Type 0} (l : List A) (at : ℕ) (vs : List A) (i : ℕ) (v : A) → i < length vs → v ≡ get_or vs i v → set (sets l at (take i vs)) (at + i) v ≡ sets l at (take (i + 1) vs)
+run_more {A} l at vs i v h is =
     let n = length-take-le i vs (omega arith) in
-    sym (rw (add-one i, take-suc vs i 0 h) (sets_append l at (take i vs) (get_or vs i 0 ∷ []) ∙ ap (λ (k : ℕ). set (sets l at (take i vs)) (at + k) (get_or vs i 0)) n))
+    let put : sets l at (take i vs ++ (get_or vs i v ∷ [])) ≡ set (sets l at (take i vs)) (at + i) (get_or vs i v) =
+    sets_append l at (take i vs) (get_or vs i v ∷ []) ∙ ap (λ (k : ℕ). set (sets l at (take i vs)) (at + k) (get_or vs i v)) n in
+    ap (set (sets l at (take i vs)) (at + i)) is ∙ sym put ∙ rw (add-one i, take-suc vs i v h)
 
 -- a run stores just those of its items that fit
 pub run_whole : {A : Type 0} (l : List A) (at : ℕ) (vs : List A) (n : ℕ) → n ≡ min (length l - at) (length vs) → at < length l → sets l at (take n vs) ≡ sets l at vs

@@ -61,7 +61,10 @@ pub fn put_all<T: Copy>(out: &mut [T], at: usize, items: &[T])
         return;
     }
     let n = least(out.len() - at, items.len());
-    out[at..at + n].copy_from_slice(&items[..n]);
+    // Not copy_from_slice: it asks at each call whether the two overlap, and takes memmove from outside.
+    for i in 0..n {
+        out[at + i] = items[i];
+    }
 }
 
 // The smaller of two.

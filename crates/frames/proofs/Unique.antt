@@ -4,6 +4,7 @@ use mathlib.Core.List.{List}
 use mathlib.Core.Bool.{cond}
 use mathlib.Core.Path.{◌≡◌, refl, sym, ap, ap₂, ◌∙◌}
 use lib.Dec.{eqb}
+use lib.ListN.{replicate}
 use Rattle.std.specs.Prelude.{Result, Ok, Err}
 use Rattle.digits.specs.Once.{Once}
 use Rattle.digits.specs.Refusals.{RECORD}
@@ -12,6 +13,8 @@ use Rattle.digits.proofs.Sure.{same_refusal as same_told, not_refused}
 use Rattle.frames.specs.declared.refusals.ReadRefusal.{ReadRefusal}
 use Rattle.frames.specs.declared.refusals.WriteRefusal.{WriteRefusal}
 use Rattle.frames.specs.declared.refusals.WriteRefusal.TheVariants.{Record, Room}
+use Rattle.frames.specs.declared.reply.StaticReply.{StaticReply}
+use Rattle.frames.specs.declared.reply.ReplyFrame.{ReplyFrame}
 use Rattle.frames.specs.Refusals.{read_refused, read_told, write_told}
 use Rattle.frames.specs.Kind.{Kind, Wrote}
 use Rattle.frames.specs.Request.{request}
@@ -56,6 +59,11 @@ wrote_once : {R : Type 0} (k : Kind R) (r : R) (out : List ℕ) → Once (λ (o 
 wrote_once k r out a b p q =
     ap₂ (λ (x : Result (Unit {0}) WriteRefusal) (o : List ℕ). (x, o)) (same_written a.0 b.0 (p.told ∙ sym q.told)) (p.bytes ∙ sym q.bytes)
 
+frame_once : (r : StaticReply) (out : List ℕ) → Once (λ (a : ReplyFrame). Wrote reply r out a.answer a.frame)
+frame_once r out a b p q =
+    let e = wrote_once reply r out (a.answer, a.frame) (b.answer, b.frame) p q in
+    ap (λ (o : Result (Unit {0}) WriteRefusal × List ℕ). record { answer = o.0; frame = o.1 }) e
+
 pub one_outcome : OneOutcome
 one_outcome = record {
   read_request = λ s a b p q. same_read a b (p ∙ sym q);
@@ -64,7 +72,7 @@ one_outcome = record {
   check_reply = λ s a b p q. same_read a b (p ∙ sym q);
   write_reply = wrote_once reply;
   read_reply_value = λ s a b p q. same_read a b (p ∙ sym q);
-  write_reply_value = λ r a b p q. same_written a b (p ∙ sym q);
+  write_reply_value = λ r. frame_once r (replicate 51 0);
   read_dynamic = λ s a b p q. same_read a b (p ∙ sym q);
   write_dynamic = wrote_once dynamic;
 }

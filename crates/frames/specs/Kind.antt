@@ -72,11 +72,3 @@ output_after (refuses f) frame size out = out
 pub record Wrote {R : Type 0} (k : Kind R) (r : R) (out : List ℕ) (answer : Result (Unit {0}) WriteRefusal) (out' : List ℕ) : Type 0 where
   pub told : write_told answer ≡ write_tried (wrong_in k r) k.size (length out)
   pub bytes : out' ≡ output_after (write_tried (wrong_in k r) k.size (length out)) (frame_of k r) k.size out
-
--- what a writer's answer means that gives the frame itself: the frame, or the refusal of an output with just enough room
-abbrev pub framed : {R : Type 0} → Kind R → R → Told (List ℕ)
-framed k r = and_then (write_tried (wrong_in k r) k.size k.size) (gives (frame_of k r))
-
--- what a writer promises that gives the frame itself
-abbrev pub WroteFrame : {R : Type 0} → Kind R → R → Result (List ℕ) WriteRefusal → Type 0
-WroteFrame k r a = write_told a ≡ framed k r

@@ -1,10 +1,10 @@
 -- All values that each rule for letters and channels takes, lowest first.
-use Rattle.std.specs.Prelude.{ℕ, zero, suc, List, [], ◌∷◌, ◌++◌, map, Bool, true, false, cond, ◌≡◌, drop, eqb}
+use Rattle.std.specs.Prelude.{ℕ, zero, suc, List, [], ◌∷◌, ◌++◌, map, Bool, true, false, cond, ◌≡◌, drop, eqb, Some, is_some}
 use Rattle.digits.specs.Text.{codes}
 use Rattle.frames.specs.declared.timing.TimingKind.{TimingKind}
 use Rattle.frames.specs.declared.timing.TimingKind.TheVariants.{Clock as clock_kind, Net as net_kind, Raw as raw_kind}
 use Rattle.frames.specs.Rules.{is_address, is_requester, is_output, is_raw}
-use Rattle.frames.specs.Status.{is_status, status_place}
+use Rattle.frames.specs.Status.{is_status, status_place, status_found}
 use Rattle.frames.specs.Request as Q
 use Rattle.frames.specs.Timing.{timing_kind, is_sign}
 use Rattle.frames.specs.Reply as P
@@ -42,6 +42,11 @@ pub record RulesWorked : Type 0 where
       ≡ 0 ∷ 1 ∷ 2 ∷ 3 ∷ 4 ∷ 5 ∷ 6 ∷ 7 ∷ 8 ∷ 9 ∷ 10 ∷ 11 ∷ 12 ∷ 13 ∷ 14 ∷ 15 ∷ 16 ∷ 17 ∷ 18 ∷ 19 ∷ 20 ∷ 21 ∷ 22 ∷ 23 ∷ 24 ∷ 25 ∷ 26 ∷ 27 ∷ 28 ∷ 29 ∷ 30 ∷ 31 ∷ 32 ∷ []
   pub no_letter_place : map P.letter_place (codes "L*tq") ≡ 33 ∷ 33 ∷ 33 ∷ 33 ∷ []
   pub status_places : map status_place (codes "REZr") ≡ 0 ∷ 1 ∷ 2 ∷ 3 ∷ []
+  -- what a search for a place finds: that place, and nothing for any other byte
+  pub letters_found : map P.letter_found (codes "0123456789AQPaSsTKRGHhIiJjpkugWwX") ≡ map Some (below 33)
+  pub letters_alone : taken (λ b. is_some (P.letter_found b)) 256 ≡ codes "0123456789AGHIJKPQRSTWXaghijkpsuw"
+  pub statuses_found : map status_found (codes "REZ") ≡ map Some (below 3)
+  pub statuses_alone : taken (λ b. is_some (status_found b)) 256 ≡ codes "ERZ"
   pub statuses : taken is_status 256 ≡ codes "ERZ"
   pub orders : taken D.is_order 256 ≡ codes "ABTabt"
   pub signs : taken is_sign 256 ≡ codes "+-"

@@ -1,8 +1,8 @@
 // The static reply: 51 bytes, lead byte DC2.
-ghost use Rattle.std.specs.Prelude.{◌≡◌, length, refl};
+ghost use Rattle.std.specs.Prelude.{◌≡◌, length, replicate, refl};
 ghost use Rattle.std.proofs.Common.{lit<};
 ghost use Rattle.std.proofs.lemmas.List.Edits.{sets};
-ghost use Rattle.frames.specs.Kind.{Wrote, WroteFrame};
+ghost use Rattle.frames.specs.Kind.{Wrote};
 ghost use Rattle.frames.specs.inside.Reply as I;
 ghost use Rattle.frames.specs.inside.Spoiled.{head_byte, reply_byte};
 ghost use Rattle.frames.specs.Status.{is_status, status_found};
@@ -119,6 +119,13 @@ pub struct ReplyLabel {
     pub number: u32,
 }
 
+// The frame is all zero if the record was refused. It stands beside the answer, since an `Err` would have no frame and the promise names one.
+#[derive(Clone, Copy, Debug, PartialEq, Eq)]
+pub struct ReplyFrame {
+    pub answer: Result<(), WriteRefusal>,
+    pub frame: [u8; 51],
+}
+
 pub fn read_reply(s: &[u8]) -> Result<StaticReply, ReadRefusal>
     ensures { ReadAs s.now result }
 {
@@ -158,12 +165,12 @@ pub fn read_reply_value(frame: [u8; 51]) -> Result<StaticReply, ReadRefusal>
     read_reply(&frame)
 }
 
-pub fn write_reply_value(r: StaticReply) -> Result<[u8; 51], WriteRefusal>
-    ensures { WroteFrame reply r result }
+pub fn write_reply_value(r: StaticReply) -> ReplyFrame
+    ensures { Wrote reply r (replicate 51 0) result.answer result.frame }
 {
     let mut frame = [0u8; 51];
-    write_reply(r, &mut frame)?;
-    Ok(frame)
+    let answer = write_reply(r, &mut frame);
+    ReplyFrame { answer, frame }
 }
 
 impl StaticReply {

@@ -81,11 +81,11 @@ module _ (s : Body) (l : Line) (k : Token) (g : guess one l ≡ k) where
 
 -- ---- a line that is not taken
 
-not_taken_law : (s s' : Sofar) (l : Line) → ((sum : ℕ) → (machine one).step (body (state_of s sum)) l ≡ refused) → Taken s l false s'
-not_taken_law s s' l r = record { steps = λ sum. sym (r sum) }
+not_taken_law : (s : Sofar) (l : Line) → ((sum : ℕ) → (machine one).step (body (state_of s sum)) l ≡ refused) → Taken s l false s
+not_taken_law s l r = record { steps = λ sum. sym (r sum); stays = λ e. refl }
 
-pub other_line : (s s' : Sofar) (l : Line) → (length l ≡ 52 → ⊥) → (length l ≡ 12 → ⊥) → (length l ≡ 11 → ⊥) → Taken s l false s'
-other_line s s' l a b c = not_taken_law s s' l (λ sum. step_refused (state_of s sum) l first (guess_first l a b c) refl)
+pub other_line : (s : Sofar) (l : Line) → (length l ≡ 52 → ⊥) → (length l ≡ 12 → ⊥) → (length l ≡ 11 → ⊥) → Taken s l false s
+other_line s l a b c = not_taken_law s l (λ sum. step_refused (state_of s sum) l first (guess_first l a b c) refl)
 
 -- ---- one seat changes
 
@@ -167,22 +167,22 @@ module _ (s : Sofar) (l : Line) (n : length l ≡ 12) (i : ℕ) (k : Key) (ended
   unfolding guess_seat
   is_seat = guess_seat_law l n ∙ rw (p, q, r)
 
-  pub seat_unfit : is_key k && leb ended 1 ≡ false → {s' : Sofar} → Taken s l false s'
+  pub seat_unfit : is_key k && leb ended 1 ≡ false → Taken s l false s
   unfolding fits
-  seat_unfit e {s'} =
+  seat_unfit e =
       let both = fits one (seat i k ended) && same (seat_line one i k ended) l in
       let unsaid : both ≡ false = false_or both (λ t.
       let f = and_l (fits one (seat i k ended)) (same (seat_line one i k ended) l) t in
       let b = and_r (ltb i seat_count) (is_key k) (and_l (ltb i seat_count && is_key k) (leb ended 1) f) in
       never (is_key k && leb ended 1) (and_true b (and_r (ltb i seat_count && is_key k) (leb ended 1) f)) e) in
-      not_taken_law s s' l (λ sum. unsure (state_of s sum) l (seat i k ended) is_seat unsaid)
+      not_taken_law s l (λ sum. unsure (state_of s sum) l (seat i k ended) is_seat unsaid)
 
-  pub seat_unlike : same (seat_line one i k ended) l ≡ false → {s' : Sofar} → Taken s l false s'
-  seat_unlike e {s'} = not_taken_law s s' l (λ sum. unsure (state_of s sum) l (seat i k ended) is_seat (and_false_r (fits one (seat i k ended)) e))
+  pub seat_unlike : same (seat_line one i k ended) l ≡ false → Taken s l false s
+  seat_unlike e = not_taken_law s l (λ sum. unsure (state_of s sum) l (seat i k ended) is_seat (and_false_r (fits one (seat i k ended)) e))
 
-  pub seat_unnamed : digit_seat (get_or l 0 0) ≡ None → {s' : Sofar} → Taken s l false s'
+  pub seat_unnamed : digit_seat (get_or l 0 0) ≡ None → Taken s l false s
   unfolding seat_line seat_digit
-  seat_unnamed e {s'} = seat_unlike (rw (p, e, unwrap_or) (unlike_first 48 _ l (unnamed (get_or l 0 0) e)))
+  seat_unnamed e = seat_unlike (rw (p, e, unwrap_or) (unlike_first 48 _ l (unnamed (get_or l 0 0) e)))
 
   pub seat_like : i < seat_count → is_key k && leb ended 1 ≡ true → same (seat_line one i k ended) l ≡ true
       → {t : Bool} {s' : Sofar} → t ≡ seat_takes s i k ended → state_of s' 0 ≡ seat_turn s i k ended → Taken s l t s'
@@ -193,6 +193,7 @@ module _ (s : Sofar) (l : Line) (n : length l ≡ 12) (i : ℕ) (k : Key) (ended
       record {
         steps = λ sum. seat_steps s i k ended l (same_is (seat_line one i k ended) l e) t s' p q sum
             ∙ sym (sure_step (state_of s sum) l (seat i k ended) is_seat (and_true (and_true (lt-ltb i seat_count b) legal) few) e);
+        stays = λ z. rw (sym p ∙ z) at q;
       }
 
 -- ---- a line of a cell
@@ -246,17 +247,17 @@ module _ (s : Sofar) (l : Line) (n : length l ≡ 52) (i : ℕ) (v : i ≡ value
   unfolding guess_cell
   is_cell = guess_cell_law l n ∙ rw v
 
-  pub cell_unlike : around i l ≡ false → {s' : Sofar} → Taken s l false s'
-  cell_unlike e {s'} =
-      not_taken_law s s' l (λ sum. unsure (state_of s sum) l (cell i (slice 2 51 l)) is_cell (and_false_r (fits one (cell i (slice 2 51 l))) (cell_same i l n ∙ e)))
+  pub cell_unlike : around i l ≡ false → Taken s l false s
+  cell_unlike e =
+      not_taken_law s l (λ sum. unsure (state_of s sum) l (cell i (slice 2 51 l)) is_cell (and_false_r (fits one (cell i (slice 2 51 l))) (cell_same i l n ∙ e)))
 
-  pub cell_unnamed : digit_seat (get_or l 0 0) ≡ None → {s' : Sofar} → Taken s l false s'
+  pub cell_unnamed : digit_seat (get_or l 0 0) ≡ None → Taken s l false s
   unfolding seat_digit
-  cell_unnamed e {s'} = cell_unlike (rw (v, e, ne_eqb (get_or l 0 0) 48 (unnamed (get_or l 0 0) e)))
+  cell_unnamed e = cell_unlike (rw (v, e, ne_eqb (get_or l 0 0) 48 (unnamed (get_or l 0 0) e)))
 
-  pub cell_no_reply : is_good (read reply (framed (slice 2 51 l))) ≡ false → {s' : Sofar} → Taken s l false s'
-  cell_no_reply e {s'} =
-      not_taken_law s s' l (λ sum. step_refused (state_of s sum) l (cell i (slice 2 51 l)) is_cell
+  pub cell_no_reply : is_good (read reply (framed (slice 2 51 l))) ≡ false → Taken s l false s
+  cell_no_reply e =
+      not_taken_law s l (λ sum. step_refused (state_of s sum) l (cell i (slice 2 51 l)) is_cell
       (rw (unheard (state_of s sum) i (heard (framed (slice 2 51 l))) (bad_heard (framed (slice 2 51 l)) e))))
 
   pub cell_like : i < seat_count → around i l ≡ true → is_good (read reply (framed (slice 2 51 l))) ≡ true
@@ -270,4 +271,5 @@ module _ (s : Sofar) (l : Line) (n : length l ≡ 52) (i : ℕ) (v : i ≡ value
       record {
         steps = λ sum. cell_steps s i (label_at (framed mid)) mid h l (same_is (cell_line one i mid) l w) t s' p q sum
             ∙ sym (sure_step (state_of s sum) l (cell i mid) is_cell f w);
+        stays = λ z. rw (sym p ∙ z) at q;
       }

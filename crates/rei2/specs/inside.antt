@@ -1,2 +1,3 @@
 -- What the private steps of the code compute. No promise of a call needs it.
 pub mod Left
+pub mod Place

@@ -1,8 +1,9 @@
 // The desk's calls on a row that a host lends: the row is loaded, the call by value is made, and what it changed is stored back: the
 // whole row, or one seat.
-ghost use Rattle.std.specs.Prelude.{◌≡◌};
+ghost use Rattle.std.specs.Prelude.{◌≡◌, ◌<◌, ◌^◌, IfSome};
 ghost use Rattle.digits.specs.Told.{gives, refuses};
 ghost use Rattle.desk.specs.Calls.{row_with};
+ghost use Rattle.rei2.specs.inside.Place.{place_in};
 ghost use Rattle.rei2.specs.Lent.{desk_answer, capture_answer, ResetLent, OpenLent, ReplyLent, CaptureLent};
 
 use desk::capture::{Counts, take_capture};
@@ -88,6 +89,17 @@ fn put_changed(s: &mut [Seat], changed: Option<Change>)
     }
 }
 
+// The seat by its place: the number within the answer would have to be copied out of memory that was just stored.
+fn seat_of(changed: Option<Change>) -> u32
+    requires { IfSome changed (λ c. c.at < 2 ^ 32) }
+    ensures { result ≡ place_in changed }
+{
+    match changed {
+        Some(change) => change.at as u32,
+        None => 0,
+    }
+}
+
 // ---- the calls. A row that does not have SEATS seats is no desk.
 
 #[unsafe(no_mangle)]
@@ -98,12 +110,21 @@ pub extern "C" fn rei2_reset(
 ) -> DeskAnswer
     ensures { ResetLent seats.old desk tally.old result seats.new tally.new }
 {
-    if seats.len() != SEATS {
-        return refused(desk, plain(table::DESK));
+    // One answer for both cases: with one each, it was stored in other pieces than those in which it is read.
+    let (after, refusal) = if seats.len() == SEATS {
+        let emptied = reset(tally);
+        seats.copy_from_slice(&emptied.row);
+        (emptied.desk, 0)
+    } else {
+        (desk, table::DESK)
+    };
+    DeskAnswer {
+        desk: after,
+        refusal,
+        offset: 0,
+        spoiled: 0,
+        seat: 0,
     }
-    let emptied = reset(tally);
-    seats.copy_from_slice(&emptied.row);
-    done(emptied.desk, 0)
 }
 
 #[unsafe(no_mangle)]
@@ -123,7 +144,7 @@ pub extern "C" fn rei2_open(
     let opened = open_step(desk, *row, cells, marks, tally, frame);
     put_changed(seats, opened.changed);
     match opened.answer {
-        Ok(seat) => done(opened.desk, seat),
+        Ok(_) => done(opened.desk, seat_of(opened.changed)),
         Err(why) => refused(opened.desk, Refusal::from(why)),
     }
 }
@@ -145,7 +166,7 @@ pub extern "C" fn rei2_reply(
     let taken = reply_step(desk, *row, cells, marks, tally, frame);
     put_changed(seats, taken.changed);
     match taken.answer {
-        Ok(seat) => done(taken.desk, seat),
+        Ok(_) => done(taken.desk, seat_of(taken.changed)),
         Err(why) => refused(taken.desk, Refusal::from(why)),
     }
 }

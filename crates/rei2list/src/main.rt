@@ -2,10 +2,11 @@
 // so in one line on standard error.
 #![tactic(auto)]
 
-use edge::{complain, read_full};
+ghost use Rattle.std.specs.Prelude.{◌≤◌, length};
+
 use listing::{LONGEST_LIST, MOST_INPUT, list};
 use std::env::FillError;
-use std::io::Write;
+use std::io::{Error, Read, Result, Write};
 use std::rt::Env;
 
 const HELP: [&str; 6] = [
@@ -17,17 +18,31 @@ const HELP: [&str; 6] = [
     "A list without its end line is not whole; standard error then says why.\n",
 ];
 
+// What the program is asked for.
+#[derive(Clone, Copy)]
+enum Asked {
+    List,
+    Help,
+    Other,
+}
+
 fn main(rt: HostRuntime) {
-    // The program's own name is argument 0.
+    match what_is_asked(&rt) {
+        Asked::List => list_input(&rt),
+        Asked::Help => print_help(&rt),
+        Asked::Other => refuse_words(&rt),
+    }
+}
+
+// A step of its own, so that the word is not on the stack while a capture is listed. The program's own name is argument 0.
+fn what_is_asked(rt: &impl Env) -> Asked {
     let mut word = [0u8; 4096];
     let first = rt.arg(1, &mut word);
     let second = rt.arg(2, &mut [0]);
     match (first, second) {
-        (Err(FillError::NotPresent), _) => list_input(&rt),
-        (Ok(length), Err(FillError::NotPresent)) if word[..length] == b"--help"[..] => {
-            print_help(&rt);
-        }
-        _ => refuse_words(&rt),
+        (Err(FillError::NotPresent), _) => Asked::List,
+        (Ok(length), Err(FillError::NotPresent)) if word[..length] == b"--help"[..] => Asked::Help,
+        _ => Asked::Other,
     }
 }
 
@@ -37,7 +52,7 @@ fn list_input(rt: &(impl Input + Print + Eprint)) {
     let mut input = [0u8; MOST_INPUT + 1];
     let (n, read) = read_full(&mut rt.reader(), &mut input);
     if let Err(error) = read {
-        complain(rt, "rei2list: standard input", error);
+        complain(rt, "standard input", error);
         return;
     }
     // Each program has these arrays itself, where their lengths are compared with the header's.
@@ -50,9 +65,43 @@ fn list_input(rt: &(impl Input + Print + Eprint)) {
     }
 }
 
+// Reads until the input ends, buf is full or a read fails, and returns how many bytes came, and whether a read failed.
+fn read_full(input: &mut impl Read, buf: &mut [u8]) -> (usize, Result<()>)
+    ensures { result.0 ≤ length buf.new }
+{
+    // No `for`: a read takes as many bytes as it likes.
+    let mut done = 0;
+    while done < buf.len() {
+        match input.read(&mut buf[done..]) {
+            Ok(0) => break,
+            Ok(more) => done += more,
+            Err(error) => return (done, Err(error)),
+        }
+    }
+    (done, Ok(()))
+}
+
 fn print(rt: &(impl Print + Eprint), text: &[u8]) {
     if let Err(error) = rt.write_all(text) {
-        complain(rt, "rei2list: standard output", error);
+        complain(rt, "standard output", error);
+    }
+}
+
+// One line on standard error: what failed, and the system's reason without its number.
+fn complain(rt: &impl Eprint, what: &str, error: Error) {
+    let mut text = [0u8; 128];
+    let mut room = &mut text[..];
+    let _ = write!(room, "{error}");
+    let _ = eprintln!(rt; "rei2list: {what}: {}", reason(&text));
+}
+
+fn reason(text: &[u8]) -> &str {
+    let Ok(text) = str::from_utf8(text) else {
+        return "";
+    };
+    match text.split_once(" (os error ") {
+        Some((reason, _)) => reason,
+        None => text.trim_end_matches('\0'),
     }
 }
 

@@ -2,9 +2,10 @@
 use crate::script::Script;
 use crate::tally_asked::{looking, looking_at_all};
 use desk::held::next_held;
+use desk::limits::SEATS;
 use desk::state::{Seat, seats_in_use};
 use digits::refusal::Refusal;
-use frames::reply::STATUSES;
+use frames::reply::{LETTERS, STATUSES};
 use spelling::line::Words;
 use spelling::print::{Bytes, Numbers};
 use std::io::{self, Write};
@@ -42,58 +43,56 @@ impl Script {
         writeln!(to, "set")
     }
 
+    // An opening can change the state and the seats alone.
     fn opening<W: Write>(&mut self, to: &mut W, s: &mut Words<'_>) -> io::Result<()> {
         let mut frame = [0u8; 100];
-        let before = self.clone()?;
+        let row = self.row;
         let answer = said(self.open(s.bytes(&mut frame)));
-        self.print_answer(to, answer, &before)
+        self.print_answer(to, answer)?;
+        self.print_seats(to, &row)?;
+        writeln!(to)
     }
 
     fn replying<W: Write>(&mut self, to: &mut W, s: &mut Words<'_>) -> io::Result<()> {
         let mut frame = [0u8; 100];
-        let before = self.clone()?;
+        let before = *self;
         let answer = said(self.reply(s.bytes(&mut frame)));
-        self.print_answer(to, answer, &before)
+        self.print_answer(to, answer)?;
+        self.print_seats(to, &before.row)?;
+        self.print_memory(to, &before)?;
+        self.print_tally(to, &before.tally)?;
+        writeln!(to)
     }
 
+    // Cells and marks are not lent to a reset.
     fn resetting<W: Write>(&mut self, to: &mut W) -> io::Result<()> {
-        let before = self.clone()?;
+        let row = self.row;
+        let tally = self.tally;
         self.reset();
-        self.print_answer(to, [0; 4], &before)
+        self.print_answer(to, [0; 4])?;
+        self.print_seats(to, &row)?;
+        self.print_tally(to, &tally)?;
+        writeln!(to)
     }
 
     fn holding<W: Write>(&self, to: &mut W, s: &mut Words<'_>) -> io::Result<()> {
         let seat = s.small();
         let from = s.small() as usize;
-        match next_held(self.desk, &self.cells, &self.marks, seat, from) {
+        match next_held(self.desk, self.cells(), self.marks(), seat, from) {
             Some(i) => writeln!(to, "{i}"),
             None => writeln!(to, "none"),
         }
     }
 
-    // The line of a call: the answer, the state, and all that is no longer as it was before.
-    fn print_answer<W: Write>(
-        &self,
-        to: &mut W,
-        answer: [u32; 4],
-        before: &Script,
-    ) -> io::Result<()> {
+    // How the line of a call begins: the answer and the state. After it comes all that is no longer as it was before.
+    fn print_answer<W: Write>(&self, to: &mut W, answer: [u32; 4]) -> io::Result<()> {
         let [number, offset, spoiled, seat] = answer;
         write!(to, "{number} {offset} {spoiled} {seat}")?;
-        write!(to, " {} {}", self.desk.bits, self.desk.count)?;
-        self.print_seats(to, before)?;
-        if let Some((start, cells)) = changed(&before.cells, &self.cells) {
-            write!(to, " cells {start} {}", Bytes(cells))?;
-        }
-        if let Some((start, marks)) = changed(&before.marks, &self.marks) {
-            write!(to, " marks {start}{}", Numbers(marks))?;
-        }
-        self.print_tally(to, before)?;
-        writeln!(to)
+        write!(to, " {} {}", self.desk.bits, self.desk.count)
     }
 
-    fn print_seats<W: Write>(&self, to: &mut W, before: &Script) -> io::Result<()> {
-        for (i, (was, seat)) in before.row.iter().zip(&self.row).enumerate() {
+    fn print_seats<W: Write>(&self, to: &mut W, before: &[Seat; SEATS]) -> io::Result<()> {
+        for (i, (was, seat)) in before.iter().zip(&self.row).enumerate() {
             if was != seat {
                 write!(to, " seat {i}{}", Numbers(&numbers_of(*seat)))?;
             }
@@ -101,8 +100,22 @@ impl Script {
         Ok(())
     }
 
-    fn print_tally<W: Write>(&self, to: &mut W, before: &Script) -> io::Result<()> {
-        let was = before.tally.as_flattened();
+    fn print_memory<W: Write>(&self, to: &mut W, before: &Script) -> io::Result<()> {
+        if let Some((start, cells)) = changed(before.cells(), self.cells()) {
+            write!(to, " cells {start} {}", Bytes(cells))?;
+        }
+        if let Some((start, marks)) = changed(before.marks(), self.marks()) {
+            write!(to, " marks {start}{}", Numbers(marks))?;
+        }
+        Ok(())
+    }
+
+    fn print_tally<W: Write>(
+        &self,
+        to: &mut W,
+        before: &[[u32; STATUSES]; LETTERS],
+    ) -> io::Result<()> {
+        let was = before.as_flattened();
         for (i, (was, n)) in was.iter().zip(self.tally.as_flattened()).enumerate() {
             if was != n {
                 write!(to, " tally {} {} {n}", i / STATUSES, i % STATUSES)?;

@@ -6,7 +6,6 @@ use crate::digest;
 use crate::script::Script;
 use digits::{least, put_byte, put_number};
 use spelling::line::Words;
-use std::alloc::{AllocError, Global};
 use std::io::{self, Write};
 
 // What is lent for a mix.
@@ -47,13 +46,13 @@ pub const BY_ADDRESS: Apart = Apart {
     of_stray: b'1',
 };
 
-// Prints how many mixes there are, and the digest of all of them. Returns a desk on which none is played.
+// Prints how many mixes there are, and the digest of all of them. Leaves the desk as it is before a mix.
 pub fn playing<W: Write>(
-    alloc: Global,
     to: &mut W,
+    desk: &mut Script,
     s: &mut Words<'_>,
     apart: Apart,
-) -> io::Result<Script> {
+) -> io::Result<()> {
     let a = statuses(s.word());
     let b = statuses(s.word());
     let mut mixes = 0u32;
@@ -62,11 +61,11 @@ pub fn playing<W: Write>(
     for mix in 0..1u32 << (a.len() + b.len()) {
         if mix.count_ones() as usize == b.len() {
             mixes += 1;
-            sum = play(alloc, apart, a, b, mix, sum)?;
+            sum = play(desk, apart, a, b, mix, sum);
         }
     }
-    writeln!(to, "{mixes} {sum}")?;
-    Ok(Script::new(alloc, MIX_BYTES, MIX_MARKS)?)
+    desk.lend(MIX_BYTES, MIX_MARKS);
+    writeln!(to, "{mixes} {sum}")
 }
 
 // The letters of a word, at most four; a dash has none.
@@ -80,17 +79,10 @@ fn statuses(word: &[u8]) -> &[u8]
 }
 
 // Plays one mix, and takes in all answers and all that it leaves.
-fn play(
-    alloc: Global,
-    apart: Apart,
-    a: &[u8],
-    b: &[u8],
-    mix: u32,
-    digest: u64,
-) -> Result<u64, AllocError>
+fn play(desk: &mut Script, apart: Apart, a: &[u8], b: &[u8], mix: u32, digest: u64) -> u64
     requires { length a.now + length b.now ≤ 8 }
 {
-    let mut desk = Script::new(alloc, MIX_BYTES, MIX_MARKS)?;
+    desk.lend(MIX_BYTES, MIX_MARKS);
     desk.reset();
     let request_b = with_byte(REQUEST_A, apart.asked_at, apart.of_b);
     let mut sum = digest::take(digest, &said(desk.open(&REQUEST_A)));
@@ -107,10 +99,10 @@ fn play(
             } else {
                 frame
             };
-            sum = play_three(&mut desk, apart, own, sum);
+            sum = play_three(desk, apart, own, sum);
         }
     }
-    Ok(take_desk(&desk, sum))
+    take_desk(desk, sum)
 }
 
 fn with_byte<const N: usize>(frame: [u8; N], at: usize, b: u8) -> [u8; N] {
@@ -143,7 +135,7 @@ fn take_desk(desk: &Script, digest: u64) -> u64 {
     for seat in desk.row {
         sum = digest::take(sum, &numbers_of(seat));
     }
-    sum = digest::take(sum, &desk.cells);
-    sum = digest::take(sum, &desk.marks);
+    sum = digest::take(sum, desk.cells());
+    sum = digest::take(sum, desk.marks());
     digest::take(sum, desk.tally.as_flattened())
 }

@@ -4,43 +4,76 @@ use desk::limits::SEATS;
 use desk::opening::{OpenRefusal, open};
 use desk::reply::{ReplyRefusal, reply};
 use desk::state::{Desk, Emptied, Seat, reset};
-use digits::put_all;
+use digits::{least, put_all};
 use frames::reply::{LETTERS, STATUSES};
 use spelling::line::Words;
-use std::alloc::{AllocError, Global};
+
+// How much a script can lend at most.
+const MOST_BYTES: usize = 15_400;
+
+const MOST_MARKS: usize = 310;
 
 // What lent memory holds before a script sets it.
 const FRESH_BYTE: u8 = 238;
 
 const FRESH_MARK: u32 = 4_008_636_142;
 
-#[derive(Clone, Drop)]
+#[derive(Clone, Copy)]
 pub struct Script {
     pub desk: Desk,
     pub row: [Seat; SEATS],
-    pub cells: Vec<u8>,
-    pub marks: Vec<u32>,
     pub tally: [[u32; STATUSES]; LETTERS],
+    cells: [u8; MOST_BYTES],
+    marks: [u32; MOST_MARKS],
+    // How many bytes and how many marks are lent.
+    cell_bytes: usize,
+    mark_count: usize,
 }
 
 impl Script {
-    // So much fresh memory is lent. All else is zero.
-    pub fn new(alloc: Global, cells: usize, marks: usize) -> Result<Self, AllocError> {
-        Ok(Script {
+    // Nothing is lent. All is zero.
+    pub fn empty() -> Self {
+        Script {
             desk: Desk::default(),
             row: [Seat::default(); SEATS],
-            cells: vec![in alloc; FRESH_BYTE; cells]?,
-            marks: vec![in alloc; FRESH_MARK; marks]?,
             tally: [[0; STATUSES]; LETTERS],
-        })
+            cells: [0; MOST_BYTES],
+            marks: [0; MOST_MARKS],
+            cell_bytes: 0,
+            mark_count: 0,
+        }
+    }
+
+    // From here on so much fresh memory is lent. All else is zero.
+    pub fn lend(&mut self, cell_bytes: usize, mark_count: usize) {
+        self.desk = Desk::default();
+        self.row = [Seat::default(); SEATS];
+        self.tally = [[0; STATUSES]; LETTERS];
+        self.cell_bytes = cell_bytes;
+        self.mark_count = mark_count;
+        lent_mut(&mut self.cells, cell_bytes).fill(FRESH_BYTE);
+        lent_mut(&mut self.marks, mark_count).fill(FRESH_MARK);
+    }
+
+    // Whether all that is lent is there.
+    pub fn is_there(&self) -> bool {
+        self.cell_bytes <= MOST_BYTES && self.mark_count <= MOST_MARKS
+    }
+
+    pub fn cells(&self) -> &[u8] {
+        lent(&self.cells, self.cell_bytes)
+    }
+
+    pub fn marks(&self) -> &[u32] {
+        lent(&self.marks, self.mark_count)
     }
 
     pub fn open(&mut self, frame: &[u8]) -> Result<u32, OpenRefusal> {
         let done = open(
             self.desk,
             self.row,
-            &self.cells,
-            &self.marks,
+            self.cells(),
+            self.marks(),
             &self.tally,
             frame,
         );
@@ -51,8 +84,8 @@ impl Script {
         let done = reply(
             self.desk,
             self.row,
-            &mut self.cells,
-            &mut self.marks,
+            lent_mut(&mut self.cells, self.cell_bytes),
+            lent_mut(&mut self.marks, self.mark_count),
             &mut self.tally,
             frame,
         );
@@ -75,7 +108,7 @@ impl Script {
 
     pub fn set_mark(&mut self, s: &mut Words<'_>) {
         let at = s.small() as usize;
-        if let Some(mark) = self.marks.get_mut(at) {
+        if let Some(mark) = lent_mut(&mut self.marks, self.mark_count).get_mut(at) {
             *mark = s.small();
         }
     }
@@ -83,7 +116,8 @@ impl Script {
     pub fn set_cell(&mut self, s: &mut Words<'_>) {
         let at = s.small() as usize;
         let mut b = [0u8; 100];
-        put_all(&mut self.cells, at, s.bytes(&mut b));
+        let cells = lent_mut(&mut self.cells, self.cell_bytes);
+        put_all(cells, at, s.bytes(&mut b));
     }
 
     pub fn set_seat(&mut self, s: &mut Words<'_>) {
@@ -108,4 +142,14 @@ impl Script {
             }
         }
     }
+}
+
+// The first n items, or all if there are fewer.
+fn lent<T>(items: &[T], n: usize) -> &[T] {
+    &items[..least(n, items.len())]
+}
+
+fn lent_mut<T>(items: &mut [T], n: usize) -> &mut [T] {
+    let count = least(n, items.len());
+    &mut items[..count]
 }

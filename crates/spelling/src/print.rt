@@ -31,18 +31,16 @@ impl fmt::Display for Numbers<'_> {
     }
 }
 
-// The runs of neighbours that are equal: a space, how many there are, a star, and the answer.
-#[derive(Drop)]
-pub struct Runs<'a, T>(pub &'a [T]);
+// Equal answers, one after the other: a space, how many there are, a star, and the answer.
+#[derive(Clone, Copy)]
+pub struct Run<T> {
+    pub answer: T,
+    pub count: u32,
+}
 
-impl<T: PartialEq + fmt::Display> fmt::Display for Runs<'_, T> {
+impl<T: fmt::Display> fmt::Display for Run<T> {
     fn fmt<W: fmt::Write>(&self, f: &mut fmt::Formatter<W>) -> fmt::Result {
-        for run in self.0.chunk_by(|a, b| a == b) {
-            if let [answer, ..] = run {
-                write!(f, " {}*{answer}", run.len())?;
-            }
-        }
-        Ok(())
+        write!(f, " {}*{}", self.count, self.answer)
     }
 }
 

@@ -26,7 +26,7 @@ const SHOWING: [&str; 1] = ["Display"];
 
 /// What the contract lacks. For a function that is only for tests, the only fault is a `requires`. In an `impl` of one of the
 /// traits `own`, which the repository declares, a function has the contract of its declaration there. In an `impl` of any
-/// other trait a ghost member must say what it does.
+/// other trait a ghost member must say what it does, by an equation, so that no second outcome meets it.
 pub fn faults(function: &Function, for_tests: bool, own: &[String]) -> Vec<String> {
     let mut found = Vec::new();
     if clauses(function, "requires").next().is_some() {
@@ -37,10 +37,13 @@ pub fn faults(function: &Function, for_tests: bool, own: &[String]) -> Vec<Strin
     }
     let ensures = || clauses(function, "ensures");
     if let Some(Implements { name, says }) = &function.implements {
-        let said = *says || ensures().next().is_some() || SHOWING.contains(&name.as_str());
-        if !said && !own.contains(name) {
-            found.push(format!("is of the trait {name}, and no ghost member of the `impl` says what it does"));
+        let fixed = says.iter().any(|text| gives_one(text)) || ensures().any(|text| is_equation(function, text));
+        if fixed || SHOWING.contains(&name.as_str()) || own.contains(name) {
+            return found;
         }
+        let nothing = says.is_empty() && ensures().next().is_none();
+        let lacks = if nothing { "says what it does" } else { "is an equation of what it gives" };
+        found.push(format!("is of the trait {name}, and no ghost member of the `impl` {lacks}"));
         return found;
     }
     if ensures().next().is_none() {
@@ -101,6 +104,16 @@ fn is_equation(function: &Function, text: &[String]) -> bool {
     let by_itself = !names(right, RESULT) && !function.lent.iter().any(at_the_end);
     let one = !outside(right).any(|name| BETWEEN_CLAIMS.contains(&name));
     mark == "≡" && !right.is_empty() && by_itself && one
+}
+
+/// Is it `λ a .. r. r ≡ ..`, where the right side does not name r? Then it leaves one value for r.
+fn gives_one(text: &[String]) -> bool {
+    let Some(dot) = text.iter().position(|name| name == ".") else { return false };
+    let (binds, said) = (&text[..dot], &text[dot + 1..]);
+    let (Some(first), Some(result), [left, mark, right @ ..]) = (binds.first(), binds.last(), said) else { return false };
+    let one = !outside(right).any(|name| BETWEEN_CLAIMS.contains(&name));
+    let bound = first == "λ" && binds.len() > 1;
+    bound && left == result && mark == "≡" && !right.is_empty() && !names(right, result) && one
 }
 
 /// The name P of a text `P a (b c) ..` or `M.P a ..`. A module's name begins with a capital; after another name the dot is that

@@ -10,14 +10,13 @@
 //! function, and a file of the crate's proofs must prove the record (a line `pub NAME : OneOutcome`).
 //!
 //! The functions of a public trait are public. An `impl` of a trait of this repository has their contracts; in one of any other
-//! trait, as `From`, a ghost member must say what the functions do.
+//! trait, as `From`, a ghost member must say what the functions do, by an equation `λ a r. r ≡ ..`.
 //!
 //! Each fault is printed as a line, and the last line has the counts. `--list` prints each public function first. Exit
 //! status: 0 if there are public functions and no fault, 1 otherwise, and 2 if it could not be run.
 //!
-//! `--tests NAME,..` names libraries that are only for tests, and `--edge NAME,..` those at the edge of programs. No contract can
-//! say what they print or read, so their functions need no `ensures`. No other library may depend on them. ROOT/crates.txt says
-//! which crate depends on which.
+//! `--tests NAME,..` names libraries that are only for tests. No contract can say what they print or read, so their
+//! functions need no `ensures`. No other library may depend on them. ROOT/crates.txt says which crate depends on which.
 
 mod contract;
 mod lex;
@@ -35,7 +34,7 @@ use unique::Unique;
 fn main() -> ExitCode {
     let words = std::env::args_os().skip(1).map(|word| word.to_string_lossy().into_owned());
     let Some(Asked { root, list, tests }) = asked(words) else {
-        return refuse("usage: lint ROOT [--list] [--tests NAME,..] [--edge NAME,..]");
+        return refuse("usage: lint ROOT [--list] [--tests NAME,..]");
     };
     let listed = listed::faults(&root, &tests);
     match listed.and_then(|listed| Ok((read(&root, &tests)?, listed))) {
@@ -48,7 +47,7 @@ fn main() -> ExitCode {
 struct Asked {
     root: PathBuf,
     list: bool,
-    /// The libraries that are only for tests, or at the edge of programs.
+    /// The libraries that are only for tests.
     tests: Vec<String>,
 }
 
@@ -58,7 +57,7 @@ fn asked(mut words: impl Iterator<Item = String>) -> Option<Asked> {
     while let Some(word) = words.next() {
         match word.as_str() {
             "--list" => list = true,
-            "--tests" | "--edge" => tests.extend(words.next()?.split(',').map(String::from)),
+            "--tests" => tests.extend(words.next()?.split(',').map(String::from)),
             flag if flag.starts_with('-') => return None,
             _ => roots.push(word),
         }

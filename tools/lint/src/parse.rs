@@ -66,8 +66,8 @@ pub struct Function {
 pub struct Implements {
     /// The trait's name, without its path.
     pub name: String,
-    /// Does the block define a ghost member? If the trait is one of std's, such members say what its functions do.
-    pub says: bool,
+    /// The texts of the block's ghost members. If the trait is one of std's, they say what its functions do.
+    pub says: Vec<Vec<String>>,
 }
 
 impl Crate {
@@ -84,7 +84,7 @@ impl Crate {
         let module = self.modules.len();
         self.modules.push(Module { file: file.to_path_buf(), parent });
         let around = Around::default();
-        let mut parser = Parser { found: self, root, file, folder, tokens, at: 0, module, around, ghosts: 0 };
+        let mut parser = Parser { found: self, root, file, folder, tokens, at: 0, module, around, ghosts: Vec::new() };
         while parser.at < parser.tokens.len() {
             parser.item()?;
         }
@@ -106,8 +106,8 @@ struct Parser<'a> {
     /// The module that is being read.
     module: usize,
     around: Around,
-    /// How many ghost members were read.
-    ghosts: usize,
+    /// The texts of the ghost members that were read.
+    ghosts: Vec<Vec<String>>,
 }
 
 /// What an item is in, beside its module.
@@ -225,7 +225,11 @@ impl Parser<'_> {
                 "extern" if self.peek() == "{" => return self.block(self.module, Around::default()),
                 "const" | "extern" => {}
                 "ghost" if self.tokens[self.at - 1].clause.is_some() => {
-                    self.ghosts += usize::from(self.take(";")); // after a `ghost use` the `;` is part of the clause
+                    let text = self.tokens[self.at - 1].clause.clone();
+                    // after a `ghost use` the `;` is part of the clause
+                    if self.take(";") {
+                        self.ghosts.extend(text);
+                    }
                     return Ok(());
                 }
                 other => return self.error(&format!("the lint cannot read an item that begins with `{other}`")),
@@ -312,14 +316,14 @@ impl Parser<'_> {
             return self.block(self.module, Around { owner, ..Around::default() });
         };
         let name = paths(&head[..at]).first().and_then(|path| path.last()).cloned().unwrap_or_default();
-        let implements = Some(Implements { name, says: false });
-        let (first, ghosts) = (self.found.items.len(), self.ghosts);
+        let implements = Some(Implements { name, says: Vec::new() });
+        let (first, ghosts) = (self.found.items.len(), self.ghosts.len());
         self.block(self.module, Around { owner, implements, public: true })?;
         // Its ghost members may stand after its functions.
-        let says = self.ghosts > ghosts;
+        let says = &self.ghosts[ghosts..];
         for item in &mut self.found.items[first..] {
             if let Kind::Function(Function { implements: Some(implements), .. }) = &mut item.kind {
-                implements.says = says;
+                implements.says = says.to_vec();
             }
         }
         Ok(())

@@ -866,8 +866,37 @@ fn an_impl_of_a_trait_of_std_says_what_its_functions_do() {
         &["1: S::f: has a `requires`", &faults("From")],
     );
     // one member for one impl
-    let two = "pub struct S; impl A for S { ghost p = { 1 }; fn g(self) {} } impl B for S { fn f(self) {} }";
+    let two = "pub struct S; impl A for S { ghost p = { λ r. r ≡ 1 }; fn g(self) {} } impl B for S { fn f(self) {} }";
     finds(two, 2, 1, &[&faults("B")]);
+}
+
+#[test]
+fn what_an_impl_of_a_trait_of_std_says_is_an_equation() {
+    let fault = "1: S::f: is of the trait From, and no ghost member of the `impl` is an equation of what it gives";
+    let says = |text: &str| {
+        format!("pub struct S; impl From<u8> for S {{ ghost f_gives = {{ {text} }}; fn f(a: u8) -> S {{ S }} }}")
+    };
+    for text in ["λ a r. r ≡ g a", "λ a r. r ≡ (g a ≡ b)", "λ r. r ≡ g"] {
+        finds(&says(text), 1, 0, &[]);
+    }
+    for text in [
+        "λ a r. Unit {0}",
+        "λ a r. r.number ≡ r.number",
+        "λ a r. r ≡ r",
+        "λ a r. r ≡ g r.number",
+        "λ a r. a ≡ g a",
+        "λ a r. h r ≡ g a",
+        "λ a r. r ≡ g a → r ≡ b",
+        "λ a r. P a r",
+        "λ a r. r ≢ g a",
+        "λ a r. r ≡",
+        "f_gives_of",
+        "1",
+    ] {
+        finds(&says(text), 1, 1, &[fault]);
+    }
+    let weak = "pub struct S; impl From<u8> for S { fn f(a: u8) -> S ensures { P result } { S } }";
+    finds(weak, 1, 1, &[fault]);
 }
 
 #[test]
@@ -881,7 +910,7 @@ fn an_impl_of_a_trait_of_the_repository_has_its_contracts() {
 
 #[test]
 fn bad_usage_is_refused() {
-    let usage = (2, String::new(), "lint: usage: lint ROOT [--list] [--tests NAME,..] [--edge NAME,..]\n".to_string());
+    let usage = (2, String::new(), "lint: usage: lint ROOT [--list] [--tests NAME,..]\n".to_string());
     let repo = Repo::new(&[("crates/a/src/lib.rt", "pub fn f() ensures { result ≡ 1 } {}")]);
     assert_eq!(run(&mut Command::new(env!("CARGO_BIN_EXE_lint"))), usage);
     assert_eq!(repo.lint(&["--lst"]), usage);

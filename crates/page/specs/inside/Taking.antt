@@ -1,5 +1,5 @@
 -- What the code does with one line of a page, beside the machine.
-use Rattle.std.specs.Prelude.{◌≡◌, ℕ, ◌+◌, ◌-◌, ◌<◌, Bool, true, cond, not, ◌&&◌, ◌||◌, nat_le, slice_index}
+use Rattle.std.specs.Prelude.{◌≡◌, ℕ, ◌+◌, ◌-◌, ◌<◌, Bool, true, false, cond, not, ◌&&◌, ◌||◌, nat_le, slice_index}
 use Rattle.digits.specs.Digits.{number_at}
 use Rattle.frames.specs.declared.reply.ReplyLabel.{ReplyLabel}
 use Rattle.text.specs.Address.{shown_address}
@@ -29,9 +29,10 @@ state_of s sum = record { row = s.row; bits = s.bits; count = s.count; said = s.
 abbrev pub turned : ℕ → Line → Bool → Sofar → Step Reached
 turned sum line taken s = cond taken (next (body (state_of s (sum + sum_of line)))) refused
 
--- what is promised of taking a line that is neither the first nor the last: for every sum, it is the machine's step
+-- what is promised of taking a line that is neither the first nor the last: for every sum, it is the machine's step; and a line that is not taken changes nothing
 pub record Taken (s : Sofar) (line : Line) (taken : Bool) (s' : Sofar) : Type 0 where
   pub steps : (sum : ℕ) → turned sum line taken s' ≡ (machine one).step (body (state_of s sum)) line
+  pub stays : taken ≡ false → state_of s' 0 ≡ state_of s 0
 
 -- ---- the turns that the code makes
 

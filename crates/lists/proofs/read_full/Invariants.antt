@@ -1,6 +1,6 @@
--- `edge::read_full` meets its contract: no more bytes are read than buf has.
+-- `lists::read_full` meets its contract: no more bytes are read than buf has.
 use Rattle.std.proofs.Common.{length, ◌-◌, ◌≡◌, ◌≤◌}
-use Rattle.edge.proofs.read_full.Given as goal
+use Rattle.lists.proofs.read_full.Given as goal
 
 abbrev pub invariant-loop-done : goal.invariant-loop-done
 invariant-loop-done g l = (length l.buf ≡ length l.initial.buf) × (l.done ≤ length l.buf)
