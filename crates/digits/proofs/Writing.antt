@@ -1,12 +1,12 @@
 -- Runs of stores, and a number stored from its last digit on. Assumes nothing.
 use Prim.Native.Nat.{ℕ, zero, suc, ◌+◌, ◌-◌, ◌/◌, ◌%◌, ◌≤◌, ◌<◌, min}
-use mathlib.Core.List.{List, [], ◌∷◌, ◌++◌, append_assoc}
+use mathlib.Core.List.{List, [], ◌∷◌, ◌++◌}
 use mathlib.Core.Path.{◌≡◌, refl, sym, ap, ◌∙◌}
 use native.Mathlib.Omega.{arith}
 use native.Mathlib.Nat.{add-zero, add-suc, suc-add}
 use native.Mathlib.Numerals.{add-one, sub-one}
 use lib.ListN.{length, get_or, take, drop, set, length-append, take-append-drop}
-use lib.Seq.{sets, sets-eq, set_comm, set_out, take_all, length-take-le, length-sets, drop-drop, take-suc}
+use lib.Seq.{sets, set_comm, set_out, take_all, length-take-le, length-sets, take-suc}
 use Rattle.digits.specs.Digits.{digits, number_text}
 use Rattle.digits.proofs.Tests.{by_less}
 use Rattle.digits.proofs.Reading.{inside}
@@ -46,13 +46,6 @@ run_whole l at vs n e h =
     ∙ sets_append l at (take n vs) (drop n vs)
     ∙ sets_beyond (sets l at (take n vs)) (at + length (take n vs)) (drop n vs) (omega (arith, e, k, h, t, z))))
     (λ k. ap (sets l at) (take_all n vs k))
-
--- a part of l replaced by as many items as fit in it
-pub part_run : {A : Type 0} (l : List A) (at : ℕ) (vs : List A) (n : ℕ) → n ≡ min (length l - at) (length vs) → at < length l → take at l ++ (take n vs ++ drop n (drop at l)) ≡ sets l at vs
-part_run l at vs n e h =
-    let t : length (take n vs) ≡ n = length-take-le n vs (omega arith) in
-    let i : at + length (take n vs) ≤ length l = omega (arith, t) in
-    rw drop-drop (sym (append_assoc (take at l) (take n vs) (drop (at + n) l))) ∙ sym (rw t at (sets-eq (take n vs) l at i)) ∙ run_whole l at vs n e h
 
 -- a store past a run may be made before it
 set_sets : (l : List ℕ) (i : ℕ) (vs : List ℕ) (j d : ℕ) → i + length vs ≤ j → sets (set l j d) i vs ≡ set (sets l i vs) j d
