@@ -44,6 +44,21 @@ impl<T: fmt::Display> fmt::Display for Run<T> {
     }
 }
 
+// All runs of neighbours that are equal, each spelled as a `Run`.
+#[derive(Drop)]
+pub struct Runs<'a, T>(pub &'a [T]);
+
+impl<T: PartialEq + fmt::Display> fmt::Display for Runs<'_, T> {
+    fn fmt<W: fmt::Write>(&self, f: &mut fmt::Formatter<W>) -> fmt::Result {
+        for run in self.0.chunk_by(|a, b| a == b) {
+            if let [answer, ..] = run {
+                write!(f, " {}*{answer}", run.len())?;
+            }
+        }
+        Ok(())
+    }
+}
+
 // The three numbers of a refusal; the default is none.
 #[derive(Clone, Copy)]
 pub struct Told(pub Refusal);
@@ -68,5 +83,19 @@ impl<const N: usize> fmt::Display for Dotted<N> {
             write!(f, "{n}")?;
         }
         Ok(())
+    }
+}
+
+#[cfg(test)]
+mod tests {
+    use super::*;
+    use std::io::Write;
+
+    #[test]
+    fn spells_each_run(rt: HostRuntime) {
+        let mut text = [0u8; 16];
+        let mut left = &mut text[..];
+        let _ = write!(left, "{}", Runs(&[7, 7, 7, 0, 7]));
+        assert!(rt; text.starts_with(b" 3*7 1*0 1*7\0"));
     }
 }

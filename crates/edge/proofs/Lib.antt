@@ -1,0 +1,3 @@
+pub mod FillingLaws
+pub mod Known
+pub mod Unique
