@@ -1,11 +1,11 @@
 -- Filling from known bytes: each read takes the first of those that are left.
-use Rattle.std.specs.Prelude.{ℕ, ◌+◌, ◌≤◌, ◌≡◌, ◌⊎◌, List, [], ◌++◌, length, take, Option, Some, None, Result, Ok, Err}
+use Rattle.std.specs.Prelude.{min, ℕ, ◌+◌, ◌≤◌, ◌≡◌, ◌⊎◌, List, [], ◌++◌, length, take, Option, Some, None, Result, Ok, Err}
 use Rattle.std.specs.Io.KnownBytes.{Consumes, Keeps, IsAtEnd}
-use Rattle.std.proofs.Common.{refl, sym, ap, ◌∙◌, inl, inr}
+use Rattle.std.proofs.Common.{refl, sym, ap, ◌∙◌, inl, inr, drop}
 use native.Mathlib.Numerals.{unary_clauses}
 use native.Mathlib.Omega.{arith}
 use Rattle.std.proofs.lemmas.List.{append-nil, append_assoc, length-append, length-drop, length-take-le}
-use Rattle.std.proofs.Math.Seq.{take-append-add}
+use Rattle.std.proofs.Math.Seq.{take-append-add, take-append_seam, drop-append_seam}
 use Rattle.edge.specs.Filling.{Filled, Promised, full, ended, failed, more, laid}
 use Rattle.edge.specs.Known.{Given, FillsKnown}
 use Rattle.edge.proofs.FillingLaws.{length_laid}
@@ -51,6 +51,7 @@ module _ {S E : Type 0} (remaining : S → Option (List ℕ)) where
     first : take m out' ≡ take n out ++ given
     rest : remaining s' ≡ Some left
     size : length out' ≡ length out
+    fits : m ≤ length out
     over : r ≡ Ok tt → (left ≡ []) ⊎ (m ≡ length out)
 
   went : {s s' : S} {out out' : List ℕ} {n m : ℕ} {r : Result (Unit {0}) E} → Filled (Promised remaining) s out n (m, r) s' out' → (ys : List ℕ) → remaining s ≡ Some ys → n ≤ length out
@@ -64,6 +65,7 @@ module _ {S E : Type 0} (remaining : S → Option (List ℕ)) where
     first = sym (append-nil (take n out));
     rest = e;
     size = refl;
+    fits = b;
     over = λ _. inr (omega (arith, h, b));
   }
   went {s = s} {s' = s'} {out = out} {n = n} (ended {room = room} h (l, k, c)) ys e b =
@@ -76,6 +78,7 @@ module _ {S E : Type 0} (remaining : S → Option (List ℕ)) where
         first = front out room n b;
         rest = t.1;
         size = length_laid out n room b l;
+        fits = b;
         over = λ _. inl (no_more (remaining s') t.0 t.1 (c.1 refl (omega (arith, h, l, length-drop n out))));
       }
   went {s = s} {s' = s'} {out = out} {n = n} (failed {room = room} {e = f} h (l, k, c)) ys e b =
@@ -87,6 +90,7 @@ module _ {S E : Type 0} (remaining : S → Option (List ℕ)) where
         first = front out room n b;
         rest = kept ys (remaining s') (rw e at c);
         size = length_laid out n room b l;
+        fits = b;
         over = λ z. absurd (omega (arith, ap broke z));
       }
   went {s = s} {out = out} {n = n} (more {s' = s₁} {room = room} {k = k} h (l, q, c) z f) ys e b =
@@ -101,17 +105,33 @@ module _ {S E : Type 0} (remaining : S → Option (List ℕ)) where
         first = w.first ∙ ap (λ x. x ++ w.given) (take_laid out room n k b) ∙ append_assoc (take n out) (take k room) w.given;
         rest = w.rest;
         size = w.size ∙ i;
+        fits = omega (arith, i, w.fits);
         over = λ u. or_full i (w.over u);
       }
 
 -- from place 0
-from_0 : {S E : Type 0} (remaining : S → Option (List ℕ)) {known out out' : List ℕ} {n : ℕ} {r : Result (Unit {0}) E} {s' : S}
-    → Went remaining known out 0 n r s' out' → Given remaining known out n s' out'
-from_0 remaining w = record { given = w.given; left = w.left; parts = w.parts; count = omega (arith, w.count); first = w.first; rest = w.rest; size = w.size }
+module _ {S E : Type 0} (remaining : S → Option (List ℕ)) {known out out' : List ℕ} {n : ℕ} {r : Result (Unit {0}) E} {s' : S} (w : Went remaining known out 0 n r s' out') where
+  given_count : n ≡ length w.given
+  given_count = omega (arith, w.count)
+
+  known_first : take n known ≡ w.given
+  known_first = rw (given_count, w.parts) (take-append_seam w.given w.left)
+
+  known_rest : drop n known ≡ w.left
+  known_rest = rw (given_count, w.parts) (drop-append_seam w.given w.left)
+
+  known_size : length known ≡ n + length w.left
+  known_size = omega (arith, given_count, ap length w.parts, length-append w.given w.left)
+
+  from_0 : Given remaining known out n s' out'
+  from_0 = record { there = omega (arith, known_size); fits = w.fits; first = w.first ∙ sym known_first; rest = w.rest ∙ ap Some (sym known_rest); size = w.size }
+
+  all_came : (w.left ≡ []) ⊎ (n ≡ length out) → n ≡ min (length known) (length out)
+  all_came (inl e) = omega (arith, known_size, ap length e, w.fits)
+  all_came (inr e) = omega (arith, known_size, e)
 
 pub fills_known : FillsKnown
-unfolding from_0
 fills_known = record {
-  whole = λ remaining s s' known out out' n e f. let w = went remaining f known e (omega arith) in (from_0 remaining w, w.over refl);
+  whole = λ remaining s s' known out out' n e f. let w = went remaining f known e (omega arith) in (from_0 remaining w, all_came remaining w (w.over refl));
   broken = λ remaining s s' known out out' n x e f. from_0 remaining (went remaining f known e (omega arith));
 }

@@ -2,7 +2,6 @@
 use Rattle.std.specs.Prelude.{ℕ, ◌+◌, ◌<◌, ◌≤◌, ◌≡◌, List, ◌++◌, length, take, drop, Option, Result, Ok, Err}
 use Rattle.std.specs.Io.{ReadsAtMost}
 use Rattle.std.specs.Io.KnownBytes.{ReadConsumes}
-use Rattle.digits.specs.Once.{Once}
 
 -- what can come of one read: the reader and the room that is lent to it, its answer, and the reader and the room after it
 abbrev pub Reading : Type 0 → Type 0 → Type 1
@@ -13,7 +12,7 @@ abbrev pub laid : List ℕ → ℕ → List ℕ → List ℕ
 laid out n room = take n out ++ room
 
 module _ {S E : Type 0} where
-  -- what can come of any reader's read, by the bytes that it is known to give from there on
+  -- what can come of any reader's read, by the bytes that it is known to give from there on. Of a reader whose bytes are not known it says little.
   abbrev pub Promised : (S → Option (List ℕ)) → Reading S E
   Promised remaining s room answer s' room' =
       (length room' ≡ length room) × ReadsAtMost answer room' × ReadConsumes (remaining s) (remaining s') answer room'
@@ -26,7 +25,3 @@ module _ {S E : Type 0} where
     failed : {s s' : S} {out room : List ℕ} {n : ℕ} {e : E} → n < length out → One s (drop n out) (Err e) s' room → Filled One s out n (n, Err e) s' (laid out n room)
     more : {s s' s'' : S} {out room out' : List ℕ} {n k : ℕ} {answer : ℕ × Result (Unit {0}) E} → n < length out → One s (drop n out) (Ok k) s' room → 0 < k
         → Filled One s' (laid out n room) (n + k) answer s'' out' → Filled One s out n answer s'' out'
-
-  -- what one read makes of a reader and a room is settled
-  abbrev pub Settled : Reading S E → Type 0
-  Settled One = (s : S) (room : List ℕ) → Once (λ (o : Result ℕ E × S × List ℕ). One s room o.0 o.1 o.2)

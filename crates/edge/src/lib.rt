@@ -7,6 +7,7 @@ ghost use Rattle.edge.specs.Filling.{Filled, Promised};
 use std::io::{Error, Read, Result, Write};
 
 // Reads until the input ends, buf is full or a read fails, and returns how many bytes came, and whether a read failed.
+// Which error a reader gives, std leaves open, and so does the promise.
 pub fn read_full<R: Read>(input: &mut R, buf: &mut [u8]) -> (usize, Result<()>)
     ensures bound { result.0 ≤ length buf.new }
     ensures filled { Filled (Promised R.remaining) input.old buf.old 0 result input.new buf.new }
@@ -23,7 +24,8 @@ pub fn read_full<R: Read>(input: &mut R, buf: &mut [u8]) -> (usize, Result<()>)
     (done, Ok(()))
 }
 
-// One line on standard error: what failed, and the system's reason without its number. No contract can say what is printed.
+// One line on standard error: what failed, and the system's reason without its number. No contract can say what is printed: the clause is there
+// because every public function has one.
 pub fn complain(rt: &impl Eprint, what: &str, error: Error)
     ensures { result ≡ tt }
 {
@@ -50,76 +52,108 @@ mod tests {
     use std::fmt::Display;
     use std::io::ErrorKind;
 
-    // Gives what is left of `bytes`, at most `most` of them in one read. Then it fails, or its input ends.
+    // Gives at most `most` bytes in one read. It fails once, when `fails_at` are left, and then goes on.
     #[derive(Drop)]
-    struct Dripping<'a> {
-        bytes: &'a [u8],
+    struct Dripping {
+        left: usize,
         most: usize,
-        fails: bool,
+        fails_at: usize,
+        // how long the rest of the buffer is, and whether a read was lent anything else
+        room: usize,
+        misled: bool,
     }
 
-    impl Read for Dripping<'_> {
+    impl Read for Dripping {
         fn read(&mut self, buf: &mut [u8]) -> Result<usize> {
-            if self.bytes.is_empty() && self.fails {
+            self.misled = self.misled || buf.len() != self.room;
+            if self.left == self.fails_at {
+                self.fails_at = usize::MAX;
                 return Err(Error::from(ErrorKind::NotFound));
             }
-            let n = buf.len().min(self.bytes.len()).min(self.most);
-            buf[..n].copy_from_slice(&self.bytes[..n]);
-            self.bytes = &self.bytes[n..];
+            let before = self.left.saturating_sub(self.fails_at);
+            let until = if before > 0 { before } else { self.left };
+            let n = buf.len().min(until).min(self.most);
+            for (i, b) in buf[..n].iter_mut().enumerate() {
+                *b = LETTERS[(5 - self.left.min(5) + i) % 5];
+            }
+            self.left = self.left.saturating_sub(n);
+            self.room = self.room.saturating_sub(n);
             Ok(n)
         }
     }
+
+    const LETTERS: [u8; 5] = *b"12345";
 
     #[test]
     fn reads_until_the_end_a_failure_or_a_full_buffer(rt: HostRuntime) {
         for most in 1..7 {
             for room in 0..8 {
-                for fails in [false, true] {
+                // Of five bytes, `fails_at` are left when the read fails; with six, none does.
+                for fails_at in 0..7 {
                     let mut input = Dripping {
-                        bytes: b"12345",
+                        left: 5,
                         most,
-                        fails,
+                        fails_at,
+                        room,
+                        misled: false,
                     };
                     let mut buf = [b'.'; 8];
                     let (n, read) = read_full(&mut input, &mut buf[..room]);
-                    assert_eq!(rt; n, room.min(5), "{most} {room}");
-                    assert_eq!(rt; read.is_err(), fails && room > 5, "{most} {room}");
-                    assert_eq!(rt; &buf[..n], &b"12345"[..n], "{most} {room}");
-                    assert_eq!(rt; &buf[n..], &[b'.'; 8][n..], "{most} {room}");
+                    let there = if fails_at < 6 { 5 - fails_at } else { 5 };
+                    let why = if fails_at < 6 && room > there {
+                        Err(ErrorKind::NotFound)
+                    } else {
+                        Ok(())
+                    };
+                    assert_eq!(rt; n, room.min(there), "{most} {room} {fails_at}");
+                    assert_eq!(rt; read.map_err(|e| e.kind()), why, "{most} {room} {fails_at}");
+                    assert_eq!(rt; input.misled, false, "{most} {room} {fails_at}");
+                    assert_eq!(rt; &buf[..n], &LETTERS[..n], "{most} {room} {fails_at}");
+                    assert_eq!(rt; &buf[n..], &[b'.'; 8][n..], "{most} {room} {fails_at}");
                 }
             }
         }
     }
 
-    // Keeps the last line.
+    // Keeps all that is printed.
     #[derive(Drop)]
-    struct Heard(Cell<[u8; 64]>);
+    struct Heard {
+        text: Cell<[u8; 64]>,
+        size: Cell<usize>,
+    }
 
     impl Eprint for Heard {
         fn eprint<D: Display + Drop>(&self, value: D) -> Result<()> {
-            let mut line = [0u8; 64];
-            let mut left = &mut line[..];
+            let mut text = self.text.get();
+            let at = self.size.get().min(64);
+            let mut left = &mut text[at..];
             write!(left, "{value}")?;
-            self.0.set(line);
+            let size = 64 - left.len().min(64);
+            self.text.set(text);
+            self.size.set(size);
             Ok(())
         }
 
         fn eprintln<D: Display + Drop>(&self, value: D) -> Result<()> {
-            self.eprint(value)
+            self.eprint(value)?;
+            self.eprint("\n")
         }
     }
 
     fn complaint(error: Error) -> [u8; 64] {
-        let page = Heard(Cell::new([0; 64]));
-        complain(&page, "standard input", error);
-        page.0.get()
+        let heard = Heard {
+            text: Cell::new([0; 64]),
+            size: Cell::new(0),
+        };
+        complain(&heard, "standard input", error);
+        heard.text.get()
     }
 
     #[test]
-    fn complains_with_the_reason_alone(rt: HostRuntime) {
+    fn complains_in_one_line_with_the_reason_alone(rt: HostRuntime) {
         let text = complaint(Error::from(ErrorKind::NotFound));
-        assert!(rt; text.starts_with(b"standard input: entity not found\0"));
+        assert!(rt; text.starts_with(b"standard input: entity not found\n\0"));
         let text = complaint(Error::from_raw_os_error(2));
-        assert!(rt; text.starts_with(b"standard input: No such file or directory\0"));
+        assert!(rt; text.starts_with(b"standard input: No such file or directory\n\0"));
     }
 }
