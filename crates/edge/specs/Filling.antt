@@ -12,13 +12,14 @@ abbrev pub laid : List ℕ → ℕ → List ℕ → List ℕ
 laid out n room = take n out ++ room
 
 module _ {S E : Type 0} where
-  -- what can come of any reader's read, by the bytes that it is known to give from there on. Of a reader whose bytes are not known it says little.
+  -- what std promises of every reader's read, by the bytes that the reader is known to give from there on. Of a reader whose bytes are not known it
+  -- promises only how many bytes at most.
   abbrev pub Promised : (S → Option (List ℕ)) → Reading S E
   Promised remaining s room answer s' room' =
       (length room' ≡ length room) × ReadsAtMost answer room' × ReadConsumes (remaining s) (remaining s') answer room'
 
-  -- what comes of filling out from place n on, read after read: the place after the last byte, and whether a read failed; then the reader and out.
-  -- Each read is lent all of out that is left. The last one fills it, gives nothing or fails.
+  -- what can come of filling out from place n on, read after read: the place after the last byte, and whether a read failed; then the reader and out.
+  -- Each read is lent all of out that is left; if nothing is left there is none. The last one fills out, gives nothing or fails.
   pub data Filled (One : Reading S E) : S → List ℕ → ℕ → ℕ × Result (Unit {0}) E → S → List ℕ → Type 0 where
     full : {s : S} {out : List ℕ} {n : ℕ} → length out ≤ n → Filled One s out n (n, Ok tt) s out
     ended : {s s' : S} {out room : List ℕ} {n : ℕ} → n < length out → One s (drop n out) (Ok 0) s' room → Filled One s out n (n, Ok tt) s' (laid out n room)

@@ -1,2 +1,2 @@
--- What the private steps of the code compute. No promise of a call needs it.
+-- What a private loop keeps. No promise of a call needs it.
 pub mod Going
